@@ -9,16 +9,16 @@ use Rattle.cam_macros.specs.declared.primitive.MacroPrimitive.{MacroPrimitive}
 use Rattle.cam_macros.specs.declared.primitive.PrimShape.{PrimShape}
 use Rattle.cam_macros.specs.declared.primitive.PrimShape.TheVariants.{Disc, Bar, Rect as Rectangular, Outline}
 use Rattle.cam_apertures.specs.declared.aperture.Aperture.TheVariants.{Circle, Rect, Obround, Prims}
-use Rattle.cam_apertures.specs.Cover.{disc, obround, origin, rectangle, IsInShape, IsPainted}
+use Rattle.cam_apertures.specs.Cover.{disc, obround, flash_point, rectangle, IsInShape, IsExposed}
 use Rattle.cam_apertures.specs.Laws.{BoxLaw, HoleLaw}
-use Rattle.cam_apertures.specs.Tests.{is_covered, is_in_shape, painted, TestLaw}
+use Rattle.cam_apertures.specs.Tests.{is_covered, is_in_shape, ink_exposed, TestLaw}
 use Rattle.cam_apertures.specs.Turned.{turned_height, turned_prim, turned_width}
 use Rattle.cam_apertures.proofs.ShapeBoxes.{disc_box, obround_box, painted_box, rectangle_box}
 
 pub box_law : BoxLaw
-box_law (Circle diameter hole) t s h = disc_box origin s diameter h.0
-box_law (Rect width height hole) t s h = rectangle_box origin s (turned_width t width height) (turned_height t width height) h.0
-box_law (Obround width height hole) t s h = obround_box origin s (turned_width t width height) (turned_height t width height) h.0
+box_law (Circle diameter hole) t s h = disc_box flash_point s diameter h.0
+box_law (Rect width height hole) t s h = rectangle_box flash_point s (turned_width t width height) (turned_height t width height) h.0
+box_law (Obround width height hole) t s h = obround_box flash_point s (turned_width t width height) (turned_height t width height) h.0
 box_law (Prims prims) t s h = painted_box (map (turned_prim t) prims) s h
 
 pub hole_law : HoleLaw
@@ -39,27 +39,27 @@ abbrev AreFree : List MacroPrimitive → Spot → Type 0
 AreFree ps s = All (λ later. ¬ IsInShape later.shape s) ps
 
 -- ink that no primitive holds stays
-painted_free : (ink : Bool) (ps : List MacroPrimitive) (s : Spot) → AreFree ps s → painted ink ps s ≡ ink
+painted_free : (ink : Bool) (ps : List MacroPrimitive) (s : Spot) → AreFree ps s → ink_exposed ink ps s ≡ ink
 painted_free ink [] s h = refl
 painted_free ink (p ∷ ps) s h =
     let here : is_in_shape p.shape s ≡ false = false_from_ne_true (is_in_shape p.shape s) (λ t. h 0 p (omega arith) ((in_shape p.shape s).0 t)) in
     painted_free (cond (is_in_shape p.shape s) p.paint ink) ps s (λ k d below. h (suc k) d (omega arith))
     ∙ ap (λ b. cond b p.paint ink) here
 
-painted-append : (ink : Bool) (ps qs : List MacroPrimitive) (s : Spot) → painted ink (ps ++ qs) s ≡ painted (painted ink ps s) qs s
+painted-append : (ink : Bool) (ps qs : List MacroPrimitive) (s : Spot) → ink_exposed ink (ps ++ qs) s ≡ ink_exposed (ink_exposed ink ps s) qs s
 painted-append ink [] qs s = refl
 painted-append ink (p ∷ ps) qs s = painted-append (cond (is_in_shape p.shape s) p.paint ink) ps qs s
 
-from_painted : (ink : Bool) (ps : List MacroPrimitive) (s : Spot) → IsPainted ps s → painted ink ps s ≡ true
+from_painted : (ink : Bool) (ps : List MacroPrimitive) (s : Spot) → IsExposed ps s → ink_exposed ink ps s ≡ true
 from_painted ink ps s h =
-    ap (λ all. painted ink all s) h.split
+    ap (λ all. ink_exposed ink all s) h.split
     ∙ painted-append ink h.before (h.prim ∷ h.after) s
-    ∙ ap (λ b. painted (cond b h.prim.paint (painted ink h.before s)) h.after s) ((in_shape h.prim.shape s).1 h.held)
+    ∙ ap (λ b. ink_exposed (cond b h.prim.paint (ink_exposed ink h.before s)) h.after s) ((in_shape h.prim.shape s).1 h.held)
     ∙ painted_free h.prim.paint h.after s h.last
     ∙ h.exposed
 
 -- what painted a place: a primitive, or nothing since the start
-to_painted : (ink : Bool) (ps : List MacroPrimitive) (s : Spot) → painted ink ps s ≡ true → IsPainted ps s ⊎ ((ink ≡ true) × AreFree ps s)
+to_painted : (ink : Bool) (ps : List MacroPrimitive) (s : Spot) → ink_exposed ink ps s ≡ true → IsExposed ps s ⊎ ((ink ≡ true) × AreFree ps s)
 to_painted ink [] s h = inr (h, (λ k d below. absurd (omega arith)))
 to_painted ink (p ∷ ps) s h =
     elim (to_painted (cond (is_in_shape p.shape s) p.paint ink) ps s h) [
@@ -90,7 +90,7 @@ to_painted ink (p ∷ ps) s h =
     one_more f u zero d below = λ inside. true≢false (sym ((in_shape p.shape s).1 inside) ∙ f)
     one_more f u (suc k) d below = u k d (omega arith)
 
-pub painted_law : (ps : List MacroPrimitive) (s : Spot) → IsTrue (painted false ps s) ↔ IsPainted ps s
+pub painted_law : (ps : List MacroPrimitive) (s : Spot) → IsTrue (ink_exposed false ps s) ↔ IsExposed ps s
 painted_law ps s = (
   (λ h. elim (to_painted false ps s h) [
     | inl found ↦ found

@@ -22,9 +22,9 @@ use Rattle.cam_macros.specs.declared.primitive.PrimShape.{PrimShape}
 use Rattle.cam_macros.specs.declared.primitive.PrimShape.TheVariants.{Disc, Bar, Rect as Rectangular, Outline}
 use Rattle.cam_apertures.specs.declared.aperture.Aperture.{Aperture}
 use Rattle.cam_apertures.specs.declared.aperture.Aperture.TheVariants.{Circle, Rect, Obround, Prims}
-use Rattle.cam_apertures.specs.Cover.{obround, origin, rectangle, IsCovered, IsInShape}
-use Rattle.cam_apertures.specs.Laws.{turned_place, HasNoOutline, IsNoOutline, TurnLaw}
-use Rattle.cam_apertures.specs.Tests.{is_in_shape, painted}
+use Rattle.cam_apertures.specs.Cover.{obround, flash_point, rectangle, IsCovered, IsInShape}
+use Rattle.cam_apertures.specs.Laws.{turned_spot, HasNoOutline, IsNoOutline, TurnLaw}
+use Rattle.cam_apertures.specs.Tests.{is_in_shape, ink_exposed}
 use Rattle.cam_apertures.specs.Turned.{turned_height, turned_point, turned_prim, turned_shape, turned_width}
 use Rattle.cam_apertures.proofs.CoverLaws.{in_shape, painted_law}
 use Rattle.cam_apertures.proofs.ObroundTurns.{obround_turned}
@@ -48,7 +48,7 @@ seen_entry a b sx sy px py =
     (Sum (Product (Atom a) (Difference (Atom sx) (doubled px))) (Product (Atom b) (Difference (Atom sy) (doubled py))))
     (omega arith)
 
-seen_turned : (m : Matrix) (p : Point) (s : Spot) → seen_from (applied m p) (turned_place m s) ≡ times m (seen_from p s)
+seen_turned : (m : Matrix) (p : Point) (s : Spot) → seen_from (applied m p) (turned_spot m s) ≡ times m (seen_from p s)
 seen_turned m p s =
     same_vector _ _ (seen_entry m.xx m.xy s.x s.y p.x p.y) (seen_entry m.yx m.yy s.x s.y p.x p.y)
 
@@ -59,7 +59,7 @@ place_entry a b px py =
 same_spot : (s u : Spot) → s.x ≡ u.x → s.y ≡ u.y → s ≡ u
 same_spot s u e f = λ i. record { x = e i; y = f i }
 
-place_turned : (m : Matrix) (p : Point) → place_of (applied m p) ≡ turned_place m (place_of p)
+place_turned : (m : Matrix) (p : Point) → place_of (applied m p) ≡ turned_spot m (place_of p)
 place_turned m p = same_spot _ _ (place_entry m.xx m.xy p.x p.y) (place_entry m.yx m.yy p.x p.y)
 
 way_turned : (m : Matrix) (p q : Point) → way (applied m p) (applied m q) ≡ times m (way p q)
@@ -125,11 +125,11 @@ cross_turned t v w =
     ∙ ap (λ k. k *ℤ square (cross v w)) (orthogonal t).turning
     ∙ once (square (cross v w))
 
-seen_dot : (t : Turn) (p : Point) (s : Spot) → dot (seen_from (turned_point t p) (turned_place (matrix_of t) s)) (seen_from (turned_point t p) (turned_place (matrix_of t) s)) ≡ dot (seen_from p s) (seen_from p s)
+seen_dot : (t : Turn) (p : Point) (s : Spot) → dot (seen_from (turned_point t p) (turned_spot (matrix_of t) s)) (seen_from (turned_point t p) (turned_spot (matrix_of t) s)) ≡ dot (seen_from p s) (seen_from p s)
 seen_dot t p s = ap (λ v. dot v v) (seen_turned (matrix_of t) p s) ∙ dot_turned t (seen_from p s) (seen_from p s)
 
-origin_dot : (t : Turn) (s : Spot) → dot (seen_from origin (turned_place (matrix_of t) s)) (seen_from origin (turned_place (matrix_of t) s)) ≡ dot (seen_from origin s) (seen_from origin s)
-origin_dot t s = sym (ap (λ o. dot (seen_from o (turned_place (matrix_of t) s)) (seen_from o (turned_place (matrix_of t) s))) (origin_turned t)) ∙ seen_dot t origin s
+origin_dot : (t : Turn) (s : Spot) → dot (seen_from flash_point (turned_spot (matrix_of t) s)) (seen_from flash_point (turned_spot (matrix_of t) s)) ≡ dot (seen_from flash_point s) (seen_from flash_point s)
+origin_dot t s = sym (ap (λ o. dot (seen_from o (turned_spot (matrix_of t) s)) (seen_from o (turned_spot (matrix_of t) s))) (origin_turned t)) ∙ seen_dot t flash_point s
 
 -- discs, of which only the distance from the centre counts
 disc_by : (p q : Point) (s u : Spot) (d : Nm) → dot (seen_from p s) (seen_from p s) ≡ dot (seen_from q u) (seen_from q u)
@@ -158,11 +158,11 @@ beside_by a v b w r e f g h = record {
 }
 
 bar_turned : (t : Turn) (from to : Point) (w : Nm) (s : Spot)
-    → IsInBar (turned_place (matrix_of t) s) (record { from = turned_point t from; to = turned_point t to; width = w }) ↔ IsInBar s (record { from = from; to = to; width = w })
+    → IsInBar (turned_spot (matrix_of t) s) (record { from = turned_point t from; to = turned_point t to; width = w }) ↔ IsInBar s (record { from = from; to = to; width = w })
 bar_turned t from to w s =
     let m = matrix_of t in
     let a = way (turned_point t from) (turned_point t to) in
-    let v = seen_from (turned_point t from) (turned_place m s) in
+    let v = seen_from (turned_point t from) (turned_spot m s) in
     let b = way from to in
     let u = seen_from from s in
     let long : dot a a ≡ dot b b = ap (λ z. dot z z) (way_turned m from to) ∙ dot_turned t b b in
@@ -174,7 +174,7 @@ bar_turned t from to w s =
 
 -- rectangles
 rectangle_turned : (t : Turn) (p : Point) (w h : Nm) (s : Spot)
-    → IsInRectangle (turned_place (matrix_of t) s) (record { centre = turned_point t p; width = turned_width t w h; height = turned_height t w h }) ↔ IsInRectangle s (record { centre = p; width = w; height = h })
+    → IsInRectangle (turned_spot (matrix_of t) s) (record { centre = turned_point t p; width = turned_width t w h; height = turned_height t w h }) ↔ IsInRectangle s (record { centre = p; width = w; height = h })
 rectangle_turned R0 p w h s = (
   (λ k. record { wide = k.wide; high = k.high; between = record { across = omega (arith, ints, k.between.across); along = omega (arith, ints, k.between.along) } }),
   (λ k. record { wide = k.wide; high = k.high; between = record { across = omega (arith, ints, k.between.across); along = omega (arith, ints, k.between.along) } }),
@@ -209,8 +209,8 @@ rectangle_turned M270 p w h s = (
 )
 
 -- shapes of primitives
-shape_turned : (t : Turn) (shape : PrimShape) (s : Spot) → IsNoOutline shape → IsInShape (turned_shape t shape) (turned_place (matrix_of t) s) ↔ IsInShape shape s
-shape_turned t (Disc centre diameter) s none = disc_by (turned_point t centre) centre (turned_place (matrix_of t) s) s diameter (seen_dot t centre s)
+shape_turned : (t : Turn) (shape : PrimShape) (s : Spot) → IsNoOutline shape → IsInShape (turned_shape t shape) (turned_spot (matrix_of t) s) ↔ IsInShape shape s
+shape_turned t (Disc centre diameter) s none = disc_by (turned_point t centre) centre (turned_spot (matrix_of t) s) s diameter (seen_dot t centre s)
 shape_turned t (Bar from to width) s none = bar_turned t from to width s
 shape_turned t (Rectangular centre width height) s none = rectangle_turned t centre width height s
 shape_turned t (Outline points) s none = absurd none
@@ -218,25 +218,25 @@ shape_turned t (Outline points) s none = absurd none
 kept : (x y : ℤ) → (pos 1 *ℤ x +ℤ pos 0 *ℤ y ≡ x) × (pos 0 *ℤ x +ℤ pos 1 *ℤ y ≡ y)
 kept x y = (omega (arith, ints), omega (arith, ints))
 
-none_turned : (s : Spot) → turned_place (matrix_of R0) s ≡ s
+none_turned : (s : Spot) → turned_spot (matrix_of R0) s ≡ s
 none_turned s = same_spot _ _ (kept s.x s.y).0 (kept s.x s.y).1
 
 shape_like : (t : Turn) (shape : PrimShape) (s : Spot) → IsNoOutline shape
-    → IsInShape (turned_shape t shape) (turned_place (matrix_of t) s) ↔ IsInShape (turned_shape R0 shape) s
+    → IsInShape (turned_shape t shape) (turned_spot (matrix_of t) s) ↔ IsInShape (turned_shape R0 shape) s
 shape_like t shape s none =
     through (shape_turned t shape s none)
     (round (subst (λ u. IsInShape (turned_shape R0 shape) u ↔ IsInShape shape s) (none_turned s) (shape_turned R0 shape s none)))
 
 painted_like : (t : Turn) (ink : Bool) (ps : List MacroPrimitive) (s : Spot) → All (λ p. IsNoOutline p.shape) ps
-    → painted ink (map (turned_prim t) ps) (turned_place (matrix_of t) s) ≡ painted ink (map (turned_prim R0) ps) s
+    → ink_exposed ink (map (turned_prim t) ps) (turned_spot (matrix_of t) s) ≡ ink_exposed ink (map (turned_prim R0) ps) s
 painted_like t ink [] s none = refl
 painted_like t ink (p ∷ ps) s none =
-    let u = turned_place (matrix_of t) s in
+    let u = turned_spot (matrix_of t) s in
     let here : is_in_shape (turned_shape t p.shape) u ≡ is_in_shape (turned_shape R0 p.shape) s
     = same_from_decides (is_in_shape (turned_shape t p.shape) u) (is_in_shape (turned_shape R0 p.shape) s)
     (in_shape (turned_shape t p.shape) u)
     (through (in_shape (turned_shape R0 p.shape) s) (round (shape_like t p.shape s (All-head (λ q. IsNoOutline q.shape) p ps none)))) in
-    ap (λ b. painted (cond b p.paint ink) (map (turned_prim t) ps) u) here
+    ap (λ b. ink_exposed (cond b p.paint ink) (map (turned_prim t) ps) u) here
     ∙ painted_like t (cond (is_in_shape (turned_shape R0 p.shape) s) p.paint ink) ps s (All-tail (λ q. IsNoOutline q.shape) p ps none)
 
 both_ways : {P Q R S : Type 0} → (P ↔ R) → (Q ↔ S) → (P × ¬ Q) ↔ (R × ¬ S)
@@ -246,31 +246,31 @@ same_truth : (b c : Bool) → b ≡ c → IsTrue b ↔ IsTrue c
 same_truth b c e = ((λ h. sym e ∙ h), (λ h. e ∙ h))
 
 -- the turned place is covered by the turned aperture
-covered_turned : (a : Aperture) (t : Turn) (s : Spot) → HasNoOutline a → IsCovered a t (turned_place (matrix_of t) s) ↔ IsCovered a R0 s
+covered_turned : (a : Aperture) (t : Turn) (s : Spot) → HasNoOutline a → IsCovered a t (turned_spot (matrix_of t) s) ↔ IsCovered a R0 s
 covered_turned (Circle diameter hole) t s none =
-    both_ways (disc_by origin origin (turned_place (matrix_of t) s) s diameter (origin_dot t s)) (hole_by origin origin (turned_place (matrix_of t) s) s hole (origin_dot t s))
+    both_ways (disc_by flash_point flash_point (turned_spot (matrix_of t) s) s diameter (origin_dot t s)) (hole_by flash_point flash_point (turned_spot (matrix_of t) s) s hole (origin_dot t s))
 covered_turned (Rect width height hole) t s none =
     both_ways
-    (subst (λ o. IsInRectangle (turned_place (matrix_of t) s) (record { centre = o; width = turned_width t width height; height = turned_height t width height }) ↔ IsInRectangle s (rectangle R0 width height))
-    (origin_turned t) (rectangle_turned t origin width height s))
-    (hole_by origin origin (turned_place (matrix_of t) s) s hole (origin_dot t s))
+    (subst (λ o. IsInRectangle (turned_spot (matrix_of t) s) (record { centre = o; width = turned_width t width height; height = turned_height t width height }) ↔ IsInRectangle s (rectangle R0 width height))
+    (origin_turned t) (rectangle_turned t flash_point width height s))
+    (hole_by flash_point flash_point (turned_spot (matrix_of t) s) s hole (origin_dot t s))
 covered_turned (Obround width height hole) t s none =
     both_ways
-    (subst (λ o. IsInObround (turned_place (matrix_of t) s) (record { centre = o; width = turned_width t width height; height = turned_height t width height }) ↔ IsInObround s (obround R0 width height))
-    (origin_turned t) (obround_turned t origin width height s))
-    (hole_by origin origin (turned_place (matrix_of t) s) s hole (origin_dot t s))
+    (subst (λ o. IsInObround (turned_spot (matrix_of t) s) (record { centre = o; width = turned_width t width height; height = turned_height t width height }) ↔ IsInObround s (obround R0 width height))
+    (origin_turned t) (obround_turned t flash_point width height s))
+    (hole_by flash_point flash_point (turned_spot (matrix_of t) s) s hole (origin_dot t s))
 covered_turned (Prims prims) t s none =
-    through (round (painted_law (map (turned_prim t) prims) (turned_place (matrix_of t) s)))
-    (through (same_truth (painted false (map (turned_prim t) prims) (turned_place (matrix_of t) s)) (painted false (map (turned_prim R0) prims) s) (painted_like t false prims s none))
+    through (round (painted_law (map (turned_prim t) prims) (turned_spot (matrix_of t) s)))
+    (through (same_truth (ink_exposed false (map (turned_prim t) prims) (turned_spot (matrix_of t) s)) (ink_exposed false (map (turned_prim R0) prims) s) (painted_like t false prims s none))
     (painted_law (map (turned_prim R0) prims) s))
 
-turned_twice : (m n : Matrix) (s : Spot) → turned_place (product m n) s ≡ turned_place m (turned_place n s)
+turned_twice : (m n : Matrix) (s : Spot) → turned_spot (product m n) s ≡ turned_spot m (turned_spot n s)
 turned_twice m n s =
     let p : Point = record { x = s.x; y = s.y } in
     same_spot _ _ (ap (λ (q : Point). q.x) (applied_product m n p)) (ap (λ (q : Point). q.y) (applied_product m n p))
 
 pub turn_law : TurnLaw
 turn_law a t back s none e =
-    let u = turned_place (matrix_of back) s in
-    let here : turned_place (matrix_of t) u ≡ s = sym (turned_twice (matrix_of t) (matrix_of back) s) ∙ ap (λ m. turned_place m s) e ∙ none_turned s in
+    let u = turned_spot (matrix_of back) s in
+    let here : turned_spot (matrix_of t) u ≡ s = sym (turned_twice (matrix_of t) (matrix_of back) s) ∙ ap (λ m. turned_spot m s) e ∙ none_turned s in
     subst (λ v. IsCovered a t v ↔ IsCovered a R0 u) here (covered_turned a t u none)

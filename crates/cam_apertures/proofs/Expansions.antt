@@ -20,7 +20,7 @@ use Rattle.cam_macros.specs.declared.part.Part.TheVariants.{Assignment, Primitiv
 use Rattle.cam_macros.specs.declared.primitive.MacroPrimitive.{MacroPrimitive}
 use Rattle.cam_macros.specs.Tree.{Tree}
 use Rattle.cam_macros.specs.Arithmetic.{Values, parameter}
-use Rattle.cam_macros.specs.Expansion.{◌>>=◌, all_worth, bar_of, coordinate, coordinate_of, count_of, disc_of, expansion, expansion_of, outcome, outline_of, outline_through, paint_of, point_of, points_of, primitive_of, rect_of, rect_turned, shape_of, size, size_of, turn_of, values_after, worth}
+use Rattle.cam_macros.specs.Expansion.{◌>>=◌, all_worth, bar_of, rounded_coordinate, coordinate_of, count_of, disc_of, expansion, expansion_of, outcome, outline_made, outline_through, paint_of, point_of, outline_points, primitive_of, rect_of, rect_turned, primitive_made, size, size_of, rotation_field, values_after, worth}
 use Rattle.cam_apertures.specs.Primitives.{IsMacroPoint, IsSoundPrim, IsSoundShape}
 use Rattle.cam_apertures.proofs.Outlines.{near_turned}
 
@@ -56,7 +56,7 @@ sized : (z : ℤ) → IfAnswer IsSized (size z)
 sized (pos k) = tested IsSized (leb k size_limit) (record { 0 = pos k }) _ (λ t. (omega (arith, ints), omega (arith, ints, leb-true k size_limit t)))
 sized (negsuc k) = tt
 
-coordinated : (z : ℤ) → IfAnswer IsCoordinate (coordinate z)
+coordinated : (z : ℤ) → IfAnswer IsCoordinate (rounded_coordinate z)
 coordinated z = tested IsCoordinate (leb (unsigned_abs z) size_limit) (record { 0 = z }) _ (λ t. leb-true (unsigned_abs z) size_limit t)
 
 pointed : (unit : FileUnit) (t : Turn) (x y : ℤ) → IfAnswer IsMacroPoint (point_of unit t x y)
@@ -71,12 +71,12 @@ record ArePoints (values : ℕ) (points : List Point) : Type 0 where
   pub least : 2 * length points ≤ values
   pub most : values ≤ 2 * length points + 1
 
-pointed_all : (unit : FileUnit) (t : Turn) (values : List ℤ) → IfAnswer (ArePoints (length values)) (points_of unit t values)
+pointed_all : (unit : FileUnit) (t : Turn) (values : List ℤ) → IfAnswer (ArePoints (length values)) (outline_points unit t values)
 pointed_all unit t [] = record { near = All-nil IsMacroPoint; least = omega arith; most = omega arith }
 pointed_all unit t (x ∷ []) = record { near = All-nil IsMacroPoint; least = omega arith; most = omega arith }
 pointed_all unit t (x ∷ y ∷ more) =
     next (ArePoints (length (x ∷ y ∷ more))) IsMacroPoint (point_of unit t x y) _ (pointed unit t x y)
-    (λ p h. next (ArePoints (length (x ∷ y ∷ more))) (ArePoints (length more)) (points_of unit t more) _ (pointed_all unit t more)
+    (λ p h. next (ArePoints (length (x ∷ y ∷ more))) (ArePoints (length more)) (outline_points unit t more) _ (pointed_all unit t more)
     (λ ps k. record {
       near = All-cons IsMacroPoint p ps h k.near;
       least = omega (arith, k.least);
@@ -90,7 +90,7 @@ disc_sound unit (a ∷ b ∷ []) = tt
 disc_sound unit (a ∷ b ∷ c ∷ []) = tt
 disc_sound unit (exposure ∷ d ∷ x ∷ y ∷ more) =
     next IsSoundPrim (λ _. ⊤) (paint_of exposure) _ (any (paint_of exposure))
-    (λ paint _. next IsSoundPrim (λ _. ⊤) (turn_of more) _ (any (turn_of more))
+    (λ paint _. next IsSoundPrim (λ _. ⊤) (rotation_field more) _ (any (rotation_field more))
     (λ turn _. next IsSoundPrim IsSized (size_of unit d) _ (sized (fix9_of d unit))
     (λ diameter s. next IsSoundPrim IsMacroPoint (point_of unit turn x y) _ (pointed unit turn x y)
     (λ centre n. (n, s)))))
@@ -104,7 +104,7 @@ bar_sound unit (a ∷ b ∷ c ∷ d ∷ []) = tt
 bar_sound unit (a ∷ b ∷ c ∷ d ∷ e ∷ []) = tt
 bar_sound unit (exposure ∷ w ∷ x1 ∷ y1 ∷ x2 ∷ y2 ∷ more) =
     next IsSoundPrim (λ _. ⊤) (paint_of exposure) _ (any (paint_of exposure))
-    (λ paint _. next IsSoundPrim (λ _. ⊤) (turn_of more) _ (any (turn_of more))
+    (λ paint _. next IsSoundPrim (λ _. ⊤) (rotation_field more) _ (any (rotation_field more))
     (λ turn _. next IsSoundPrim IsSized (size_of unit w) _ (sized (fix9_of w unit))
     (λ width s. next IsSoundPrim IsMacroPoint (point_of unit turn x1 y1) _ (pointed unit turn x1 y1)
     (λ from n. next IsSoundPrim IsMacroPoint (point_of unit turn x2 y2) _ (pointed unit turn x2 y2)
@@ -128,7 +128,7 @@ rect_sound unit (a ∷ b ∷ c ∷ []) = tt
 rect_sound unit (a ∷ b ∷ c ∷ d ∷ []) = tt
 rect_sound unit (exposure ∷ w ∷ h ∷ x ∷ y ∷ more) =
     next IsSoundPrim (λ _. ⊤) (paint_of exposure) _ (any (paint_of exposure))
-    (λ paint _. next IsSoundPrim (λ _. ⊤) (turn_of more) _ (any (turn_of more))
+    (λ paint _. next IsSoundPrim (λ _. ⊤) (rotation_field more) _ (any (rotation_field more))
     (λ turn _. next IsSoundPrim IsSized (size_of unit w) _ (sized (fix9_of w unit))
     (λ width s. next IsSoundPrim IsSized (size_of unit h) _ (sized (fix9_of h unit))
     (λ height k. next IsSoundPrim IsMacroPoint (point_of unit turn x y) _ (pointed unit turn x y)
@@ -149,8 +149,8 @@ counted (negsuc n) = tt
 outlined : (unit : FileUnit) (paint : Bool) (count : ℕ) (values : List ℤ) → IsCount count → IfAnswer IsSoundPrim (outline_through unit paint count values)
 outlined unit paint count values h =
     refused IsSoundPrim (ltb (length values) (2 * count + 2)) _ _
-    (λ long. next IsSoundPrim (λ _. ⊤) (turn_of (drop (2 * count + 2) values)) _ (any (turn_of (drop (2 * count + 2) values)))
-    (λ turn _. next IsSoundPrim (ArePoints (length (take (2 * count) values))) (points_of unit turn (take (2 * count) values)) _ (pointed_all unit turn (take (2 * count) values))
+    (λ long. next IsSoundPrim (λ _. ⊤) (rotation_field (drop (2 * count + 2) values)) _ (any (rotation_field (drop (2 * count + 2) values)))
+    (λ turn _. next IsSoundPrim (ArePoints (length (take (2 * count) values))) (outline_points unit turn (take (2 * count) values)) _ (pointed_all unit turn (take (2 * count) values))
     (λ points k.
     let all : length (take (2 * count) values) ≡ 2 * count = length-take-le (2 * count) values (omega (arith, ltb-false (length values) (2 * count + 2) long)) in
     record {
@@ -159,7 +159,7 @@ outlined unit paint count values h =
       near = k.near;
     })))
 
-outline_sound : (unit : FileUnit) (values : List ℤ) → IfAnswer IsSoundPrim (outline_of unit values)
+outline_sound : (unit : FileUnit) (values : List ℤ) → IfAnswer IsSoundPrim (outline_made unit values)
 outline_sound unit [] = tt
 outline_sound unit (a ∷ []) = tt
 outline_sound unit (exposure ∷ n ∷ more) =
@@ -178,15 +178,15 @@ either : (b : Bool) (x y : Option Maker) → IsSoundMaker x → IsSoundMaker y �
 either true x y h k = h
 either false x y h k = k
 
-maker_sound : (code : ℕ) → IsSoundMaker (shape_of code)
+maker_sound : (code : ℕ) → IsSoundMaker (primitive_made code)
 maker_sound code =
-    let by_outline : Option Maker = cond (eqb code 4) (Some outline_of) None in
+    let by_outline : Option Maker = cond (eqb code 4) (Some outline_made) None in
     let by_rect : Option Maker = cond (eqb code 21) (Some rect_of) by_outline in
     let by_bar : Option Maker = cond (eqb code 2 || eqb code 20) (Some bar_of) by_rect in
     either (eqb code 1) (Some disc_of) by_bar disc_sound
     (either (eqb code 2 || eqb code 20) (Some bar_of) by_rect bar_sound
     (either (eqb code 21) (Some rect_of) by_outline rect_sound
-    (either (eqb code 4) (Some outline_of) None outline_sound tt)))
+    (either (eqb code 4) (Some outline_made) None outline_sound tt)))
 
 made_sound : (make : Option Maker) (unit : FileUnit) (values : Values) (fields : List Tree) → IsSoundMaker make → IfAnswer IsSoundPrim (primitive_of make unit values fields)
 made_sound None unit values fields h = tt
@@ -200,7 +200,7 @@ part_sound : (unit : FileUnit) (values : Values) (part : Part) → IfAnswer AreS
 part_sound unit values (Assignment variable value) =
     next AreSound (λ _. ⊤) (worth values value) _ (any (worth values value)) (λ _ _. All-nil IsSoundPrim)
 part_sound unit values (Primitive code fields) =
-    next AreSound IsSoundPrim (primitive_of (shape_of code) unit values fields) _ (made_sound (shape_of code) unit values fields (maker_sound code))
+    next AreSound IsSoundPrim (primitive_of (primitive_made code) unit values fields) _ (made_sound (primitive_made code) unit values fields (maker_sound code))
     (λ p h. All-cons IsSoundPrim p [] h (All-nil IsSoundPrim))
 
 expansion_sound : (unit : FileUnit) (values : Values) (parts : List Part) → IfAnswer AreSound (expansion unit values parts)

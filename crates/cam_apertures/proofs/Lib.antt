@@ -1,7 +1,6 @@
 pub mod Corners
 pub mod TurnedBoxes
 pub mod Outlines
-pub mod Packing
 pub mod Painting
 pub mod ShapeBoxes
 pub mod CoverLaws

@@ -12,8 +12,8 @@ use Rattle.cam_units.specs.declared.turn.Turn.TheVariants.{R0, R90, R180, R270, 
 use Rattle.cam_units.specs.Turns.{matrix_of}
 use Rattle.cam_shapes.specs.declared.vector.Vector.{Vector}
 use Rattle.cam_shapes.specs.Box.{swapped, IsAlong, IsInObround, IsRounded}
-use Rattle.cam_shapes.specs.Plane.{seen_from, square, IsWithin}
-use Rattle.cam_apertures.specs.Laws.{turned_place}
+use Rattle.cam_shapes.specs.Plane.{seen_from, square, IsNoLonger}
+use Rattle.cam_apertures.specs.Laws.{turned_spot}
 use Rattle.cam_apertures.specs.Turned.{turned_height, turned_point, turned_width}
 
 -- a coordinate, kept or negated
@@ -60,18 +60,18 @@ in_disc_between x y n r e some a b =
     let low : unsigned_abs y ≤ unsigned_abs r = omega (arith, ints) in
     omega (arith, ints, square_is x, square_is y, square_is r, ap (λ k. k * k) none, mul-le (unsigned_abs y) (unsigned_abs y) (unsigned_abs r) (unsigned_abs r) low low)
 
-to_disc : (v : Vector) (n r : ℤ) → n ≡ pos 0 → pos 0 <ℤ r → IsAlong v n r → IsWithin v r
+to_disc : (v : Vector) (n r : ℤ) → n ≡ pos 0 → pos 0 <ℤ r → IsAlong v n r → IsNoLonger v r
 to_disc v n r e some (inl h) = in_disc_between v.x v.y n r e some h.across h.along
 to_disc v n r e some (inr (inl h)) = within_by (v.x +ℤ n) v.y v.x v.y r (omega (arith, ints)) refl h
 to_disc v n r e some (inr (inr h)) = within_by (v.x -ℤ n) v.y v.x v.y r (omega (arith, ints)) refl h
 
-from_disc : (v : Vector) (n r : ℤ) → n ≡ pos 0 → IsWithin v r → IsAlong v n r
+from_disc : (v : Vector) (n r : ℤ) → n ≡ pos 0 → IsNoLonger v r → IsAlong v n r
 from_disc v n r e h = inr (inl (within_by v.x v.y (v.x +ℤ n) v.y r (omega (arith, ints)) refl h))
 
 sum_exchanged : (a b : ℤ) → a +ℤ b ≡ b +ℤ a
 sum_exchanged a b = omega (arith, ints)
 
-within_exchanged : (v w : Vector) (r q : ℤ) → IsLike v.x w.y → IsLike v.y w.x → r ≡ q → IsWithin v r → IsWithin w q
+within_exchanged : (v w : Vector) (r q : ℤ) → IsLike v.x w.y → IsLike v.y w.x → r ≡ q → IsNoLonger v r → IsNoLonger w q
 within_exchanged v w r q x y e h =
     let turned : (w.y *ℤ w.y +ℤ w.x *ℤ w.x) ≤ℤ square r = within_by v.x v.y w.y w.x r (like_size v.x w.y x) (like_size v.y w.x y) h in
     rw (sum_exchanged (w.x *ℤ w.x) (w.y *ℤ w.y), sym e) turned
@@ -88,9 +88,9 @@ rounded_exchanged v w a b some any x y (inl h) =
 rounded_exchanged v w a b some any x y (inr h) = inl (less_at_most a b h.0, along_like (swapped v) w (b -ℤ a) a y x h.1)
 
 pub obround_turned : (t : Turn) (p : Point) (w h : Nm) (s : Spot)
-    → IsInObround (turned_place (matrix_of t) s) (record { centre = turned_point t p; width = turned_width t w h; height = turned_height t w h }) ↔ IsInObround s (record { centre = p; width = w; height = h })
+    → IsInObround (turned_spot (matrix_of t) s) (record { centre = turned_point t p; width = turned_width t w h; height = turned_height t w h }) ↔ IsInObround s (record { centre = p; width = w; height = h })
 obround_turned R0 p w h s =
-    let v = seen_from (turned_point R0 p) (turned_place (matrix_of R0) s) in
+    let v = seen_from (turned_point R0 p) (turned_spot (matrix_of R0) s) in
     let u = seen_from p s in
     let x : IsLike v.x u.x = (inl (omega (arith, ints))) in
     let y : IsLike v.y u.y = (inl (omega (arith, ints))) in (
@@ -98,7 +98,7 @@ obround_turned R0 p w h s =
       (λ k. record { wide = k.wide; high = k.high; rounded = rounded_like u v w.0 h.0 (like_back v.x u.x x) (like_back v.y u.y y) k.rounded }),
     )
 obround_turned R90 p w h s =
-    let v = seen_from (turned_point R90 p) (turned_place (matrix_of R90) s) in
+    let v = seen_from (turned_point R90 p) (turned_spot (matrix_of R90) s) in
     let u = seen_from p s in
     let x : IsLike v.x u.y = (inr (omega (arith, ints))) in
     let y : IsLike v.y u.x = (inl (omega (arith, ints))) in (
@@ -106,7 +106,7 @@ obround_turned R90 p w h s =
       (λ k. record { wide = k.high; high = k.wide; rounded = rounded_exchanged u v w.0 h.0 k.wide k.high (like_back v.y u.x y) (like_back v.x u.y x) k.rounded }),
     )
 obround_turned R180 p w h s =
-    let v = seen_from (turned_point R180 p) (turned_place (matrix_of R180) s) in
+    let v = seen_from (turned_point R180 p) (turned_spot (matrix_of R180) s) in
     let u = seen_from p s in
     let x : IsLike v.x u.x = (inr (omega (arith, ints))) in
     let y : IsLike v.y u.y = (inr (omega (arith, ints))) in (
@@ -114,7 +114,7 @@ obround_turned R180 p w h s =
       (λ k. record { wide = k.wide; high = k.high; rounded = rounded_like u v w.0 h.0 (like_back v.x u.x x) (like_back v.y u.y y) k.rounded }),
     )
 obround_turned R270 p w h s =
-    let v = seen_from (turned_point R270 p) (turned_place (matrix_of R270) s) in
+    let v = seen_from (turned_point R270 p) (turned_spot (matrix_of R270) s) in
     let u = seen_from p s in
     let x : IsLike v.x u.y = (inl (omega (arith, ints))) in
     let y : IsLike v.y u.x = (inr (omega (arith, ints))) in (
@@ -122,7 +122,7 @@ obround_turned R270 p w h s =
       (λ k. record { wide = k.high; high = k.wide; rounded = rounded_exchanged u v w.0 h.0 k.wide k.high (like_back v.y u.x y) (like_back v.x u.y x) k.rounded }),
     )
 obround_turned M0 p w h s =
-    let v = seen_from (turned_point M0 p) (turned_place (matrix_of M0) s) in
+    let v = seen_from (turned_point M0 p) (turned_spot (matrix_of M0) s) in
     let u = seen_from p s in
     let x : IsLike v.x u.x = (inr (omega (arith, ints))) in
     let y : IsLike v.y u.y = (inl (omega (arith, ints))) in (
@@ -130,7 +130,7 @@ obround_turned M0 p w h s =
       (λ k. record { wide = k.wide; high = k.high; rounded = rounded_like u v w.0 h.0 (like_back v.x u.x x) (like_back v.y u.y y) k.rounded }),
     )
 obround_turned M90 p w h s =
-    let v = seen_from (turned_point M90 p) (turned_place (matrix_of M90) s) in
+    let v = seen_from (turned_point M90 p) (turned_spot (matrix_of M90) s) in
     let u = seen_from p s in
     let x : IsLike v.x u.y = (inr (omega (arith, ints))) in
     let y : IsLike v.y u.x = (inr (omega (arith, ints))) in (
@@ -138,7 +138,7 @@ obround_turned M90 p w h s =
       (λ k. record { wide = k.high; high = k.wide; rounded = rounded_exchanged u v w.0 h.0 k.wide k.high (like_back v.y u.x y) (like_back v.x u.y x) k.rounded }),
     )
 obround_turned M180 p w h s =
-    let v = seen_from (turned_point M180 p) (turned_place (matrix_of M180) s) in
+    let v = seen_from (turned_point M180 p) (turned_spot (matrix_of M180) s) in
     let u = seen_from p s in
     let x : IsLike v.x u.x = (inl (omega (arith, ints))) in
     let y : IsLike v.y u.y = (inr (omega (arith, ints))) in (
@@ -146,7 +146,7 @@ obround_turned M180 p w h s =
       (λ k. record { wide = k.wide; high = k.high; rounded = rounded_like u v w.0 h.0 (like_back v.x u.x x) (like_back v.y u.y y) k.rounded }),
     )
 obround_turned M270 p w h s =
-    let v = seen_from (turned_point M270 p) (turned_place (matrix_of M270) s) in
+    let v = seen_from (turned_point M270 p) (turned_spot (matrix_of M270) s) in
     let u = seen_from p s in
     let x : IsLike v.x u.y = (inl (omega (arith, ints))) in
     let y : IsLike v.y u.x = (inl (omega (arith, ints))) in (

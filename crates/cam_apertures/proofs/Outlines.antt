@@ -8,15 +8,13 @@ use Rattle.cam_units.specs.declared.turn.Turn.{Turn}
 use Rattle.cam_units.specs.declared.turn.Turn.TheVariants.{R0, R90, R180, R270, M0, M90, M180, M270}
 use Rattle.cam_units.specs.Board.{IsOnBoard}
 use Rattle.cam_units.proofs.TurnLaws.{same_point}
-use Rattle.cam_shapes.specs.declared.contour.Contour.{Contour}
-use Rattle.cam_shapes.specs.declared.segments.Seg.{Seg}
 use Rattle.cam_shapes.specs.declared.segments.Seg.TheVariants.{Line}
 use Rattle.cam_shapes.specs.Contour.{IsInContour}
 use Rattle.cam_shapes.specs.Outline.{lines_to, outline_of}
 use Rattle.cam_shapes.specs.Placing.{placed_contour, placed_point, placed_seg, IsPlaceablePoint}
 use Rattle.cam_macros.specs.declared.primitive.PrimShape.{PrimShape}
 use Rattle.cam_macros.specs.declared.primitive.PrimShape.TheVariants.{Outline}
-use Rattle.cam_apertures.specs.Cover.{origin, IsInShape}
+use Rattle.cam_apertures.specs.Cover.{flash_point, IsInShape}
 use Rattle.cam_apertures.specs.Primitives.{IsMacroPoint, IsSoundShape}
 use Rattle.cam_apertures.specs.Turned.{turned_point, turned_shape}
 
@@ -37,11 +35,11 @@ near_turned M270 p h = record { x = omega (arith, ints, h.y); y = omega (arith, 
 no_more : (z : ℤ) → z +ℤ pos 0 ≡ z
 no_more z = omega (arith, ints)
 
-placed_is_turned : (t : Turn) (p : Point) → placed_point t origin p ≡ turned_point t p
+placed_is_turned : (t : Turn) (p : Point) → placed_point t flash_point p ≡ turned_point t p
 placed_is_turned t p =
-    same_point (placed_point t origin p) (turned_point t p) (no_more (turned_point t p).x) (no_more (turned_point t p).y)
+    same_point (placed_point t flash_point p) (turned_point t p) (no_more (turned_point t p).x) (no_more (turned_point t p).y)
 
-pub origin_turned : (t : Turn) → turned_point t origin ≡ origin
+pub origin_turned : (t : Turn) → turned_point t flash_point ≡ flash_point
 origin_turned R0 = refl
 origin_turned R90 = refl
 origin_turned R180 = refl
@@ -51,38 +49,35 @@ origin_turned M90 = refl
 origin_turned M180 = refl
 origin_turned M270 = refl
 
-placed_lines : (t : Turn) (points : List Point) → map (placed_seg t origin) (lines_to points) ≡ lines_to (map (turned_point t) points)
+placed_lines : (t : Turn) (points : List Point) → map (placed_seg t flash_point) (lines_to points) ≡ lines_to (map (turned_point t) points)
 placed_lines t [] = refl
 placed_lines t (p ∷ ps) = λ i. Line (placed_is_turned t p i) ∷ placed_lines t ps i
 
-contour_by : Point → List Seg → Contour
-contour_by start segs = record { start = start; segs = segs }
-
 -- the outline through turned points
-outline_turned : (t : Turn) (points : List Point) → placed_contour t origin (outline_of points) ≡ outline_of (map (turned_point t) points)
-outline_turned t [] = let e = placed_is_turned t origin ∙ origin_turned t in λ i. record { start = e i; segs = [] }
+outline_turned : (t : Turn) (points : List Point) → placed_contour t flash_point (outline_of points) ≡ outline_of (map (turned_point t) points)
+outline_turned t [] = let e = placed_is_turned t flash_point ∙ origin_turned t in λ i. record { start = e i; segs = [] }
 outline_turned t (p ∷ ps) = λ i. record { start = placed_is_turned t p i; segs = placed_lines t ps i }
 
-placeable : (t : Turn) (p : Point) → IsMacroPoint p → IsPlaceablePoint t origin p
+placeable : (t : Turn) (p : Point) → IsMacroPoint p → IsPlaceablePoint t flash_point p
 placeable t p h = record {
   here = on_board p h;
   there = rw (placed_is_turned t p) (on_board (turned_point t p) (near_turned t p h));
 }
 
-all_placeable : (t : Turn) (points : List Point) → All IsMacroPoint points → All (IsPlaceablePoint t origin) points
-all_placeable t points h = All-weaker IsMacroPoint (IsPlaceablePoint t origin) (placeable t) points h
+all_placeable : (t : Turn) (points : List Point) → All IsMacroPoint points → All (IsPlaceablePoint t flash_point) points
+all_placeable t points h = All-weaker IsMacroPoint (IsPlaceablePoint t flash_point) (placeable t) points h
 
 -- ---- the shape of a primitive that is an outline
 
 pub outline_placeable : (t : Turn) (shape : PrimShape) (points slice : List Point) → shape ≡ Outline points
-    → slice ≡ points → IsSoundShape shape → All (IsPlaceablePoint t origin) slice
+    → slice ≡ points → IsSoundShape shape → All (IsPlaceablePoint t flash_point) slice
 outline_placeable t shape points slice e f sound =
     let outline : IsSoundShape (Outline points) = subst IsSoundShape e sound in
     all_placeable t slice (rw f outline.near)
 
 pub outline_places : (t : Turn) (shape : PrimShape) (points slice : List Point) (s : Spot) → shape ≡ Outline points
-    → slice ≡ points → IsInContour s (placed_contour t origin (outline_of slice)) ≡ IsInShape (turned_shape t shape) s
+    → slice ≡ points → IsInContour s (placed_contour t flash_point (outline_of slice)) ≡ IsInShape (turned_shape t shape) s
 outline_places t shape points slice s e f =
-    ap (λ v. IsInContour s (placed_contour t origin (outline_of v))) f
+    ap (λ v. IsInContour s (placed_contour t flash_point (outline_of v))) f
     ∙ ap (λ c. IsInContour s c) (outline_turned t points)
     ∙ sym (ap (λ v. IsInShape (turned_shape t v) s) e)

@@ -6,14 +6,14 @@ use Rattle.std.proofs.Common.{append_assoc}
 use Rattle.cam_units.specs.declared.point.Spot.{Spot}
 use Rattle.cam_macros.specs.declared.primitive.MacroPrimitive.{MacroPrimitive}
 use Rattle.cam_units.specs.declared.turn.Turn.{Turn}
-use Rattle.cam_apertures.specs.Cover.{IsInShape, IsPainted}
+use Rattle.cam_apertures.specs.Cover.{IsInShape, IsExposed}
 use Rattle.cam_apertures.specs.Turned.{turned_prim, turned_shape}
 
 abbrev IsFree : Spot → MacroPrimitive → Type 0
 IsFree s p = ¬ IsInShape p.shape s
 
 -- no primitive holds the place
-pub none_painted : (s : Spot) → IsPainted [] s → ⊥
+pub none_painted : (s : Spot) → IsExposed [] s → ⊥
 none_painted s h = empty h.before h.prim h.after h.split
   where
     empty : (before : List MacroPrimitive) (p : MacroPrimitive) (after : List MacroPrimitive) → [] ≡ before ++ p ∷ after → ⊥
@@ -39,7 +39,7 @@ ends (q ∷ prims) (b ∷ before) last p after e =
 
 -- where the last primitive holds the place, it decides
 pub last_decides : (prims : List MacroPrimitive) (last : MacroPrimitive) (s : Spot) → IsInShape last.shape s
-    → IsTrue last.paint ↔ IsPainted (prims ++ last ∷ []) s
+    → IsTrue last.paint ↔ IsExposed (prims ++ last ∷ []) s
 last_decides prims last s held = (
   (λ t. record {
     before = prims;
@@ -63,7 +63,7 @@ last_decides prims last s held = (
     behind (q ∷ rest) (p ∷ after) e all held = behind rest after (let same : after ≡ rest ++ last ∷ [] = cc in same) (λ k d h. all (suc k) d (omega arith)) held
 
 -- where it does not hold the place, those before it decide
-pub last_passes : (prims : List MacroPrimitive) (last : MacroPrimitive) (s : Spot) → IsFree s last → IsPainted (prims ++ last ∷ []) s ↔ IsPainted prims s
+pub last_passes : (prims : List MacroPrimitive) (last : MacroPrimitive) (s : Spot) → IsFree s last → IsExposed (prims ++ last ∷ []) s ↔ IsExposed prims s
 last_passes prims last s free = (
   (λ h. elim (ends prims h.before last h.prim h.after h.split) [
     | inl k ↦ absurd (free (subst (λ (p : MacroPrimitive). IsInShape p.shape s) k.0 h.held))
@@ -102,13 +102,13 @@ last_at t prims place behind p n h e =
     ∙ ap (λ q. map (turned_prim t) (take place prims) ++ turned_prim t q ∷ []) (sym e)
 
 pub decides_at : (t : Turn) (prims : List MacroPrimitive) (place behind : ℕ) (p : MacroPrimitive) (s : Spot) → behind ≡ place + 1 → place < length prims
-    → p ≡ get_or prims place p → IsInShape (turned_shape t p.shape) s → IsTrue p.paint ↔ IsPainted (map (turned_prim t) (take behind prims)) s
+    → p ≡ get_or prims place p → IsInShape (turned_shape t p.shape) s → IsTrue p.paint ↔ IsExposed (map (turned_prim t) (take behind prims)) s
 decides_at t prims place behind p s n h e held =
     rw (last_at t prims place behind p n h e) (last_decides (map (turned_prim t) (take place prims)) (turned_prim t p) s held)
 
 pub passes_at : (t : Turn) (prims : List MacroPrimitive) (place behind : ℕ) (p : MacroPrimitive) (s : Spot) → behind ≡ place + 1 → place < length prims
     → p ≡ get_or prims place p → ¬ IsInShape (turned_shape t p.shape) s
-    → IsPainted (map (turned_prim t) (take behind prims)) s ↔ IsPainted (map (turned_prim t) (take place prims)) s
+    → IsExposed (map (turned_prim t) (take behind prims)) s ↔ IsExposed (map (turned_prim t) (take place prims)) s
 passes_at t prims place behind p s n h e free =
     rw (last_at t prims place behind p n h e) (last_passes (map (turned_prim t) (take place prims)) (turned_prim t p) s free)
 
@@ -121,7 +121,7 @@ round f = (f.1, f.0)
 pub not_false : {P : Type 0} (b : Bool) → b ≡ false → (IsTrue b ↔ P) → ¬ P
 not_false b e told p = let true_too : b ≡ true = told.1 p in absurd cc
 
-pub none_at : (t : Turn) (prims : List MacroPrimitive) (n : ℕ) (s : Spot) → n ≡ 0 → (IsPainted (map (turned_prim t) (take n prims)) s ↔ IsPainted (map (turned_prim t) prims) s)
-    → IsTrue false ↔ IsPainted (map (turned_prim t) prims) s
+pub none_at : (t : Turn) (prims : List MacroPrimitive) (n : ℕ) (s : Spot) → n ≡ 0 → (IsExposed (map (turned_prim t) (take n prims)) s ↔ IsExposed (map (turned_prim t) prims) s)
+    → IsTrue false ↔ IsExposed (map (turned_prim t) prims) s
 none_at t prims n s e same =
     let none = rw e at same in ((λ f. absurd cc), (λ h. absurd (none_painted s (none.1 h))))

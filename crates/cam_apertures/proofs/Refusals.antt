@@ -18,16 +18,16 @@ use Rattle.cam_apertures.specs.declared.aperture.Aperture.{Aperture}
 use Rattle.cam_apertures.specs.declared.aperture.Aperture.TheVariants.{Prims}
 use Rattle.cam_apertures.specs.declared.fault.AdFault.{AdFault}
 use Rattle.cam_apertures.specs.declared.fault.AdFault.TheVariants.{UnknownForm, BadNumber, TemplateRefused, PrimitiveRefused, RotationRefused, SizeRefused, Malformed, OutOfMemory}
-use Rattle.cam_apertures.specs.Faults.{of_macro, refusal_of}
+use Rattle.cam_apertures.specs.Faults.{of_macro, aperture_refusal}
 use Rattle.cam_numbers.specs.Numbers.{decimal, defined_number}
-use Rattle.cam_apertures.specs.Definition.{aperture_of, by_macro, by_name, circle, definition, definition_of, faults_of, has_sizes, macro_faults, named, obround, painted, rect, standard_faults, template_faults, values_of, with_value, Definition, IsDefined, IsRefused}
+use Rattle.cam_apertures.specs.Definition.{template_aperture, by_macro, by_template_name, circle, definition, template_form, faults_of, has_sizes, macro_faults, named, obround, primitives_aperture, rect, standard_faults, template_faults, values_of, with_value, Definition, IsDefined, IsDefinitionRefused}
 use Rattle.cam_apertures.specs.Machinery.Outcomes.{macro_outcome, outcome, standard_outcome, template_outcome, with_aperture, with_number, IsErr}
 
 -- an outcome, the faults that hold and the aperture that is meant say the same
 record Agrees (o : Result Aperture AdFault) (t : Checks Refusal) (a : Option Aperture) : Type 0 where
   pub made : (aperture : Aperture) → o ≡ Ok aperture → a ≡ Some aperture
   pub faultless : (aperture : Aperture) → o ≡ Ok aperture → NoneHolds t
-  pub least : (fault : AdFault) → o ≡ Err fault → IsLeast number_of t (refusal_of fault)
+  pub least : (fault : AdFault) → o ≡ Err fault → IsLeast number_of t (aperture_refusal fault)
   pub low : (r : Refusal) → Holds t r → 4 ≤ number_of r
 
 agrees_either : {o o' : Result Aperture AdFault} {t t' : Checks Refusal} {a a' : Option Aperture} (b : Bool) → Agrees o t a → Agrees o' t' a'
@@ -76,13 +76,13 @@ agrees_tests : (x y z : Bool) (a : Aperture)
 agrees_tests true y z a = record {
   made = λ b e. absurd cc;
   faultless = λ b e. absurd cc;
-  least = λ f e. told (λ g. IsLeast number_of (rows true y (not z)) (refusal_of g)) BadNumber f (record { holds = inl (refl, refl); least = from_4 true y (not z) }) e;
+  least = λ f e. told (λ g. IsLeast number_of (rows true y (not z)) (aperture_refusal g)) BadNumber f (record { holds = inl (refl, refl); least = from_4 true y (not z) }) e;
   low = from_4 true y (not z);
 }
 agrees_tests false true z a = record {
   made = λ b e. absurd cc;
   faultless = λ b e. absurd cc;
-  least = λ f e. told (λ g. IsLeast number_of (rows false true (not z)) (refusal_of g)) TemplateRefused f (record { holds = inr (inl (refl, refl)); least = from_11 true (not z) }) e;
+  least = λ f e. told (λ g. IsLeast number_of (rows false true (not z)) (aperture_refusal g)) TemplateRefused f (record { holds = inr (inl (refl, refl)); least = from_11 true (not z) }) e;
   low = from_4 false true (not z);
 }
 agrees_tests false false true a = record {
@@ -94,7 +94,7 @@ agrees_tests false false true a = record {
 agrees_tests false false false a = record {
   made = λ b e. absurd cc;
   faultless = λ b e. absurd cc;
-  least = λ f e. told (λ g. IsLeast number_of (rows false false true) (refusal_of g)) SizeRefused f (record { holds = inr (inr (inl (refl, refl))); least = from_24 true }) e;
+  least = λ f e. told (λ g. IsLeast number_of (rows false false true) (aperture_refusal g)) SizeRefused f (record { holds = inr (inr (inl (refl, refl))); least = from_24 true }) e;
   low = from_4 false false true;
 }
 
@@ -110,11 +110,11 @@ agrees_refused : Agrees (Err TemplateRefused) ((refusal.TemplateRefused, true) �
 agrees_refused = record {
   made = λ b e. absurd cc;
   faultless = λ b e. absurd cc;
-  least = λ f e. told (λ g. IsLeast number_of ((refusal.TemplateRefused, true) ∷ []) (refusal_of g)) TemplateRefused f (record { holds = inl (refl, refl); least = λ m h. omega (arith, ap number_of (one_row refusal.TemplateRefused m h)) }) e;
+  least = λ f e. told (λ g. IsLeast number_of ((refusal.TemplateRefused, true) ∷ []) (aperture_refusal g)) TemplateRefused f (record { holds = inl (refl, refl); least = λ m h. omega (arith, ap number_of (one_row refusal.TemplateRefused m h)) }) e;
   low = λ m h. omega (arith, ap number_of (one_row refusal.TemplateRefused m h));
 }
 
-macro_low : (f : MacroFault) → 4 ≤ number_of (refusal_of (of_macro f))
+macro_low : (f : MacroFault) → 4 ≤ number_of (aperture_refusal (of_macro f))
 macro_low macro.BadName = lit≤ tt
 macro_low macro.Malformed = lit≤ tt
 macro_low macro.PrimitiveRefused = lit≤ tt
@@ -122,7 +122,7 @@ macro_low macro.RotationRefused = lit≤ tt
 macro_low macro.SizeRefused = lit≤ tt
 macro_low macro.OutOfMemory = lit≤ tt
 
-agrees_macro : (r : Result (List MacroPrimitive) MacroFault) → Agrees (macro_outcome r) (macro_faults r) (painted r)
+agrees_macro : (r : Result (List MacroPrimitive) MacroFault) → Agrees (macro_outcome r) (macro_faults r) (primitives_aperture r)
 agrees_macro (Ok prims) = record {
   made = λ b e. let same : Prims prims ≡ b = cc in ap Some same;
   faultless = λ b e n h. h;
@@ -130,18 +130,18 @@ agrees_macro (Ok prims) = record {
   low = λ n h. absurd h;
 }
 agrees_macro (Err fault) =
-    let n = refusal_of (of_macro fault) in
+    let n = aperture_refusal (of_macro fault) in
     record {
       made = λ b e. absurd cc;
       faultless = λ b e. absurd cc;
-      least = λ f e. told (λ g. IsLeast number_of ((n, true) ∷ []) (refusal_of g)) (of_macro fault) f (record { holds = inl (refl, refl); least = λ m h. omega (arith, ap number_of (one_row n m h)) }) e;
+      least = λ f e. told (λ g. IsLeast number_of ((n, true) ∷ []) (aperture_refusal g)) (of_macro fault) f (record { holds = inl (refl, refl); least = λ m h. omega (arith, ap number_of (one_row n m h)) }) e;
       low = λ m h. omega (arith, ap number_of (one_row n m h), macro_low fault);
     }
 
 -- the outcome of a template by the count of its parameters
 abbrev outcome_by : List ℕ → List Macro → FileUnit → ℕ → List ℤ → Result Aperture AdFault
 outcome_by name macros unit count values =
-    by_name name macros
+    by_template_name name macros
     (standard_outcome 1 count (circle unit values))
     (standard_outcome 2 count (rect unit values))
     (standard_outcome 2 count (obround unit values))
@@ -149,14 +149,14 @@ outcome_by name macros unit count values =
     (λ m. macro_outcome (expansion_of unit values m.parts))
 
 agrees_template : (name : List ℕ) (macros : List Macro) (unit : FileUnit) (count : ℕ) (values : List ℤ)
-    → Agrees (outcome_by name macros unit count values) (template_faults name macros unit count values) (aperture_of name macros unit values)
+    → Agrees (outcome_by name macros unit count values) (template_faults name macros unit count values) (template_aperture name macros unit values)
 agrees_template name macros unit count values =
     agrees_either (bytes_eq name (codes "C")) (agrees_standard 1 count (circle unit values))
     (agrees_either (bytes_eq name (codes "R")) (agrees_standard 2 count (rect unit values))
     (agrees_either (bytes_eq name (codes "O")) (agrees_standard 2 count (obround unit values))
     (agrees_either (bytes_eq name (codes "P")) agrees_refused
     (agrees_by_macro (named macros name) (λ m. macro_outcome (expansion_of unit values m.parts)) (λ m. macro_faults (expansion_of unit values m.parts))
-    (λ m. painted (expansion_of unit values m.parts)) agrees_refused (λ m. agrees_macro (expansion_of unit values m.parts))))))
+    (λ m. primitives_aperture (expansion_of unit values m.parts)) agrees_refused (λ m. agrees_macro (expansion_of unit values m.parts))))))
 
 -- as many values as parameters
 with_length : (v : Option ℤ) (vs : Option (List ℤ)) (values : List ℤ) (n : ℕ) → ((l : List ℤ) → vs ≡ Some l → length l ≡ n) → with_value v vs ≡ Some values → length values ≡ n + 1
@@ -174,7 +174,7 @@ abbrev table_by : Option ℕ → Option (List ℤ) → List ℕ → List Macro �
 table_by number values name macros unit count = (refusal.BadNumber, is_none number) ∷ (refusal.BadNumber, is_none values) ∷ template_faults name macros unit count (unwrap_or values [])
 
 record Whole (o : Result (ℕ × Aperture) AdFault) (t : Checks Refusal) : Type 0 where
-  pub least : (fault : AdFault) → o ≡ Err fault → IsLeast number_of t (refusal_of fault)
+  pub least : (fault : AdFault) → o ≡ Err fault → IsLeast number_of t (aperture_refusal fault)
   pub faultless : (made : ℕ × Aperture) → o ≡ Ok made → NoneHolds t
 
 from_table : (number : Option ℕ) (values : Option (List ℤ)) (name : List ℕ) (macros : List Macro) (unit : FileUnit) (count : ℕ) (r : Refusal)
@@ -196,7 +196,7 @@ whole_with (Ok aperture) t a number h = record {
 whole_with (Err fault) t a number h = record {
   least = λ f e.
       let l = h.least fault refl in
-      told (λ g. IsLeast number_of ((refusal.BadNumber, false) ∷ (refusal.BadNumber, false) ∷ t) (refusal_of g)) fault f
+      told (λ g. IsLeast number_of ((refusal.BadNumber, false) ∷ (refusal.BadNumber, false) ∷ t) (aperture_refusal g)) fault f
       (record { holds = inr (inr l.holds); least = λ m k. l.least m (behind_two t m k) }) e;
   faultless = λ made e. absurd cc;
 }
@@ -206,25 +206,25 @@ whole_by : (number : Option ℕ) (values : Option (List ℤ)) (name : List ℕ) 
     → Whole (with_number number values (template_outcome name macros unit)) (table_by number values name macros unit count)
 unfolding template_outcome
 whole_by None values name macros unit count long = record {
-  least = λ f e. told (λ g. IsLeast number_of (table_by None values name macros unit count) (refusal_of g)) BadNumber f
+  least = λ f e. told (λ g. IsLeast number_of (table_by None values name macros unit count) (aperture_refusal g)) BadNumber f
       (record { holds = inl (refl, refl); least = from_table None values name macros unit count }) e;
   faultless = λ made e. absurd cc;
 }
 whole_by (Some number) None name macros unit count long = record {
-  least = λ f e. told (λ g. IsLeast number_of (table_by (Some number) None name macros unit count) (refusal_of g)) BadNumber f
+  least = λ f e. told (λ g. IsLeast number_of (table_by (Some number) None name macros unit count) (aperture_refusal g)) BadNumber f
       (record { holds = inr (inl (refl, refl)); least = from_table (Some number) None name macros unit count }) e;
   faultless = λ made e. absurd cc;
 }
 whole_by (Some number) (Some values) name macros unit count long =
     subst (λ n. Whole (with_aperture number (outcome_by name macros unit (length values) values)) ((refusal.BadNumber, false) ∷ (refusal.BadNumber, false) ∷ template_faults name macros unit n values))
     (long values refl)
-    (whole_with (outcome_by name macros unit (length values) values) (template_faults name macros unit (length values) values) (aperture_of name macros unit values) number
+    (whole_with (outcome_by name macros unit (length values) values) (template_faults name macros unit (length values) values) (template_aperture name macros unit values) number
     (agrees_template name macros unit (length values) values))
 
 whole : (od : Option Definition) (macros : List Macro) (unit : FileUnit) → Whole (outcome od macros unit) (faults_of od macros unit)
 unfolding outcome
 whole None macros unit = record {
-  least = λ f e. told (λ g. IsLeast number_of ((refusal.UnknownCommand, true) ∷ []) (refusal_of g)) UnknownForm f
+  least = λ f e. told (λ g. IsLeast number_of ((refusal.UnknownCommand, true) ∷ []) (aperture_refusal g)) UnknownForm f
       (record { holds = inl (refl, refl); least = λ m h. omega (arith, ap number_of (one_row refusal.UnknownCommand m h)) }) e;
   faultless = λ made e. absurd cc;
 }
@@ -236,7 +236,7 @@ record Given (d : Definition) (macros : List Macro) (unit : FileUnit) (number : 
   pub values : List ℤ
   pub number_is : defined_number d.number ≡ Some number
   pub values_are : values_of d.parameters ≡ Some values
-  pub aperture_is : aperture_of d.name macros unit values ≡ Some aperture
+  pub aperture_is : template_aperture d.name macros unit values ≡ Some aperture
 
 given : (d : Definition) (macros : List Macro) (unit : FileUnit) (number : Option ℕ) (values : Option (List ℤ)) (made : ℕ × Aperture)
     → defined_number d.number ≡ number → values_of d.parameters ≡ values → with_number number values (template_outcome d.name macros unit) ≡ Ok made → Given d macros unit made.0 made.1
@@ -246,7 +246,7 @@ given d macros unit (Some number) None made e f g = absurd cc
 given d macros unit (Some number) (Some values) made e f g =
     by_aperture (outcome_by d.name macros unit (length values) values) (agrees_template d.name macros unit (length values) values) g
   where
-    by_aperture : (o : Result Aperture AdFault) → Agrees o (template_faults d.name macros unit (length values) values) (aperture_of d.name macros unit values)
+    by_aperture : (o : Result Aperture AdFault) → Agrees o (template_faults d.name macros unit (length values) values) (template_aperture d.name macros unit values)
         → with_aperture number o ≡ Ok made → Given d macros unit made.0 made.1
     by_aperture (Err fault) h g = absurd cc
     by_aperture (Ok aperture) h g =
@@ -268,10 +268,10 @@ found (Some d) macros unit made e = record {
   given = given d macros unit (defined_number d.number) (values_of d.parameters) made refl refl e;
 }
 
-pub is_defined : (text : List ℕ) (macros : List Macro) (unit : FileUnit) (made : ℕ × Aperture) → outcome (definition_of text) macros unit ≡ Ok made
+pub is_defined : (text : List ℕ) (macros : List Macro) (unit : FileUnit) (made : ℕ × Aperture) → outcome (template_form text) macros unit ≡ Ok made
     → IsDefined text macros unit made.0 made.1
 is_defined text macros unit made e =
-    let f = found (definition_of text) macros unit made e in
+    let f = found (template_form text) macros unit made e in
     record {
       definition = f.definition;
       values = f.given.values;
@@ -279,18 +279,18 @@ is_defined text macros unit made e =
       number_is = f.given.number_is;
       values_are = f.given.values_are;
       aperture_is = f.given.aperture_is;
-      faultless = (whole (definition_of text) macros unit).faultless made e;
+      faultless = (whole (template_form text) macros unit).faultless made e;
     }
 
-pub is_refused : (text : List ℕ) (macros : List Macro) (unit : FileUnit) (fault : AdFault) → IsErr fault (outcome (definition_of text) macros unit)
-    → IsRefused text macros unit fault
-is_refused text macros unit UnknownForm h = (whole (definition_of text) macros unit).least UnknownForm h
-is_refused text macros unit BadNumber h = (whole (definition_of text) macros unit).least BadNumber h
-is_refused text macros unit TemplateRefused h = (whole (definition_of text) macros unit).least TemplateRefused h
-is_refused text macros unit PrimitiveRefused h = (whole (definition_of text) macros unit).least PrimitiveRefused h
-is_refused text macros unit RotationRefused h = (whole (definition_of text) macros unit).least RotationRefused h
-is_refused text macros unit SizeRefused h = (whole (definition_of text) macros unit).least SizeRefused h
-is_refused text macros unit Malformed h = (whole (definition_of text) macros unit).least Malformed h
+pub is_refused : (text : List ℕ) (macros : List Macro) (unit : FileUnit) (fault : AdFault) → IsErr fault (outcome (template_form text) macros unit)
+    → IsDefinitionRefused text macros unit fault
+is_refused text macros unit UnknownForm h = (whole (template_form text) macros unit).least UnknownForm h
+is_refused text macros unit BadNumber h = (whole (template_form text) macros unit).least BadNumber h
+is_refused text macros unit TemplateRefused h = (whole (template_form text) macros unit).least TemplateRefused h
+is_refused text macros unit PrimitiveRefused h = (whole (template_form text) macros unit).least PrimitiveRefused h
+is_refused text macros unit RotationRefused h = (whole (template_form text) macros unit).least RotationRefused h
+is_refused text macros unit SizeRefused h = (whole (template_form text) macros unit).least SizeRefused h
+is_refused text macros unit Malformed h = (whole (template_form text) macros unit).least Malformed h
 is_refused text macros unit OutOfMemory h = tt
 
 -- the same of an answer of a call
@@ -300,6 +300,6 @@ answer_defined text bytes macros unit (Ok made) e h = is_defined text macros uni
 answer_defined text bytes macros unit (Err fault) e h = tt
 
 pub answer_refused : (text bytes : List ℕ) (macros : List Macro) (unit : FileUnit) (answer : Result (ℕ × Aperture) AdFault) → bytes ≡ packed text
-    → IfErr answer (λ fault. IsErr fault (outcome (definition bytes) macros unit)) → IfErr answer (IsRefused text macros unit)
+    → IfErr answer (λ fault. IsErr fault (outcome (definition bytes) macros unit)) → IfErr answer (IsDefinitionRefused text macros unit)
 answer_refused text bytes macros unit (Ok made) e h = tt
 answer_refused text bytes macros unit (Err fault) e h = is_refused text macros unit fault (rw e at h)

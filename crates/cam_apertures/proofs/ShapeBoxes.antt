@@ -29,8 +29,8 @@ use Rattle.cam_shapes.proofs.Reaches.{gap, leg, other_leg, reached}
 use Rattle.cam_macros.specs.declared.primitive.MacroPrimitive.{MacroPrimitive}
 use Rattle.cam_macros.specs.declared.primitive.PrimShape.{PrimShape}
 use Rattle.cam_macros.specs.declared.primitive.PrimShape.TheVariants.{Disc, Bar, Rect, Outline}
-use Rattle.cam_apertures.specs.Cover.{IsInShape, IsPainted}
-use Rattle.cam_apertures.specs.Primitives.{box_about, box_of_point, box_of_prims, box_of_shape}
+use Rattle.cam_apertures.specs.Cover.{IsInShape, IsExposed}
+use Rattle.cam_apertures.specs.Primitives.{box_about, box_of_point, box_of_prims, primitive_box}
 
 -- a place that is so far from a point lies in the box about the point
 pub within_box : (p : Point) (s : Spot) (w h : ℤ) → pos (unsigned_abs (seen_from p s).x) ≤ℤ w → pos (unsigned_abs (seen_from p s).y) ≤ℤ h
@@ -157,25 +157,25 @@ same z = omega (arith, ints)
 point_place : (p : Point) → Holds (box_of_point p) (place_of p)
 point_place p = record { left = same _; right = same _; below = same _; above = same _ }
 
-pub outline_box : (points : List Point) (s : Spot) → IsInContour s (outline_of points) → Holds (box_of_shape (Outline points)) s
+pub outline_box : (points : List Point) (s : Spot) → IsInContour s (outline_of points) → Holds (primitive_box (Outline points)) s
 outline_box [] s h = none_inside s h
 outline_box (p ∷ ps) s h =
-    let b = box_of_shape (Outline (p ∷ ps)) in
+    let b = primitive_box (Outline (p ∷ ps)) in
     let holds : All (λ q. Holds b (place_of q)) (p ∷ ps) = λ k d below. join_found box_of_point Empty (p ∷ ps) k d (place_of (get_or (p ∷ ps) k d)) below (point_place (get_or (p ∷ ps) k d)) in
     inside_box b (outline_of (p ∷ ps)) s (no_caps p ps) (holds 0 p (omega arith))
     (All-map (λ seg. Holds b (place_of (end_of seg))) (λ q. Line q) ps (All-tail (λ q. Holds b (place_of q)) p ps holds)) h
 
-pub shape_box : (shape : PrimShape) (s : Spot) → IsInShape shape s → Holds (box_of_shape shape) s
+pub shape_box : (shape : PrimShape) (s : Spot) → IsInShape shape s → Holds (primitive_box shape) s
 shape_box (Disc centre diameter) s h = disc_box centre s diameter h
 shape_box (Bar from to width) s h = bar_box from to width s h
 shape_box (Rect centre width height) s h = rectangle_box centre s width height h
 shape_box (Outline points) s h = outline_box points s h
 
 -- a place that primitives paint lies in their box
-pub painted_box : (prims : List MacroPrimitive) (s : Spot) → IsPainted prims s → Holds (box_of_prims prims) s
+pub painted_box : (prims : List MacroPrimitive) (s : Spot) → IsExposed prims s → Holds (box_of_prims prims) s
 painted_box prims s h =
     subst (λ ps. Holds (box_of_prims ps) s) (sym h.split)
-    (join_among (λ p. box_of_shape p.shape) Empty h.before h.prim h.after s (shape_box h.prim.shape s h.held))
+    (join_among (λ p. primitive_box p.shape) Empty h.before h.prim h.after s (shape_box h.prim.shape s h.held))
 
 -- obrounds
 along : (v : Vector) (n r : ℤ) → pos 0 ≤ℤ n → pos 0 <ℤ r → IsAlong v n r → (pos (unsigned_abs v.x) ≤ℤ (n +ℤ r)) × (pos (unsigned_abs v.y) ≤ℤ r)

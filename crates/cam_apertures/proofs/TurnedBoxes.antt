@@ -15,7 +15,7 @@ use Rattle.cam_shapes.specs.Plane.{place_of}
 use Rattle.cam_macros.specs.declared.primitive.MacroPrimitive.{MacroPrimitive}
 use Rattle.cam_macros.specs.declared.primitive.PrimShape.{PrimShape}
 use Rattle.cam_macros.specs.declared.primitive.PrimShape.TheVariants.{Disc, Bar, Rect, Outline}
-use Rattle.cam_apertures.specs.Primitives.{box_about, box_of_point, box_of_prims, box_of_shape}
+use Rattle.cam_apertures.specs.Primitives.{box_about, box_of_point, box_of_prims, primitive_box}
 use Rattle.cam_apertures.specs.Turned.{exchanges_axes, turned_box, turned_corners, turned_height, turned_point, turned_prim, turned_shape, turned_width}
 use Rattle.cam_apertures.proofs.Corners.{same_box}
 
@@ -130,7 +130,7 @@ square_turned t p w =
     sym (ap (λ v. about (turned_point t p) v v) (either_same (exchanges_axes t) w)) ∙ about_turned t p w w
 
 -- the box of a turned shape
-pub shape_turned : (t : Turn) (s : PrimShape) → box_of_shape (turned_shape t s) ≡ turned_box t (box_of_shape s)
+pub shape_turned : (t : Turn) (s : PrimShape) → primitive_box (turned_shape t s) ≡ turned_box t (primitive_box s)
 shape_turned t (Disc centre diameter) = square_turned t centre diameter
 shape_turned t (Bar from to width) =
     ap (λ b. join_of b (about (turned_point t to) width width)) (square_turned t from width)
@@ -141,4 +141,4 @@ shape_turned t (Outline points) = joins_turned t box_of_point (turned_point t) (
 
 -- the box of turned primitives
 pub prims_turned : (t : Turn) (prims : List MacroPrimitive) → box_of_prims (map (turned_prim t) prims) ≡ turned_box t (box_of_prims prims)
-prims_turned t prims = joins_turned t (λ p. box_of_shape p.shape) (turned_prim t) (λ p. shape_turned t p.shape) Empty prims
+prims_turned t prims = joins_turned t (λ p. primitive_box p.shape) (turned_prim t) (λ p. shape_turned t p.shape) Empty prims

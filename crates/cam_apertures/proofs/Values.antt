@@ -1,8 +1,8 @@
 -- The values of parameters, one after the other.
-use Rattle.std.proofs.Common.{◌≡◌, ℕ, suc, ℤ, List, [], ◌∷◌, ◌++◌, length, Option, Some, None, refl, ap, sym, append_assoc}
+use Rattle.std.proofs.Common.{◌≡◌, ℕ, suc, ℤ, List, [], ◌++◌, length, Option, Some, None}
 use Rattle.std.specs.Borrow.{Bor}
 use Rattle.std.specs.Option.{option_map}
-use Rattle.cam_apertures.specs.Definition.{values_of, with_value}
+use Rattle.cam_apertures.specs.Definition.{values_of}
 
 abbrev pub text_left : Option (Bor (List ℕ)) → ℕ
 text_left None = 0
@@ -14,7 +14,3 @@ behind values more = option_map (λ l. values ++ l) more
 
 abbrev pub AreReadBefore : List (List ℕ) → List (List ℕ) → List ℤ → Type 0
 AreReadBefore rest all values = values_of all ≡ behind values (values_of rest)
-
-pushed : (values : List ℤ) (v : ℤ) (o : Option (List ℤ)) → behind values (with_value (Some v) o) ≡ behind (values ++ v ∷ []) o
-pushed values v None = refl
-pushed values v (Some l) = ap Some (sym (append_assoc values (v ∷ []) l))

@@ -21,21 +21,21 @@ use Rattle.cam_apertures.specs.declared.aperture.Aperture.TheVariants.{Circle, R
 use Rattle.cam_apertures.specs.Turned.{turned_height, turned_prim, turned_width}
 
 -- the flash point
-abbrev pub origin : Point
-origin = record { x = pos 0; y = pos 0 }
+abbrev pub flash_point : Point
+flash_point = record { x = pos 0; y = pos 0 }
 
 -- shapes about the flash point; a mirror or a half turn does not change them, and a quarter turn
 -- exchanges their sides
 abbrev pub disc : Nm → ADisc
-disc diameter = record { centre = origin; diameter = diameter }
+disc diameter = record { centre = flash_point; diameter = diameter }
 
 abbrev pub rectangle : Turn → Nm → Nm → Rectangle
 rectangle t width height =
-    record { centre = origin; width = turned_width t width height; height = turned_height t width height }
+    record { centre = flash_point; width = turned_width t width height; height = turned_height t width height }
 
 abbrev pub obround : Turn → Nm → Nm → AnObround
 obround t width height =
-    record { centre = origin; width = turned_width t width height; height = turned_height t width height }
+    record { centre = flash_point; width = turned_width t width height; height = turned_height t width height }
 
 -- the place lies in the shape of a primitive, as it stands
 abbrev pub IsInShape : PrimShape → Spot → Type 0
@@ -46,7 +46,7 @@ IsInShape (Rectangular centre width height) s =
 IsInShape (Outline points) s = IsInContour s (outline_of points)
 
 -- the last of the primitives that holds the place has exposure 1
-pub record IsPainted (prims : List MacroPrimitive) (s : Spot) : Type 0 where
+pub record IsExposed (prims : List MacroPrimitive) (s : Spot) : Type 0 where
   pub before : List MacroPrimitive
   pub prim : MacroPrimitive
   pub after : List MacroPrimitive
@@ -60,4 +60,4 @@ abbrev pub IsCovered : Aperture → Turn → Spot → Type 0
 IsCovered (Circle diameter hole) t s = IsInDisc s (disc diameter) × ¬ IsInHole s (disc hole)
 IsCovered (Rect width height hole) t s = IsInRectangle s (rectangle t width height) × ¬ IsInHole s (disc hole)
 IsCovered (Obround width height hole) t s = IsInObround s (obround t width height) × ¬ IsInHole s (disc hole)
-IsCovered (Prims prims) t s = IsPainted (map (turned_prim t) prims) s
+IsCovered (Prims prims) t s = IsExposed (map (turned_prim t) prims) s

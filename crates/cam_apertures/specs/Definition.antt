@@ -24,7 +24,7 @@ use Rattle.cam_macros.specs.Expansion.{expansion_of}
 use Rattle.cam_apertures.specs.declared.aperture.Aperture.{Aperture}
 use Rattle.cam_apertures.specs.declared.aperture.Aperture.TheVariants.{Circle, Rect, Obround, Prims}
 use Rattle.cam_apertures.specs.declared.fault.AdFault.{AdFault}
-use Rattle.cam_apertures.specs.Faults.{of_macro, refusal_of}
+use Rattle.cam_apertures.specs.Faults.{of_macro, aperture_refusal}
 use Rattle.cam_numbers.specs.Numbers.{decimal, defined_number, is_numeric}
 
 -- the digits of the number, the name of the template, and the runs of the parameters
@@ -82,8 +82,8 @@ definition [] = None
 definition (first ∷ text) = if first == 68 then with_number (digits_of text) (behind_digits text) else None
 
 -- the form of a text, if it is one
-abbrev pub definition_of : List ℕ → Option Definition
-definition_of text = definition (packed text)
+abbrev pub template_form : List ℕ → Option Definition
+template_form text = definition (packed text)
 
 -- the value of each parameter in 10^-9 units, where all are decimals
 abbrev pub with_value : Option ℤ → Option (List ℤ) → Option (List ℤ)
@@ -110,15 +110,15 @@ abbrev pub obround : FileUnit → List ℤ → Aperture
 obround unit values = Obround (length_at unit values 0) (length_at unit values 1) (length_at unit values 2)
 
 -- the limits of sizes, as a test: diameters and holes from 0 to 200 mm, sides from 1 nm
-abbrev pub is_between : ℤ → ℤ → Bool
-is_between low n = int_le low n && int_le n (pos size_limit)
+abbrev pub is_size_between : ℤ → ℤ → Bool
+is_size_between low n = int_le low n && int_le n (pos size_limit)
 
 abbrev pub has_sizes : Aperture → Bool
-has_sizes (Circle diameter hole) = is_between (pos 0) diameter.0 && is_between (pos 0) hole.0
+has_sizes (Circle diameter hole) = is_size_between (pos 0) diameter.0 && is_size_between (pos 0) hole.0
 has_sizes (Rect width height hole) =
-    is_between (pos 1) width.0 && (is_between (pos 1) height.0 && is_between (pos 0) hole.0)
+    is_size_between (pos 1) width.0 && (is_size_between (pos 1) height.0 && is_size_between (pos 0) hole.0)
 has_sizes (Obround width height hole) =
-    is_between (pos 1) width.0 && (is_between (pos 1) height.0 && is_between (pos 0) hole.0)
+    is_size_between (pos 1) width.0 && (is_size_between (pos 1) height.0 && is_size_between (pos 0) hole.0)
 has_sizes (Prims prims) = true
 
 -- the macro of a name
@@ -131,22 +131,22 @@ by_macro (Some found) refused meaning = meaning found
 
 -- what is meant of a circle, a rectangle, an obround, a template that is refused, or a macro, by the
 -- name: `P` and unknown names are refused
-abbrev pub by_name : {A : Type 0} → List ℕ → List Macro → A → A → A → A → (Macro → A) → A
-by_name name macros c r o refused meaning =
+abbrev pub by_template_name : {A : Type 0} → List ℕ → List Macro → A → A → A → A → (Macro → A) → A
+by_template_name name macros c r o refused meaning =
     if bytes_eq name (codes "C") then c
     else (if bytes_eq name (codes "R") then r
     else (if bytes_eq name (codes "O") then o
     else (if bytes_eq name (codes "P") then refused else by_macro (named macros name) refused meaning)))
 
-abbrev pub painted : Result (List MacroPrimitive) MacroFault → Option Aperture
-painted (Ok prims) = Some (Prims prims)
-painted (Err fault) = None
+abbrev pub primitives_aperture : Result (List MacroPrimitive) MacroFault → Option Aperture
+primitives_aperture (Ok prims) = Some (Prims prims)
+primitives_aperture (Err fault) = None
 
 -- the aperture that a template makes of the values of its parameters
-abbrev pub aperture_of : List ℕ → List Macro → FileUnit → List ℤ → Option Aperture
-aperture_of name macros unit values =
-    by_name name macros (Some (circle unit values)) (Some (rect unit values)) (Some (obround unit values)) None
-    (λ m. painted (expansion_of unit values m.parts))
+abbrev pub template_aperture : List ℕ → List Macro → FileUnit → List ℤ → Option Aperture
+template_aperture name macros unit values =
+    by_template_name name macros (Some (circle unit values)) (Some (rect unit values)) (Some (obround unit values)) None
+    (λ m. primitives_aperture (expansion_of unit values m.parts))
 
 -- a standard template takes so many parameters at least, and one more for its hole
 abbrev pub standard_faults : ℕ → ℕ → Aperture → Checks Refusal
@@ -157,11 +157,11 @@ standard_faults fewest count aperture =
 -- the first faulty part of a macro tells one fault
 abbrev pub macro_faults : Result (List MacroPrimitive) MacroFault → Checks Refusal
 macro_faults (Ok prims) = []
-macro_faults (Err fault) = (refusal_of (of_macro fault), true) ∷ []
+macro_faults (Err fault) = (aperture_refusal (of_macro fault), true) ∷ []
 
 abbrev pub template_faults : List ℕ → List Macro → FileUnit → ℕ → List ℤ → Checks Refusal
 template_faults name macros unit count values =
-    by_name name macros
+    by_template_name name macros
     (standard_faults 1 count (circle unit values))
     (standard_faults 2 count (rect unit values))
     (standard_faults 2 count (obround unit values))
@@ -180,16 +180,16 @@ pub record IsDefined (text : List ℕ) (macros : List Macro) (unit : FileUnit) (
     : Type 0 where
   pub definition : Definition
   pub values : List ℤ
-  pub form : definition_of text ≡ Some definition
+  pub form : template_form text ≡ Some definition
   pub number_is : defined_number definition.number ≡ Some number
   pub values_are : values_of definition.parameters ≡ Some values
-  pub aperture_is : aperture_of definition.name macros unit values ≡ Some aperture
-  pub faultless : NoneHolds (faults_of (definition_of text) macros unit)
+  pub aperture_is : template_aperture definition.name macros unit values ≡ Some aperture
+  pub faultless : NoneHolds (faults_of (template_form text) macros unit)
 
 -- the fault of least number is told, or memory was refused
-abbrev pub IsRefused : List ℕ → List Macro → FileUnit → AdFault → Type 0
-IsRefused text macros unit fault = UnlessMemory (refusal_of fault)
-    (IsLeast number_of (faults_of (definition_of text) macros unit) (refusal_of fault))
+abbrev pub IsDefinitionRefused : List ℕ → List Macro → FileUnit → AdFault → Type 0
+IsDefinitionRefused text macros unit fault = UnlessMemory (aperture_refusal fault)
+    (IsLeast number_of (faults_of (template_form text) macros unit) (aperture_refusal fault))
 
 -- the number of the definition, where its form and its number are right
 abbrev pub numbered : Option Definition → Option ℕ

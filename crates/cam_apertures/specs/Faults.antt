@@ -8,15 +8,15 @@ use Rattle.cam_apertures.specs.declared.fault.AdFault.TheVariants.{UnknownForm, 
 use Rattle.cam_apertures.specs.declared.fault.AdFault.TheVariants.{PrimitiveRefused, RotationRefused, SizeRefused}
 use Rattle.cam_apertures.specs.declared.fault.AdFault.TheVariants.{Malformed, OutOfMemory}
 
-abbrev pub refusal_of : AdFault → Refusal
-refusal_of UnknownForm = refusal.UnknownCommand
-refusal_of BadNumber = refusal.BadNumber
-refusal_of TemplateRefused = refusal.TemplateRefused
-refusal_of PrimitiveRefused = refusal.PrimitiveRefused
-refusal_of RotationRefused = refusal.RotationRefused
-refusal_of SizeRefused = refusal.SizeRefused
-refusal_of Malformed = refusal.MacroFault
-refusal_of OutOfMemory = refusal.NoMemory
+abbrev pub aperture_refusal : AdFault → Refusal
+aperture_refusal UnknownForm = refusal.UnknownCommand
+aperture_refusal BadNumber = refusal.BadNumber
+aperture_refusal TemplateRefused = refusal.TemplateRefused
+aperture_refusal PrimitiveRefused = refusal.PrimitiveRefused
+aperture_refusal RotationRefused = refusal.RotationRefused
+aperture_refusal SizeRefused = refusal.SizeRefused
+aperture_refusal Malformed = refusal.MacroFault
+aperture_refusal OutOfMemory = refusal.NoMemory
 
 -- the refusal of a definition whose macro is refused so; no expansion is refused for its name
 abbrev pub of_macro : MacroFault → AdFault

@@ -42,12 +42,12 @@ HasNoOutline (Rect width height hole) = ⊤
 HasNoOutline (Obround width height hole) = ⊤
 HasNoOutline (Prims prims) = All (λ p. IsNoOutline p.shape) prims
 
-abbrev pub turned_place : Matrix → Spot → Spot
-turned_place m s = record { x = m.xx *ℤ s.x +ℤ m.xy *ℤ s.y; y = m.yx *ℤ s.x +ℤ m.yy *ℤ s.y }
+abbrev pub turned_spot : Matrix → Spot → Spot
+turned_spot m s = record { x = m.xx *ℤ s.x +ℤ m.xy *ℤ s.y; y = m.yx *ℤ s.x +ℤ m.yy *ℤ s.y }
 
 -- where turning back and then turning is no turn, a place is covered under the turn exactly where the
 -- place, turned back, is covered without
 abbrev pub TurnLaw : Type 0
 TurnLaw =
     (a : Aperture) (t back : Turn) (s : Spot) → HasNoOutline a → product (matrix_of t) (matrix_of back) ≡ matrix_of R0
-    → IsCovered a t s ↔ IsCovered a R0 (turned_place (matrix_of back) s)
+    → IsCovered a t s ↔ IsCovered a R0 (turned_spot (matrix_of back) s)

@@ -1,6 +1,5 @@
 pub mod Turned
 pub mod Primitives
-pub mod Views
 pub mod Cover
 pub mod Bounds
 pub mod Soundness

@@ -2,4 +2,3 @@
 pub mod Boxes
 pub mod Macros
 pub mod Outcomes
-pub mod Packing

@@ -45,13 +45,13 @@ abbrev pub box_of_point : Point → Bounds
 box_of_point p = Closed (place_of p) (place_of p)
 
 -- the box of a primitive's shape: of a bar the boxes of both ends, widened by its half width, joined
-abbrev pub box_of_shape : PrimShape → Bounds
-box_of_shape (Disc centre diameter) = box_about (place_of centre) diameter.0 diameter.0
-box_of_shape (Bar from to width) =
+abbrev pub primitive_box : PrimShape → Bounds
+primitive_box (Disc centre diameter) = box_about (place_of centre) diameter.0 diameter.0
+primitive_box (Bar from to width) =
     join_of (box_about (place_of from) width.0 width.0) (box_about (place_of to) width.0 width.0)
-box_of_shape (Rect centre width height) = box_about (place_of centre) width.0 height.0
-box_of_shape (Outline points) = fold (λ box p. join_of box (box_of_point p)) Empty points
+primitive_box (Rect centre width height) = box_about (place_of centre) width.0 height.0
+primitive_box (Outline points) = fold (λ box p. join_of box (box_of_point p)) Empty points
 
 -- the boxes of all primitives, painting or not, joined; of none the empty box
 abbrev pub box_of_prims : List MacroPrimitive → Bounds
-box_of_prims prims = fold (λ box p. join_of box (box_of_shape p.shape)) Empty prims
+box_of_prims prims = fold (λ box p. join_of box (primitive_box p.shape)) Empty prims

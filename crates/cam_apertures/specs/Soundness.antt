@@ -7,14 +7,14 @@ use Rattle.cam_apertures.specs.declared.aperture.Aperture.TheVariants.{Circle, R
 use Rattle.cam_apertures.specs.Primitives.{IsSoundPrim}
 
 -- a side of a rectangle or an obround, from 1 nm to 200 mm
-abbrev pub IsSide : ℤ → Type 0
-IsSide n = (pos 1 ≤ℤ n) × (n ≤ℤ pos size_limit)
+abbrev pub IsSideLength : ℤ → Type 0
+IsSideLength n = (pos 1 ≤ℤ n) × (n ≤ℤ pos size_limit)
 
 -- diameters and holes, from 0 to 200 mm, and sides
 abbrev pub IsSoundAperture : Aperture → Type 0
 IsSoundAperture (Circle diameter hole) = IsSize diameter.0 × IsSize hole.0
-IsSoundAperture (Rect width height hole) = IsSide width.0 × IsSide height.0 × IsSize hole.0
-IsSoundAperture (Obround width height hole) = IsSide width.0 × IsSide height.0 × IsSize hole.0
+IsSoundAperture (Rect width height hole) = IsSideLength width.0 × IsSideLength height.0 × IsSize hole.0
+IsSoundAperture (Obround width height hole) = IsSideLength width.0 × IsSideLength height.0 × IsSize hole.0
 IsSoundAperture (Prims prims) = All IsSoundPrim prims
 
 -- a circle without a hole, with which lines are drawn (Gerber Layer Format Specification, "Plotting")

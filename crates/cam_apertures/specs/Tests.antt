@@ -22,16 +22,16 @@ is_in_shape (Rectangular centre width height) s =
 is_in_shape (Outline points) s = is_in_contour s (outline_of points)
 
 -- the ink of a place after primitives gave it their exposure, in order, where they hold it
-abbrev pub painted : Bool → List MacroPrimitive → Spot → Bool
-painted ink [] s = ink
-painted ink (p ∷ ps) s = painted (if is_in_shape p.shape s then p.paint else ink) ps s
+abbrev pub ink_exposed : Bool → List MacroPrimitive → Spot → Bool
+ink_exposed ink [] s = ink
+ink_exposed ink (p ∷ ps) s = ink_exposed (if is_in_shape p.shape s then p.paint else ink) ps s
 
 -- the closed shape without the open hole; of a macro, what its turned primitives paint in order
 unfoldable pub is_covered : Aperture → Turn → Spot → Bool
 is_covered (Circle diameter hole) t s = is_in_disc s (disc diameter) && not (is_in_hole s (disc hole))
 is_covered (Rect width height hole) t s = is_in_rectangle s (rectangle t width height) && not (is_in_hole s (disc hole))
 is_covered (Obround width height hole) t s = is_in_obround s (obround t width height) && not (is_in_hole s (disc hole))
-is_covered (Prims prims) t s = painted false (map (turned_prim t) prims) s
+is_covered (Prims prims) t s = ink_exposed false (map (turned_prim t) prims) s
 
 -- the test holds exactly of the places that are covered
 abbrev pub TestLaw : Type 0

@@ -4,7 +4,7 @@ ghost use Rattle.std.specs.Prelude.{◌≡◌, ◌↔◌, IsTrue};
 ghost use Rattle.cam_units.specs.Board.{IsInReach};
 ghost use Rattle.cam_apertures.specs.Bounds.{bounds_of};
 ghost use Rattle.cam_apertures.specs.Cover.{IsCovered, disc};
-ghost use Rattle.cam_apertures.specs.Soundness.{IsSide, IsSolidCircle, IsSolidRect, IsSoundAperture};
+ghost use Rattle.cam_apertures.specs.Soundness.{IsSideLength, IsSolidCircle, IsSolidRect, IsSoundAperture};
 
 use crate::boxes::box_about;
 use crate::primitives::Primitives;
@@ -141,7 +141,7 @@ fn disc(diameter: Nm) -> Disc
 
 /// Whether a side is from 1 to 200,000,000 nm.
 fn is_side(length: Nm) -> bool
-    ensures { IsTrue result ↔ IsSide length.0 }
+    ensures { IsTrue result ↔ IsSideLength length.0 }
 {
     0 < length.0 && fits_size(length)
 }

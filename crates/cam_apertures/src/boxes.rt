@@ -3,11 +3,11 @@
 ghost use Rattle.std.specs.Prelude.{◌≡◌, ◌^◌, ◌<◌, ◌↔◌, All, IsTrue};
 ghost use Rattle.std.specs.Int.RustNames.{unsigned_abs};
 ghost use Rattle.cam_units.specs.Board.{IsSize};
-ghost use Rattle.cam_units.specs.Boxes.{Holds, IsBetween};
+ghost use Rattle.cam_units.specs.Boxes.{Holds, IsInBox};
 ghost use Rattle.cam_shapes.specs.Plane.{place_of};
 ghost use Rattle.cam_macros.specs.declared.primitive.PrimShape.TheVariants.{Outline};
 ghost use Rattle.cam_apertures.specs.Primitives.{IsMacroPoint, IsSoundPrim, IsSoundShape, box_about, box_of_point};
-ghost use Rattle.cam_apertures.specs.Primitives.{box_of_prims, box_of_shape};
+ghost use Rattle.cam_apertures.specs.Primitives.{box_of_prims, primitive_box};
 ghost use Rattle.cam_apertures.specs.Machinery.Boxes.{IsSmallBox, across, reversed, spanned, up};
 ghost use Rattle.cam_apertures.specs.Turned.{IsTurnableBox, turned_box};
 
@@ -92,7 +92,7 @@ pub fn turned(bounds: Bounds, turn: Turn) -> Bounds
 
 /// Whether the place lies between the corners or on an edge.
 fn is_between(low: Spot, high: Spot, spot: Spot) -> bool
-    ensures { IsTrue result ↔ IsBetween low high spot }
+    ensures { IsTrue result ↔ IsInBox low high spot }
 {
     if spot.x < low.x {
         return false;
@@ -157,7 +157,7 @@ fn box_of_point(point: Point) -> Bounds
 /// The least box of the points.
 fn box_of_points(points: &[Point]) -> Bounds
     requires { All IsMacroPoint points.now }
-    ensures value { result ≡ box_of_shape (Outline points.now) }
+    ensures value { result ≡ primitive_box (Outline points.now) }
     ensures small { IsSmallBox result }
 {
     let mut bounds = Bounds::Empty;
@@ -168,9 +168,9 @@ fn box_of_points(points: &[Point]) -> Bounds
 }
 
 /// The box of the shape as it stands.
-fn box_of_shape(shape: &PrimShape) -> Bounds
+fn primitive_box(shape: &PrimShape) -> Bounds
     requires { IsSoundShape shape.now }
-    ensures value { result ≡ box_of_shape shape.now }
+    ensures value { result ≡ primitive_box shape.now }
     ensures small { IsSmallBox result }
 {
     match shape {
@@ -195,7 +195,7 @@ pub(crate) fn box_of_prims(prims: &[Prim]) -> Bounds
 {
     let mut bounds = Bounds::Empty;
     for prim in prims {
-        bounds = bounds.joined(box_of_shape(&prim.shape));
+        bounds = bounds.joined(primitive_box(&prim.shape));
     }
     bounds
 }

@@ -5,9 +5,9 @@ ghost use Rattle.std.specs.Char.{is_ascii_digit};
 ghost use Rattle.std.specs.List.{before_first, list_all, position_or_len, prefix_len, slice_split};
 ghost use Rattle.std.specs.Option.{option_copied};
 ghost use Rattle.cam_words.specs.Heads.{packed};
-ghost use Rattle.cam_apertures.specs.Definition.{are_runs, behind_comma, circle, definition, definition_of, is_comma};
+ghost use Rattle.cam_apertures.specs.Definition.{are_runs, behind_comma, circle, definition, template_form, is_comma};
 ghost use Rattle.cam_apertures.specs.Definition.{is_of_runs, length_at, numbered, obround, parameters_of};
-ghost use Rattle.cam_apertures.specs.Definition.{pieces_of, rect, values_of, with_number, IsDefined, IsRefused};
+ghost use Rattle.cam_apertures.specs.Definition.{pieces_of, rect, values_of, with_number, IsDefined, IsDefinitionRefused};
 ghost use Rattle.cam_apertures.specs.declared.fault.AdFault.TheVariants.{BadNumber};
 ghost use Rattle.cam_apertures.specs.Machinery.Outcomes.{outcome, standard_outcome, template_outcome};
 ghost use Rattle.cam_apertures.specs.Machinery.Outcomes.{IsErr};
@@ -35,7 +35,7 @@ pub fn parse_ad(
     unit: Unit,
 ) -> Result<(u32, Aperture), AdFault>
     ensures ok { IfOk result (λ made. IsDefined text.now macros.old unit made.0 made.1) }
-    ensures fault { IfErr result (IsRefused text.now macros.old unit) }
+    ensures fault { IfErr result (IsDefinitionRefused text.now macros.old unit) }
     ensures macros { macros.new ≡ macros.old }
 {
     let text = pack(alloc, text)?;
@@ -45,7 +45,7 @@ pub fn parse_ad(
 /// The number of the aperture that the text behind `AD` would define; `None` where its form or its
 /// number is wrong. An error where no memory is left to read it.
 pub fn ad_number(alloc: Global, text: &[u8]) -> Result<Option<u32>, AllocError>
-    ensures { IfOk result (λ number. number ≡ numbered (definition_of text.now)) }
+    ensures { IfOk result (λ number. number ≡ numbered (template_form text.now)) }
 {
     let text = pack(alloc, text)?;
     let Some(definition) = Definition::read(text.as_slice()) else {

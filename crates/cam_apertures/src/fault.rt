@@ -2,7 +2,7 @@
 
 ghost use Rattle.std.specs.Prelude.{◌≡◌};
 ghost use Rattle.cam_refusals.specs.Refusals.{number_of};
-ghost use Rattle.cam_apertures.specs.Faults.{of_macro, refusal_of};
+ghost use Rattle.cam_apertures.specs.Faults.{of_macro, aperture_refusal};
 ghost use Rattle.cam_apertures.specs.declared.fault.AdFault.TheVariants.{OutOfMemory};
 
 use cam_macros::MacroFault;
@@ -37,7 +37,7 @@ pub enum AdFault {
 impl AdFault {
     /// The refusal that tells it.
     pub fn refusal(self) -> Refusal
-        ensures { result ≡ refusal_of self }
+        ensures { result ≡ aperture_refusal self }
     {
         match self {
             AdFault::UnknownForm => Refusal::UnknownCommand,
@@ -53,7 +53,7 @@ impl AdFault {
 
     /// The number by which it is told: 3, 4, 11, 12, 13, 24, 29 or 30.
     pub fn number(self) -> u8
-        ensures { result ≡ number_of (refusal_of self) }
+        ensures { result ≡ number_of (aperture_refusal self) }
     {
         self.refusal().number()
     }

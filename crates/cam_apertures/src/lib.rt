@@ -10,28 +10,37 @@
 //!   [`Aperture::is_solid_rect`]: whether straight lines may.
 //! - [`turned`]: a box, mirrored and turned; [`has_place`]: whether a place lies in a box.
 //! - [`turned_width`], [`turned_height`]: the sides of a shape, once it is turned.
-//! - [`Primitives`]: the primitives of a macro in 24 bytes each, with the box of all of them kept beside
-//!   them; [`PrimitiveView`]: one of them as it is read.
+//! - [`Primitives`]: the primitives of a macro, with the box of all of them kept beside them.
 //! - [`Macros`]: the macros of a file, each found by its name.
 //! - [`parse_ad`]: the aperture that a definition of a Gerber file stands for, or the fault of least
 //!   number; [`ad_number`]: its number alone.
 //!
 //! What an aperture covers stands in `specs/Cover.antt`, its box in `specs/Bounds.antt`, its limits
 //! in `specs/Soundness.antt`, and what a definition stands for in `specs/Definition.antt`.
+//!
+//! ```rust
+//! use cam_apertures::{Macros, parse_ad};
+//! use cam_units::{Spot, Turn, Unit};
+//!
+//! let mut macros = Macros::new(alloc);
+//! // what stands behind `%AD`: aperture 10 is a rectangle of 2 mm by 1 mm
+//! let (number, pad) = parse_ad(alloc, b"D10R,2X1", &mut macros, Unit::Mm)?;
+//! assert!(rt; number == 10 && pad.is_sound());
+//! // places are in half nm from the flash point; turned by 90 degrees, it stands upright
+//! let right = Spot { x: 2_000_000, y: 0 };
+//! assert!(rt; pad.covers(right, Turn::R0) && !pad.covers(right, Turn::R90));
+//! ```
 #![tactic(auto)]
 
 mod aperture;
 mod boxes;
 mod definition;
 mod fault;
-mod kept;
 mod laws;
 mod macros;
-mod packed;
 mod primitives;
 mod shape;
 mod sides;
-mod view;
 
 pub use aperture::Aperture;
 pub use boxes::{has_place, turned};
@@ -43,4 +52,3 @@ pub use laws::{
 pub use macros::Macros;
 pub use primitives::Primitives;
 pub use sides::{turned_height, turned_width};
-pub use view::{PrimitiveView, ShapeView};

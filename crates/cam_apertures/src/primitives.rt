@@ -2,16 +2,13 @@
 
 ghost use Rattle.std.specs.Prelude.{◌≡◌, ◌↔◌, ◌<◌, [], All, IfOk, IsTrue, Some, length, map, slice_get};
 ghost use Rattle.cam_units.specs.Board.{IsInReach};
-ghost use Rattle.cam_apertures.specs.Cover.{IsPainted};
+ghost use Rattle.cam_apertures.specs.Cover.{IsExposed};
 ghost use Rattle.cam_apertures.specs.Primitives.{IsSoundPrim, box_of_prims};
 ghost use Rattle.cam_apertures.specs.Turned.{turned_prim};
-ghost use Rattle.cam_apertures.specs.Views.{primitive_of};
 
 use crate::boxes::{box_of_prims, has_place, turned};
-use crate::packed::Packed;
 use crate::shape::holds;
-use crate::view::PrimitiveView;
-use cam_macros::Prims;
+use cam_macros::{Prim, Prims};
 use cam_units::{Bounds, Spot, Turn};
 use std::alloc::{AllocError, Global};
 use std::marker::Model;
@@ -26,7 +23,7 @@ pub struct Primitives {
 /// Primitives, and the box of all of them beside them.
 #[derive(Debug, Drop)]
 struct Boxed {
-    prims: Packed,
+    prims: Prims,
     bounds: Bounds,
 }
 
@@ -50,7 +47,6 @@ impl Primitives {
         ensures { IfOk result (λ made. made ≡ prims) }
     {
         let bounds = box_of_prims(prims.as_slice());
-        let prims = Packed::from_prims(alloc, prims)?;
         match Rc::new(alloc, Boxed { prims, bounds }) {
             Ok(shared) => Ok(Primitives { shared }),
             Err(_) => Err(AllocError),
@@ -61,7 +57,7 @@ impl Primitives {
     pub fn len(&self) -> usize
         ensures { result ≡ length self.now }
     {
-        self.shared.prims.len()
+        self.shared.prims.as_slice().len()
     }
 
     /// Whether there is none.
@@ -72,23 +68,23 @@ impl Primitives {
     }
 
     /// The primitive at a place in the order, counted from 0.
-    pub fn at(&self, place: usize) -> PrimitiveView<'_>
+    pub fn at(&self, place: usize) -> &Prim
         requires { place < length self.now }
-        ensures { slice_get self.now place ≡ Some (primitive_of result) }
+        ensures { slice_get self.now place ≡ Some result.now }
     {
-        self.shared.prims.at(place)
+        &self.shared.prims.as_slice()[place]
     }
 
     /// Whether the last primitive that holds the place, once they are turned, paints; false where
     /// none holds it.
     pub fn covers(&self, spot: Spot, turn: Turn) -> bool
         requires { IsInReach spot }
-        ensures { IsTrue result ↔ IsPainted (map (turned_prim turn) self.now) spot }
+        ensures { IsTrue result ↔ IsExposed (map (turned_prim turn) self.now) spot }
     {
         if !has_place(self.bounds(turn), spot) {
             return false;
         }
-        is_painted(&self.shared.prims, spot, turn)
+        is_painted(self.shared.prims.as_slice(), spot, turn)
     }
 
     /// Whether all are within the limits: always, since no others are made.
@@ -108,14 +104,14 @@ impl Primitives {
 }
 
 /// Whether the last of the primitives that holds the place, once they are turned, paints.
-fn is_painted(prims: &Packed, spot: Spot, turn: Turn) -> bool
+fn is_painted(prims: &[Prim], spot: Spot, turn: Turn) -> bool
     requires prims { All IsSoundPrim prims.now }
     requires spot { IsInReach spot }
-    ensures { IsTrue result ↔ IsPainted (map (turned_prim turn) prims.now) spot }
+    ensures { IsTrue result ↔ IsExposed (map (turned_prim turn) prims.now) spot }
 {
     for place in (0..prims.len()).rev() {
-        let prim = prims.at(place);
-        if holds(prim.shape, spot, turn) {
+        let prim = &prims[place];
+        if holds(&prim.shape, spot, turn) {
             return prim.paint;
         }
     }

@@ -4,9 +4,9 @@ use Rattle.cam_units.specs.declared.length.Unit.{Unit as FileUnit}
 use Rattle.cam_macros.specs.declared.expansion.arithmetic.Fixed.{Fixed}
 use Rattle.cam_macros.specs.declared.fault.MacroFault.TheVariants.{Malformed}
 use Rattle.cam_macros.specs.Machinery.Values.{numbers}
-use Rattle.cam_macros.specs.Expansion.{turn_of, disc_of, bar_of, rect_of, outline_of}
+use Rattle.cam_macros.specs.Expansion.{rotation_field, disc_of, bar_of, rect_of, outline_made}
 
-pub turn_short : (fields : List Fixed) → 2 ≤ length fields → turn_of (numbers fields) ≡ Err Malformed
+pub turn_short : (fields : List Fixed) → 2 ≤ length fields → rotation_field (numbers fields) ≡ Err Malformed
 turn_short [] h = absurd (omega (arith, h))
 turn_short (_ ∷ []) h = absurd (omega (arith, h))
 turn_short (_ ∷ _ ∷ _) h = refl
@@ -39,7 +39,7 @@ rect_short unit (_ ∷ _ ∷ _ ∷ _ ∷ []) h = refl
 rect_short unit (_ ∷ _ ∷ _ ∷ _ ∷ _ ∷ _) h = absurd (omega (arith, h))
 
 pub outline_short : (unit : FileUnit) (fields : List Fixed) → length fields < 2
-    → outline_of unit (numbers fields) ≡ Err Malformed
+    → outline_made unit (numbers fields) ≡ Err Malformed
 outline_short unit [] h = refl
 outline_short unit (_ ∷ []) h = refl
 outline_short unit (_ ∷ _ ∷ _) h = absurd (omega (arith, h))

@@ -9,7 +9,7 @@ use Rattle.cam_macros.specs.declared.fault.MacroFault.{MacroFault}
 use Rattle.cam_macros.specs.declared.fault.MacroFault.TheVariants.{BadName, Malformed, PrimitiveRefused}
 use Rattle.cam_macros.specs.declared.fault.MacroFault.TheVariants.{RotationRefused, SizeRefused, OutOfMemory}
 use Rattle.cam_macros.specs.Answers.{IsUnlessMemory}
-use Rattle.cam_macros.specs.Arithmetic.{Values, value_of}
+use Rattle.cam_macros.specs.Arithmetic.{Values, tree_value}
 use Rattle.cam_macros.specs.Expansion.{all_worth, ◌>>=◌}
 use Rattle.cam_macros.specs.Machinery.Scanning.{IsFaultOf}
 use Rattle.cam_macros.specs.Machinery.Stack.{answers, run, stack_of}
@@ -72,7 +72,7 @@ answers_are : (values : Values) (trees : List Tree) (stack : List ℤ)
 answers_are values [] stack = ap Ok (sym (append-nil (reverse stack)))
 answers_are values (t ∷ trees) stack =
     ap answers (run-postfix values t (postfixes trees) stack)
-    ∙ by_value values trees stack (value_of values t) (answers_are values trees)
+    ∙ by_value values trees stack (tree_value values t) (answers_are values trees)
 
 as_it_is : (x : Result (List ℤ) MacroFault) → (x >>= λ vs. Ok ([] ++ vs)) ≡ x
 as_it_is (Ok vs) = refl

@@ -19,9 +19,9 @@ use Rattle.cam_macros.specs.Grammar.{OneFactor, Multiplied, Factor, Signed, sign
 use Rattle.cam_macros.specs.Grammar.{sum_text, term_text, factor_text, sum_count, term_count, factor_count}
 use Rattle.cam_macros.specs.Grammar.{IsNumber, IsDecimal, IsVariable, IsSum, IsTerm, IsFactor, sign_operator}
 use Rattle.cam_macros.specs.Grammar.{cross_operator, decimal_tree, sum_tree, term_tree, factor_tree}
-use Rattle.cam_macros.specs.Scanning.{Behind, is_numeric, level_of, mark_of, number_of, Scan, scan, scan_of}
+use Rattle.cam_macros.specs.Scanning.{Behind, is_run_byte, level_of, mark_of, number_of_run, Scan, scan, scan_of}
 use Rattle.cam_macros.specs.Scanning.{variable_by, variable_of, waiting, Wanted, with_operand}
-use Rattle.cam_macros.specs.Bytes.{closing, dollar, large_x, minus, opening, plus, point, slash, small_x}
+use Rattle.cam_macros.specs.Bytes.{closing, dollar, large_x, minus_sign, opening_parenthesis, plus, decimal_point, slash, small_x}
 
 -- leaves
 
@@ -32,7 +32,7 @@ pub record IsLeaf (run : List ℕ) (v : ℕ) : Type 0 where
   pub same : decimal_tree leaf ≡ Number v
 
 leaf_written : (run whole decimals : List ℕ) (v : ℕ) → IsNumber whole decimals → number_written whole decimals ≡ v
-    → (decimals ≡ [] × run ≡ whole) ⊎ (run ≡ whole ++ point ∷ decimals) → IsLeaf run v
+    → (decimals ≡ [] × run ≡ whole) ⊎ (run ≡ whole ++ decimal_point ∷ decimals) → IsLeaf run v
 leaf_written run whole decimals v h e (inl w) = record {
   leaf = Whole whole;
   written = sym w.1;
@@ -42,7 +42,7 @@ leaf_written run whole decimals v h e (inl w) = record {
 leaf_written run whole decimals v h e (inr w) =
     record { leaf = Pointed whole decimals; written = sym w; fits = h; same = ap Number e }
 
-pub leaf_of : (run : List ℕ) (v : ℕ) → number_of run ≡ Some v → IsLeaf run v
+pub leaf_of : (run : List ℕ) (v : ℕ) → number_of_run run ≡ Some v → IsLeaf run v
 leaf_of run v n =
     let r = was_written run v n in
     let p = r.parts in
@@ -74,10 +74,10 @@ variable_found digits v e = go (natural digits) refl e
 abbrev pub IsMarked : Mark → ℕ → Type 0
 IsMarked Mark.Numeral b = Unit {0}
 IsMarked Mark.Dollar b = b ≡ dollar
-IsMarked Mark.Open b = b ≡ opening
+IsMarked Mark.Open b = b ≡ opening_parenthesis
 IsMarked Mark.Close b = b ≡ closing
 IsMarked Mark.Plus b = b ≡ plus
-IsMarked Mark.Minus b = b ≡ minus
+IsMarked Mark.Minus b = b ≡ minus_sign
 IsMarked Mark.Times b = (b ≡ small_x) ⊎ (b ≡ large_x)
 IsMarked Mark.Over b = b ≡ slash
 IsMarked Mark.Other b = Unit {0}
@@ -96,12 +96,12 @@ either b =
 
 pub marked : (b : ℕ) → IsMarked (mark_of b) b
 marked b =
-    choice b (is_numeric b) Mark.Numeral _ (λ e. tt)
+    choice b (is_run_byte b) Mark.Numeral _ (λ e. tt)
     (choice b (b == dollar) Mark.Dollar _ (eqb-true b dollar)
-    (choice b (b == opening) Mark.Open _ (eqb-true b opening)
+    (choice b (b == opening_parenthesis) Mark.Open _ (eqb-true b opening_parenthesis)
     (choice b (b == closing) Mark.Close _ (eqb-true b closing)
     (choice b (b == plus) Mark.Plus _ (eqb-true b plus)
-    (choice b (b == minus) Mark.Minus _ (eqb-true b minus)
+    (choice b (b == minus_sign) Mark.Minus _ (eqb-true b minus_sign)
     (choice b ((b == small_x) || (b == large_x)) Mark.Times _ (either b)
     (choice b (b == slash) Mark.Over Mark.Other (eqb-true b slash) tt)))))))
 
@@ -140,7 +140,7 @@ opened_text l = sum_part_text l.sum ++ (term_part_text l.term ++ signs_text l.si
 
 abbrev pub outer_text : List Opened → List ℕ
 outer_text [] = []
-outer_text (l ∷ ls) = outer_text ls ++ (opened_text l ++ opening ∷ [])
+outer_text (l ∷ ls) = outer_text ls ++ (opened_text l ++ opening_parenthesis ∷ [])
 
 abbrev pub sum_part_steps : SumPart → List Step
 sum_part_steps NoSum = []

@@ -23,15 +23,15 @@ use Rattle.cam_macros.specs.Grammar.{Added, Term, OneFactor, Multiplied, Factor,
 use Rattle.cam_macros.specs.Grammar.{sign_byte, cross_byte, sum_text, term_text, factor_text, sum_count, term_count}
 use Rattle.cam_macros.specs.Grammar.{factor_count, AreDigits, IsNumber, IsVariable, IsSum, IsTerm, IsFactor}
 use Rattle.cam_macros.specs.Grammar.{sign_operator, cross_operator, sum_tree, term_tree, factor_tree, IsExpression}
-use Rattle.cam_macros.specs.Scanning.{Behind, fresh, goes_on, InNumber, InVariable, is_numeric, level_of, mark_of}
-use Rattle.cam_macros.specs.Scanning.{number_of, operand_at, operator_at, scan, Scan, scan_of, scanned, variable_by}
-use Rattle.cam_macros.specs.Scanning.{variable_of, waiting, Wanted, with_operand, with_step}
-use Rattle.cam_macros.specs.Bytes.{closing, dollar, opening, point}
+use Rattle.cam_macros.specs.Scanning.{Behind, fresh_level, goes_on, InNumber, InVariable, is_run_byte, level_of, mark_of}
+use Rattle.cam_macros.specs.Scanning.{number_of_run, operand_at, operator_at, scan, Scan, scan_of, scanned, variable_by}
+use Rattle.cam_macros.specs.Scanning.{variable_of, waiting, Wanted, with_operand, step_scanned}
+use Rattle.cam_macros.specs.Bytes.{closing, dollar, opening_parenthesis, decimal_point}
 
 -- what follows is no part of a number or a variable
 abbrev pub IsApart : List ℕ → Type 0
 IsApart [] = Unit {0}
-IsApart (b ∷ _) = is_numeric b ≡ false
+IsApart (b ∷ _) = is_run_byte b ≡ false
 
 -- behind a whole number or variable
 after_number : (s : Scan) (rest : List ℕ) → IsApart rest → scan InNumber s rest ≡ scan Behind s rest
@@ -50,7 +50,7 @@ unfolding scan
 after_variable s [] apart = refl
 after_variable s (b ∷ rest) apart =
     ap (λ v. goes_on (cond v (Some (InVariable, s)) (operator_at (mark_of b) s)) (λ status' s'. scan status' s' rest))
-    (or_left (is_ascii_digit b) (b == point) apart)
+    (or_left (is_ascii_digit b) (b == decimal_point) apart)
 
 and_left : (a b : Bool) → a && b ≡ true → a ≡ true
 and_left true b h = refl
@@ -61,14 +61,14 @@ and_right true b h = h
 and_right false b h = cc
 
 -- within a number, and within a variable
-in_number : (s : Scan) (run rest : List ℕ) → list_all is_numeric run ≡ true
+in_number : (s : Scan) (run rest : List ℕ) → list_all is_run_byte run ≡ true
     → scan InNumber s (run ++ rest) ≡ scan InNumber s rest
 unfolding scan
 in_number s [] rest h = refl
 in_number s (b ∷ run) rest h =
     ap (λ v. goes_on (cond v (Some (InNumber, s)) (operator_at (mark_of b) s))
-    (λ status' s'. scan status' s' (run ++ rest))) (and_left (is_numeric b) (list_all is_numeric run) h)
-    ∙ in_number s run rest (and_right (is_numeric b) (list_all is_numeric run) h)
+    (λ status' s'. scan status' s' (run ++ rest))) (and_left (is_run_byte b) (list_all is_run_byte run) h)
+    ∙ in_number s run rest (and_right (is_run_byte b) (list_all is_run_byte run) h)
 
 in_variable : (s : Scan) (run rest : List ℕ) → list_all is_ascii_digit run ≡ true
     → scan InVariable s (run ++ rest) ≡ scan InVariable s rest
@@ -92,49 +92,49 @@ run_ends p (b ∷ run) rest h apart =
     ∙ take_one (prefix_len p (run ++ rest)) b (run ++ rest)
     ∙ ap (λ l. b ∷ l) (run_ends p run rest (and_right (p b) (list_all p run) h) apart)
 
-apart_head : (rest : List ℕ) → IsApart rest → (b : ℕ) (bs : List ℕ) → rest ≡ b ∷ bs → is_numeric b ≡ false
+apart_head : (rest : List ℕ) → IsApart rest → (b : ℕ) (bs : List ℕ) → rest ≡ b ∷ bs → is_run_byte b ≡ false
 apart_head [] apart b bs e = cc
-apart_head (c ∷ rest) apart b bs e = let same : c ≡ b = cc in ap is_numeric (sym same) ∙ apart
+apart_head (c ∷ rest) apart b bs e = let same : c ≡ b = cc in ap is_run_byte (sym same) ∙ apart
 
-run_numeric : (run rest : List ℕ) → list_all is_numeric run ≡ true → IsApart rest
-    → take_while is_numeric (run ++ rest) ≡ run
-run_numeric run rest h apart = run_ends is_numeric run rest h (apart_head rest apart)
+run_numeric : (run rest : List ℕ) → list_all is_run_byte run ≡ true → IsApart rest
+    → take_while is_run_byte (run ++ rest) ≡ run
+run_numeric run rest h apart = run_ends is_run_byte run rest h (apart_head rest apart)
 
 run_digits : (run rest : List ℕ) → list_all is_ascii_digit run ≡ true → IsApart rest
     → take_while is_ascii_digit (run ++ rest) ≡ run
 run_digits run rest h apart =
     run_ends is_ascii_digit run rest h
-    (λ b bs e. or_left (is_ascii_digit b) (b == point) (apart_head rest apart b bs e))
+    (λ b bs e. or_left (is_ascii_digit b) (b == decimal_point) (apart_head rest apart b bs e))
 
-mark_numeric : (b : ℕ) → is_numeric b ≡ true → mark_of b ≡ Mark.Numeral
+mark_numeric : (b : ℕ) → is_run_byte b ≡ true → mark_of b ≡ Mark.Numeral
 mark_numeric b h = rw h refl
 
-number_read : (s : Scan) (b : ℕ) (run rest : List ℕ) (n : ℕ) → list_all is_numeric (b ∷ run) ≡ true
-    → number_of (b ∷ run) ≡ Some n → IsApart rest
-    → scan Wanted s (b ∷ (run ++ rest)) ≡ scan Behind (with_step (Push n) s) rest
+number_read : (s : Scan) (b : ℕ) (run rest : List ℕ) (n : ℕ) → list_all is_run_byte (b ∷ run) ≡ true
+    → number_of_run (b ∷ run) ≡ Some n → IsApart rest
+    → scan Wanted s (b ∷ (run ++ rest)) ≡ scan Behind (step_scanned (Push n) s) rest
 unfolding scan
 number_read s b run rest n h e apart =
     ap (λ m. goes_on (operand_at m s b (run ++ rest)) (λ status' s'. scan status' s' (run ++ rest)))
-    (mark_numeric b (and_left (is_numeric b) (list_all is_numeric run) h))
-    ∙ ap (λ l. goes_on (option_map (λ n. (InNumber, with_step (Push n) s)) (number_of (b ∷ l)))
+    (mark_numeric b (and_left (is_run_byte b) (list_all is_run_byte run) h))
+    ∙ ap (λ l. goes_on (option_map (λ n. (InNumber, step_scanned (Push n) s)) (number_of_run (b ∷ l)))
     (λ status' s'. scan status' s' (run ++ rest)))
-    (run_numeric run rest (and_right (is_numeric b) (list_all is_numeric run) h) apart)
-    ∙ ap (λ o. goes_on (option_map (λ n. (InNumber, with_step (Push n) s)) o)
+    (run_numeric run rest (and_right (is_run_byte b) (list_all is_run_byte run) h) apart)
+    ∙ ap (λ o. goes_on (option_map (λ n. (InNumber, step_scanned (Push n) s)) o)
     (λ status' s'. scan status' s' (run ++ rest))) e
-    ∙ in_number (with_step (Push n) s) run rest (and_right (is_numeric b) (list_all is_numeric run) h)
-    ∙ after_number (with_step (Push n) s) rest apart
+    ∙ in_number (step_scanned (Push n) s) run rest (and_right (is_run_byte b) (list_all is_run_byte run) h)
+    ∙ after_number (step_scanned (Push n) s) rest apart
 
 variable_read : (s : Scan) (run rest : List ℕ) (n : ℕ) → list_all is_ascii_digit run ≡ true → variable_of run ≡ Some n
     → IsApart rest
-    → scan Wanted s (dollar ∷ (run ++ rest)) ≡ scan Behind (with_step (Read n) s) rest
+    → scan Wanted s (dollar ∷ (run ++ rest)) ≡ scan Behind (step_scanned (Read n) s) rest
 unfolding scan
 variable_read s run rest n h e apart =
-    ap (λ l. goes_on (option_map (λ n. (InVariable, with_step (Read n) s)) (variable_of l))
+    ap (λ l. goes_on (option_map (λ n. (InVariable, step_scanned (Read n) s)) (variable_of l))
     (λ status' s'. scan status' s' (run ++ rest))) (run_digits run rest h apart)
-    ∙ ap (λ o. goes_on (option_map (λ n. (InVariable, with_step (Read n) s)) o)
+    ∙ ap (λ o. goes_on (option_map (λ n. (InVariable, step_scanned (Read n) s)) o)
     (λ status' s'. scan status' s' (run ++ rest))) e
-    ∙ in_variable (with_step (Read n) s) run rest h
-    ∙ after_variable (with_step (Read n) s) rest apart
+    ∙ in_variable (step_scanned (Read n) s) run rest h
+    ∙ after_variable (step_scanned (Read n) s) rest apart
 
 -- single bytes
 
@@ -167,8 +167,8 @@ sign_step Plus steps sum term minuses outer room left rest = refl
 sign_step Minus steps sum term minuses outer room left rest = refl
 
 open_step : (steps : List Step) (level : Level) (outer : List Level) (room left : ℕ) (rest : List ℕ)
-    → scan Wanted (scan_of steps level outer (suc room) left) (opening ∷ rest)
-    ≡ scan Wanted (scan_of steps fresh (level ∷ outer) room left) rest
+    → scan Wanted (scan_of steps level outer (suc room) left) (opening_parenthesis ∷ rest)
+    ≡ scan Wanted (scan_of steps fresh_level (level ∷ outer) room left) rest
 unfolding scan
 open_step steps level outer room left rest = refl
 
@@ -192,11 +192,11 @@ sign_apart Minus rest = refl
 are_parts : (whole decimals : List ℕ) → IsNumber whole decimals → AreParts whole decimals
 are_parts whole decimals h = record { before = h.before; behind = h.behind; some = h.some; small = h.small }
 
-number_of_whole : (whole : List ℕ) → IsNumber whole [] → number_of whole ≡ Some (number_written whole [])
+number_of_whole : (whole : List ℕ) → IsNumber whole [] → number_of_run whole ≡ Some (number_written whole [])
 number_of_whole whole h = read_whole whole (are_parts whole [] h)
 
 number_of_pointed : (whole decimals : List ℕ) → IsNumber whole decimals
-    → number_of (whole ++ point ∷ decimals) ≡ Some (number_written whole decimals)
+    → number_of_run (whole ++ decimal_point ∷ decimals) ≡ Some (number_written whole decimals)
 number_of_pointed whole decimals h = read_pointed whole decimals (are_parts whole decimals h)
 
 variable_at : (n : ℕ) → 0 < n → n < 10000 → variable_by n ≡ Some n
@@ -211,36 +211,36 @@ or_true : (a b : Bool) → a ≡ true → a || b ≡ true
 or_true true b h = refl
 or_true false b h = cc
 
-digits_numeric : (digits : List ℕ) → AreDigits digits → list_all is_numeric digits ≡ true
+digits_numeric : (digits : List ℕ) → AreDigits digits → list_all is_run_byte digits ≡ true
 digits_numeric [] h = refl
 digits_numeric (b ∷ digits) h =
-    ap (λ v. v && list_all is_numeric digits)
-    (or_true (is_ascii_digit b) (b == point) (and_left (is_ascii_digit b) (list_all is_ascii_digit digits) h))
+    ap (λ v. v && list_all is_run_byte digits)
+    (or_true (is_ascii_digit b) (b == decimal_point) (and_left (is_ascii_digit b) (list_all is_ascii_digit digits) h))
     ∙ digits_numeric digits (and_right (is_ascii_digit b) (list_all is_ascii_digit digits) h)
 
 pointed_numeric : (whole decimals : List ℕ) → AreDigits whole → AreDigits decimals
-    → list_all is_numeric (whole ++ point ∷ decimals) ≡ true
+    → list_all is_run_byte (whole ++ decimal_point ∷ decimals) ≡ true
 pointed_numeric [] decimals h k = digits_numeric decimals k
 pointed_numeric (b ∷ whole) decimals h k =
-    ap (λ v. v && list_all is_numeric (whole ++ point ∷ decimals))
-    (or_true (is_ascii_digit b) (b == point) (and_left (is_ascii_digit b) (list_all is_ascii_digit whole) h))
+    ap (λ v. v && list_all is_run_byte (whole ++ decimal_point ∷ decimals))
+    (or_true (is_ascii_digit b) (b == decimal_point) (and_left (is_ascii_digit b) (list_all is_ascii_digit whole) h))
     ∙ pointed_numeric whole decimals (and_right (is_ascii_digit b) (list_all is_ascii_digit whole) h) k
 
 whole_read : (s : Scan) (whole rest : List ℕ) → IsNumber whole [] → IsApart rest
-    → scan Wanted s (whole ++ rest) ≡ scan Behind (with_step (Push (number_written whole [])) s) rest
+    → scan Wanted s (whole ++ rest) ≡ scan Behind (step_scanned (Push (number_written whole [])) s) rest
 whole_read s [] rest h apart = absurd (omega (arith, h.some))
 whole_read s (b ∷ whole) rest h apart =
     number_read s b whole rest (number_written (b ∷ whole) []) (digits_numeric (b ∷ whole) h.before)
     (number_of_whole (b ∷ whole) h) apart
 
 pointed_read : (s : Scan) (whole decimals rest : List ℕ) → IsNumber whole decimals → IsApart rest
-    → scan Wanted s ((whole ++ point ∷ decimals) ++ rest)
-    ≡ scan Behind (with_step (Push (number_written whole decimals)) s) rest
+    → scan Wanted s ((whole ++ decimal_point ∷ decimals) ++ rest)
+    ≡ scan Behind (step_scanned (Push (number_written whole decimals)) s) rest
 pointed_read s [] decimals rest h apart =
-    number_read s point decimals rest (number_written [] decimals) (pointed_numeric [] decimals refl h.behind)
+    number_read s decimal_point decimals rest (number_written [] decimals) (pointed_numeric [] decimals refl h.behind)
     (number_of_pointed [] decimals h) apart
 pointed_read s (b ∷ whole) decimals rest h apart =
-    number_read s b (whole ++ point ∷ decimals) rest (number_written (b ∷ whole) decimals)
+    number_read s b (whole ++ decimal_point ∷ decimals) rest (number_written (b ∷ whole) decimals)
     (pointed_numeric (b ∷ whole) decimals h.before h.behind) (number_of_pointed (b ∷ whole) decimals h) apart
 
 -- the steps of a sum before its last operator, and that operator
@@ -291,11 +291,11 @@ closed_steps steps e last whole minuses term h =
 mutual
   sum_read : (e : Sum) (room : ℕ) (steps : List Step) (outer : List Level) (left : ℕ) (rest : List ℕ) → IsSum room e
       → IsApart rest
-      → scan Wanted (scan_of steps fresh outer room (sum_count e + left)) (sum_text e ++ rest)
+      → scan Wanted (scan_of steps fresh_level outer room (sum_count e + left)) (sum_text e ++ rest)
       ≡ scan Behind (scan_of (steps ++ front e) (level_of (last e) None 0) outer room left) rest
   sum_read (OneTerm t) room steps outer left rest h apart = term_read t room steps None outer left rest h apart
   sum_read (Added e o t) room steps outer left rest h apart =
-      other_text steps fresh outer room _ _ _ _ (omega arith)
+      other_text steps fresh_level outer room _ _ _ _ (omega arith)
       (append_assoc (sum_text e) (sign_byte o ∷ term_text t) rest)
       ∙ sum_read e room steps outer (suc (term_count t + left)) (sign_byte o ∷ (term_text t ++ rest)) h.0
       (sign_apart o (term_text t ++ rest))
@@ -351,7 +351,7 @@ mutual
   factor_read (Enclosed e) zero steps sum term minuses outer left rest h apart = absurd h
   factor_read (Enclosed e) (suc room) steps sum term minuses outer left rest h apart =
       open_step steps (level_of sum term minuses) outer room (sum_count e + left) ((sum_text e ++ closing ∷ []) ++ rest)
-      ∙ other_text steps fresh (level_of sum term minuses ∷ outer) room _ _ _ _ refl
+      ∙ other_text steps fresh_level (level_of sum term minuses ∷ outer) room _ _ _ _ refl
       (append_assoc (sum_text e) (closing ∷ []) rest)
       ∙ sum_read e room steps (level_of sum term minuses ∷ outer) left (closing ∷ rest) h refl
       ∙ close_step (steps ++ front e) (level_of (last e) None 0) (level_of sum term minuses) outer room left rest
@@ -364,6 +364,6 @@ unfolding scan
 expression_read text tree h =
     let short : sum_count h.sum + (1000 - sum_count h.sum) ≡ 1000 = omega (arith, h.short) in
     ap scanned (h.written ∙ sym (append-nil (sum_text h.sum)))
-    ∙ ap (λ n. scan Wanted (scan_of [] fresh [] 64 n) (sum_text h.sum ++ [])) (sym short)
+    ∙ ap (λ n. scan Wanted (scan_of [] fresh_level [] 64 n) (sum_text h.sum ++ [])) (sym short)
     ∙ sum_read h.sum 64 [] [] (1000 - sum_count h.sum) [] h.leaves tt
     ∙ ap Some (front_last h.sum ∙ ap postfix (sym h.stands_for))

@@ -12,11 +12,11 @@ use Rattle.cam_macros.specs.declared.parsing.mark.Mark.TheVariants.{Numeral, Dol
 use Rattle.cam_macros.specs.declared.parsing.mark.Mark.TheVariants.{Other}
 use Rattle.cam_macros.specs.declared.fault.MacroFault.{MacroFault}
 use Rattle.cam_macros.proofs.FaultLemmas.{malformed_also}
-use Rattle.cam_macros.specs.Scanning.{Behind, finished, goes_on, InNumber, InVariable, is_numeric, mark_of, number_of}
-use Rattle.cam_macros.specs.Scanning.{operand_at, operator_at, Scan, scan, Status, variable_of, Wanted, with_step}
+use Rattle.cam_macros.specs.Scanning.{Behind, finished, goes_on, InNumber, InVariable, is_run_byte, mark_of, number_of_run}
+use Rattle.cam_macros.specs.Scanning.{operand_at, operator_at, Scan, scan, Status, variable_of, Wanted, step_scanned}
 use Rattle.cam_macros.specs.Machinery.Scanning.{IsFaultOf, number_then, prefixed, scan_behind, scan_wanted, status_of}
 use Rattle.cam_macros.specs.Machinery.Scanning.{variable_then}
-use Rattle.cam_macros.specs.Bytes.{closing, dollar, large_x, minus, opening, plus, slash, small_x}
+use Rattle.cam_macros.specs.Bytes.{closing, dollar, large_x, minus_sign, opening_parenthesis, plus, slash, small_x}
 
 drop_one : (n b : ℕ) (xs : List ℕ) → drop (1 + n) (b ∷ xs) ≡ drop n xs
 drop_one n b xs = rw one-add refl
@@ -26,14 +26,14 @@ take_one n b xs = rw one-add refl
 
 -- the rest of a number, and of a variable, is passed over
 pub number_rest : (s : Scan) (rest : List ℕ)
-    → scan InNumber s rest ≡ scan Behind s (drop (prefix_len is_numeric rest) rest)
+    → scan InNumber s rest ≡ scan Behind s (drop (prefix_len is_run_byte rest) rest)
 unfolding scan
 number_rest s [] = refl
 number_rest s (b ∷ rest) =
-    elim (is_numeric b) as
+    elim (is_run_byte b) as
     (λ v. goes_on (cond v (Some (InNumber, s)) (operator_at (mark_of b) s)) (λ status' s'. scan status' s' rest)
-    ≡ scan Behind s (drop (cond v (1 + prefix_len is_numeric rest) 0) (b ∷ rest))) [
-      | true ↦ number_rest s rest ∙ ap (scan Behind s) (sym (drop_one (prefix_len is_numeric rest) b rest))
+    ≡ scan Behind s (drop (cond v (1 + prefix_len is_run_byte rest) 0) (b ∷ rest))) [
+      | true ↦ number_rest s rest ∙ ap (scan Behind s) (sym (drop_one (prefix_len is_run_byte rest) b rest))
       | false ↦ refl
     ]
 
@@ -66,11 +66,11 @@ no_numeral false false false false false true over e = cc
 no_numeral false false false false false false true e = cc
 no_numeral false false false false false false false e = cc
 
-pub numeric_from_mark : (b : ℕ) → mark_of b ≡ Numeral → is_numeric b ≡ true
+pub numeric_from_mark : (b : ℕ) → mark_of b ≡ Numeral → is_run_byte b ≡ true
 numeric_from_mark b =
-    elim (is_numeric b) as
+    elim (is_run_byte b) as
     (λ v. cond v Numeral
-    (other_mark (b == dollar) (b == opening) (b == closing) (b == plus) (b == minus)
+    (other_mark (b == dollar) (b == opening_parenthesis) (b == closing) (b == plus) (b == minus_sign)
     ((b == small_x) || (b == large_x)) (b == slash)) ≡ Numeral → v ≡ true) [
       | true ↦ λ e. refl
       | false ↦ λ e. absurd (no_numeral _ _ _ _ _ _ _ e)
@@ -81,20 +81,20 @@ pub numeral_is : (s : Scan) (b : ℕ) (bs : List ℕ) → mark_of b ≡ Numeral
 unfolding scan
 numeral_is s b bs e =
     let numeric = numeric_from_mark b e in
-    let k = prefix_len is_numeric bs in
+    let k = prefix_len is_run_byte bs in
     let read : Option ℕ
     → Option (List Step) =
-    λ o. goes_on (option_map (λ n. (InNumber, with_step (Push n) s)) o) (λ status' s'. scan status' s' bs) in
+    λ o. goes_on (option_map (λ n. (InNumber, step_scanned (Push n) s)) o) (λ status' s'. scan status' s' bs) in
     ap (λ m. goes_on (operand_at m s b bs) (λ status' s'. scan status' s' bs)) e
-    ∙ (elim (number_of (b ∷ take k bs)) as
-    (λ o. read o ≡ scan_behind (option_map (λ n. with_step (Push n) s) o) (drop k bs)) [
+    ∙ (elim (number_of_run (b ∷ take k bs)) as
+    (λ o. read o ≡ scan_behind (option_map (λ n. step_scanned (Push n) s) o) (drop k bs)) [
       | None ↦ refl
-      | Some n ↦ number_rest (with_step (Push n) s) bs
+      | Some n ↦ number_rest (step_scanned (Push n) s) bs
     ])
-    ∙ ap (λ l. scan_behind (option_map (λ n. with_step (Push n) s) (number_of l)) (drop k bs)) (sym (take_one k b bs))
-    ∙ ap (λ l. scan_behind (option_map (λ n. with_step (Push n) s) (number_of (take (1 + k) (b ∷ bs)))) l)
+    ∙ ap (λ l. scan_behind (option_map (λ n. step_scanned (Push n) s) (number_of_run l)) (drop k bs)) (sym (take_one k b bs))
+    ∙ ap (λ l. scan_behind (option_map (λ n. step_scanned (Push n) s) (number_of_run (take (1 + k) (b ∷ bs)))) l)
     (sym (drop_one k b bs))
-    ∙ ap (λ v. scan_behind (option_map (λ n. with_step (Push n) s) (number_of (take (cond v (1 + k) 0) (b ∷ bs))))
+    ∙ ap (λ v. scan_behind (option_map (λ n. step_scanned (Push n) s) (number_of_run (take (cond v (1 + k) 0) (b ∷ bs))))
     (drop (cond v (1 + k) 0) (b ∷ bs))) (sym numeric)
 
 pub dollar_is : (s : Scan) (b : ℕ) (bs : List ℕ) → mark_of b ≡ Dollar → scan Wanted s (b ∷ bs) ≡ variable_then s bs
@@ -103,12 +103,12 @@ dollar_is s b bs e =
     let k = prefix_len is_ascii_digit bs in
     let read : Option ℕ
     → Option (List Step) =
-    λ o. goes_on (option_map (λ n. (InVariable, with_step (Read n) s)) o) (λ status' s'. scan status' s' bs) in
+    λ o. goes_on (option_map (λ n. (InVariable, step_scanned (Read n) s)) o) (λ status' s'. scan status' s' bs) in
     ap (λ m. goes_on (operand_at m s b bs) (λ status' s'. scan status' s' bs)) e
     ∙ (elim (variable_of (take k bs)) as
-    (λ o. read o ≡ scan_behind (option_map (λ n. with_step (Read n) s) o) (drop k bs)) [
+    (λ o. read o ≡ scan_behind (option_map (λ n. step_scanned (Read n) s) o) (drop k bs)) [
       | None ↦ refl
-      | Some n ↦ variable_rest (with_step (Read n) s) bs
+      | Some n ↦ variable_rest (step_scanned (Read n) s) bs
     ])
 
 wanted_next : (o : Option Scan) (bs : List ℕ)

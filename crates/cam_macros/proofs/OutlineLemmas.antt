@@ -11,11 +11,11 @@ use Rattle.cam_macros.specs.declared.primitive.PrimShape.TheVariants.{Outline}
 use Rattle.cam_macros.specs.declared.fault.MacroFault.{MacroFault}
 use Rattle.cam_macros.specs.declared.fault.MacroFault.TheVariants.{Malformed}
 use Rattle.cam_macros.specs.Machinery.Values.{numbers}
-use Rattle.cam_macros.specs.Expansion.{turn_of, points_of, outline_through, ◌>>=◌}
+use Rattle.cam_macros.specs.Expansion.{rotation_field, outline_points, outline_through, ◌>>=◌}
 
 pub points_end : (unit : FileUnit) (turn : Turn) (rest : List Fixed) (made : List Point)
     (all : Result (List Point) MacroFault) → length rest < 2
-    → (points_of unit turn (numbers rest) >>= λ more. Ok (made ++ more)) ≡ all → all ≡ Ok made
+    → (outline_points unit turn (numbers rest) >>= λ more. Ok (made ++ more)) ≡ all → all ≡ Ok made
 points_end unit turn [] made all h e = sym e ∙ ap Ok (append-nil made)
 points_end unit turn (_ ∷ []) made all h e = sym e ∙ ap Ok (append-nil made)
 points_end unit turn (_ ∷ _ ∷ _) made all h e = absurd (omega (arith, h))
@@ -38,28 +38,28 @@ pub outline_few : (unit : FileUnit) (paint : Bool) (count : ℕ) (fields : List 
     → outline_through unit paint count (numbers fields) ≡ Err Malformed
 outline_few unit paint count fields h =
     ap (λ b. cond b (Err Malformed)
-    (turn_of (drop (2 * count + 2) (numbers fields))
-    >>= λ turn. points_of unit turn (take (2 * count) (numbers fields))
+    (rotation_field (drop (2 * count + 2) (numbers fields))
+    >>= λ turn. outline_points unit turn (take (2 * count) (numbers fields))
     >>= λ points. Ok (record { paint = paint; shape = Outline points })))
     (lt-ltb (length (numbers fields)) (2 * count + 2) (omega (arith, length-numbers fields)))
 
 pub outline_long : (unit : FileUnit) (paint : Bool) (count : ℕ) (fields : List Fixed) → 2 * count + 2 ≤ length fields
     → outline_through unit paint count (numbers fields)
-    ≡ (turn_of (numbers (take (length fields - (2 * count + 2)) (drop (2 * count + 2) fields)))
-    >>= λ turn. points_of unit turn (numbers (take (2 * count) fields))
+    ≡ (rotation_field (numbers (take (length fields - (2 * count + 2)) (drop (2 * count + 2) fields)))
+    >>= λ turn. outline_points unit turn (numbers (take (2 * count) fields))
     >>= λ points. Ok (record { paint = paint; shape = Outline points }))
 outline_long unit paint count fields h =
     ap (λ b. cond b (Err Malformed)
-    (turn_of (drop (2 * count + 2) (numbers fields))
-    >>= λ turn. points_of unit turn (take (2 * count) (numbers fields))
+    (rotation_field (drop (2 * count + 2) (numbers fields))
+    >>= λ turn. outline_points unit turn (take (2 * count) (numbers fields))
     >>= λ points. Ok (record { paint = paint; shape = Outline points })))
     (le-ltb (length (numbers fields)) (2 * count + 2) (omega (arith, length-numbers fields)))
-    ∙ ap (λ l. turn_of l >>= λ turn. points_of unit turn (take (2 * count) (numbers fields))
+    ∙ ap (λ l. rotation_field l >>= λ turn. outline_points unit turn (take (2 * count) (numbers fields))
     >>= λ points. Ok (record { paint = paint; shape = Outline points }))
     (drop-numbers (2 * count + 2) fields
     ∙ ap numbers
     (sym (take_all (length fields - (2 * count + 2)) (drop (2 * count + 2) fields)
     (omega (arith, length-drop (2 * count + 2) fields)))))
-    ∙ ap (λ l. turn_of (numbers (take (length fields - (2 * count + 2)) (drop (2 * count + 2) fields)))
-    >>= λ turn. points_of unit turn l >>= λ points. Ok (record { paint = paint; shape = Outline points }))
+    ∙ ap (λ l. rotation_field (numbers (take (length fields - (2 * count + 2)) (drop (2 * count + 2) fields)))
+    >>= λ turn. outline_points unit turn l >>= λ points. Ok (record { paint = paint; shape = Outline points }))
     (take-numbers (2 * count) fields)

@@ -10,11 +10,11 @@ use Rattle.cam_macros.specs.declared.expression.Step.{Step}
 use Rattle.cam_macros.specs.declared.part.Part.{Part}
 use Rattle.cam_macros.specs.declared.part.Part.TheVariants.{Assignment, Primitive}
 use Rattle.cam_macros.specs.declared.fault.MacroFault.TheVariants.{Malformed}
-use Rattle.cam_macros.specs.Bytes.{comma, dollar, equals}
+use Rattle.cam_macros.specs.Bytes.{comma_sign, dollar, equals}
 use Rattle.cam_macros.specs.Tree.{Tree}
 use Rattle.cam_macros.specs.Grammar.{IsExpression}
-use Rattle.cam_macros.specs.Reading.{AreExpressions, IsPart, AreParts, pieces, first, others, spoken}
-use Rattle.cam_macros.specs.Reading.{is_name}
+use Rattle.cam_macros.specs.Reading.{AreExpressions, IsPart, AreParts, pieces, first, others, parts_spoken}
+use Rattle.cam_macros.specs.Reading.{is_macro_name}
 use Rattle.cam_macros.specs.Postfix.{tree_of}
 use Rattle.cam_macros.specs.Scanning.{scanned, variable_of}
 use Rattle.cam_macros.specs.Parsing.{with_both, all_read, expression_read, assignment_read, primitive_by}
@@ -58,7 +58,7 @@ expressions_answer (text ∷ texts) =
 -- ---- primitives
 
 its_fields : (piece digits : List ℕ) (texts : List (List ℕ)) (o : Option ℕ) (os : Option (List Tree)) → IsNoDollar piece
-    → slice_split (λ b. b == comma) piece ≡ digits ∷ texts → natural digits ≡ o → Answers AreExpressions texts os
+    → slice_split (λ b. b == comma_sign) piece ≡ digits ∷ texts → natural digits ≡ o → Answers AreExpressions texts os
     → Answers IsPart piece (with_both (λ code fields. Primitive (min code 10000) fields) o os)
 its_fields piece digits texts None os plain cut e h =
     other_part Malformed piece plain (no_code piece digits texts cut (sym (ap (option_map (min value_limit)) e)))
@@ -71,7 +71,7 @@ its_fields piece digits texts (Some n) (Some fields) plain cut e h =
 primitive_answers : (piece : List ℕ) → IsNoDollar piece → Answers IsPart piece (primitive_read piece)
 unfolding primitive_read
 primitive_answers piece plain =
-    let cut = first_piece (λ b. b == comma) piece in
+    let cut = first_piece (λ b. b == comma_sign) piece in
     subst (λ all. Answers IsPart piece (primitive_by all)) (sym cut.2)
     (its_fields piece cut.0 cut.1 (natural cut.0) (all_read expression_read cut.1) plain cut.2 refl
     (expressions_answer cut.1))
@@ -144,14 +144,14 @@ parts_answer (piece ∷ pieces) =
 
 pub parsed_by_the_grammar : IsParsedByTheGrammar
 unfolding parts_of
-parsed_by_the_grammar text = go (is_name (first (pieces text))) refl
+parsed_by_the_grammar text = go (is_macro_name (first (pieces text))) refl
   where
-    by : is_name (first (pieces text)) ≡ true → (o : Option (List Part))
-        → Answers AreParts (spoken (others (pieces text))) o → IsReadAs text o
+    by : is_macro_name (first (pieces text)) ≡ true → (o : Option (List Part))
+        → Answers AreParts (parts_spoken (others (pieces text))) o → IsReadAs text o
     by named (Some parts) h = record { name_is = refl; named = named; parts_are = h }
     by named None h = λ name parts read. h parts read.parts_are
 
-    go : (b : Bool) → is_name (first (pieces text)) ≡ b
-        → IsReadAs text (if b then all_read part_read (spoken (others (pieces text))) else None)
-    go true e = by e (all_read part_read (spoken (others (pieces text)))) (parts_answer (spoken (others (pieces text))))
-    go false e = λ name parts read. cc (read.named, ap is_name read.name_is, e)
+    go : (b : Bool) → is_macro_name (first (pieces text)) ≡ b
+        → IsReadAs text (if b then all_read part_read (parts_spoken (others (pieces text))) else None)
+    go true e = by e (all_read part_read (parts_spoken (others (pieces text)))) (parts_answer (parts_spoken (others (pieces text))))
+    go false e = λ name parts read. cc (read.named, ap is_macro_name read.name_is, e)

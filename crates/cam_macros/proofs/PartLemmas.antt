@@ -21,7 +21,7 @@ use Rattle.cam_macros.proofs.FaultLemmas.{malformed_also}
 use Rattle.cam_macros.proofs.CutLemmas.{first_piece}
 use Rattle.cam_macros.proofs.Machine.{variable_is}
 use Rattle.cam_macros.proofs.Levels.{variable_found}
-use Rattle.cam_macros.specs.Bytes.{comma, dollar, equals}
+use Rattle.cam_macros.specs.Bytes.{comma_sign, dollar, equals}
 
 abbrev cut_at : ℕ → List ℕ → List (List ℕ)
 cut_at c xs = slice_split (λ b. b == c) xs
@@ -124,7 +124,7 @@ code_found digits code e = go (natural digits) refl e
         ((λ none. found.some (ap length none)), found.digits, ap (min value_limit) found.value ∙ same)
 
 pub is_primitive : (piece digits : List ℕ) (texts : List (List ℕ)) (code capped : ℕ) (fields : List Tree)
-    → cut_at comma piece ≡ digits ∷ texts → Some code ≡ option_map (min value_limit) (natural digits)
+    → cut_at comma_sign piece ≡ digits ∷ texts → Some code ≡ option_map (min value_limit) (natural digits)
     → capped ≡ min code 10000 → AreExpressions texts fields → IsPrimitive piece capped fields
 is_primitive piece digits texts code capped fields e number same reads =
     let found = code_found digits code (sym number) in
@@ -138,7 +138,7 @@ is_primitive piece digits texts code capped fields e number same reads =
       reads = reads;
     }
 
-pub no_code : (piece digits : List ℕ) (texts : List (List ℕ)) → cut_at comma piece ≡ digits ∷ texts
+pub no_code : (piece digits : List ℕ) (texts : List (List ℕ)) → cut_at comma_sign piece ≡ digits ∷ texts
     → None ≡ option_map (min value_limit) (natural digits)
     → (code : ℕ) (fields : List Tree) → IsPrimitive piece code fields → ⊥
 no_code piece digits texts e none code fields h =
@@ -150,7 +150,7 @@ no_code piece digits texts e none code fields h =
     cc
 
 pub no_fields : (fault : MacroFault) (piece digits : List ℕ) (texts : List (List ℕ))
-    → cut_at comma piece ≡ digits ∷ texts → IsMalformed fault (Nothing (AreExpressions texts))
+    → cut_at comma_sign piece ≡ digits ∷ texts → IsMalformed fault (Nothing (AreExpressions texts))
     → IsMalformed fault ((code : ℕ) → Nothing (IsPrimitive piece code))
 no_fields fault piece digits texts e f =
     malformed_also fault
@@ -161,10 +161,10 @@ no_fields fault piece digits texts e f =
 
 -- a dollar first, or not
 
-dollar_no_digits : (behind digits : List ℕ) (texts : List (List ℕ)) → cut_at comma (dollar ∷ behind) ≡ digits ∷ texts
+dollar_no_digits : (behind digits : List ℕ) (texts : List (List ℕ)) → cut_at comma_sign (dollar ∷ behind) ≡ digits ∷ texts
     → AreDigits digits → ⊥
 dollar_no_digits behind digits texts e all =
-    let found = first_piece (λ b. b == comma) behind in
+    let found = first_piece (λ b. b == comma_sign) behind in
     let first : digits ≡ dollar ∷ found.0 = cc (ap (onto_first dollar) found.2) in
     cc (ap (list_all is_ascii_digit) first)
 
@@ -215,5 +215,5 @@ same_assignment piece m n a b p q =
 pub dollar_or_not : (piece : List ℕ) (m : ℕ) (a : Tree) (code : ℕ) (fields : List Tree) → IsAssignment piece m a
     → IsPrimitive piece code fields → ⊥
 dollar_or_not piece m a code fields p q =
-    dollar_no_digits (p.digits ++ equals ∷ p.text) q.digits q.texts (ap (cut_at comma) (sym p.written) ∙ q.written)
+    dollar_no_digits (p.digits ++ equals ∷ p.text) q.digits q.texts (ap (cut_at comma_sign) (sym p.written) ∙ q.written)
     q.number

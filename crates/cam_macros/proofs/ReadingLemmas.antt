@@ -10,8 +10,8 @@ use Rattle.cam_macros.specs.Tree.{Tree}
 use Rattle.cam_macros.specs.Grammar.{IsExpression}
 use Rattle.cam_macros.specs.Answers.{IsMalformed, Nothing}
 use Rattle.cam_macros.proofs.FaultLemmas.{malformed_also}
-use Rattle.cam_macros.specs.Reading.{AreExpressions, AreParts, IsPart, IsRefused, first, others, pieces, is_name}
-use Rattle.cam_macros.specs.Reading.{is_silent, spoken}
+use Rattle.cam_macros.specs.Reading.{AreExpressions, AreParts, IsPart, IsMacroRefused, first, others, pieces, is_macro_name}
+use Rattle.cam_macros.specs.Reading.{is_silent, parts_spoken}
 
 -- how much text is left
 abbrev pub text_left : Option (Bor (List ℕ)) → ℕ
@@ -63,33 +63,33 @@ head_part piece left [] h = absurd h
 head_part piece left (part ∷ more) h = (part, h.0)
 
 spoken_yes : (piece : List ℕ) (left : List (List ℕ)) → is_silent piece ≡ false
-    → spoken (piece ∷ left) ≡ piece ∷ spoken left
-spoken_yes piece left e = ap (λ v. cond (not v) (piece ∷ spoken left) (spoken left)) e
+    → parts_spoken (piece ∷ left) ≡ piece ∷ parts_spoken left
+spoken_yes piece left e = ap (λ v. cond (not v) (piece ∷ parts_spoken left) (parts_spoken left)) e
 
 pub parts_end : (all : List (List ℕ)) (items : List Part) → ArePartsBefore [] all items → AreParts all items
 parts_end all items k = subst (AreParts all) (append-nil items) (k.forth [] tt)
 
 pub parts_fault : (fault : MacroFault) (piece : List ℕ) (left all : List (List ℕ)) (items : List Part)
-    → is_silent piece ≡ false → ArePartsBefore (spoken (piece ∷ left)) (spoken all) items
-    → IsMalformed fault (Nothing (IsPart piece)) → IsMalformed fault (Nothing (AreParts (spoken all)))
+    → is_silent piece ≡ false → ArePartsBefore (parts_spoken (piece ∷ left)) (parts_spoken all) items
+    → IsMalformed fault (Nothing (IsPart piece)) → IsMalformed fault (Nothing (AreParts (parts_spoken all)))
 parts_fault fault piece left all items e k f =
-    let begun : ArePartsBefore (piece ∷ spoken left) (spoken all) items =
-    subst (λ l. ArePartsBefore l (spoken all) items) (spoken_yes piece left e) k in
+    let begun : ArePartsBefore (piece ∷ parts_spoken left) (parts_spoken all) items =
+    subst (λ l. ArePartsBefore l (parts_spoken all) items) (spoken_yes piece left e) k in
     malformed_also fault
     (λ none parts h.
     let found = begun.back parts h in
-    let part = head_part piece (spoken left) found.0 found.1 in
+    let part = head_part piece (parts_spoken left) found.0 found.1 in
     none part.0 part.1)
     f
 
 -- a fault of the parts is one of the macro
 pub refused : (fault : MacroFault) (text name : List ℕ) (rest : List (List ℕ)) → pieces text ≡ name ∷ rest
-    → is_name name ≡ true → IsMalformed fault (Nothing (AreParts (spoken rest))) → IsRefused text fault
+    → is_macro_name name ≡ true → IsMalformed fault (Nothing (AreParts (parts_spoken rest))) → IsMacroRefused text fault
 refused OutOfMemory text name rest e named f = tt
 refused Malformed text name rest e named f = (
-  ap (λ l. is_name (first l)) e
+  ap (λ l. is_macro_name (first l)) e
       ∙ named,
-  λ n parts h. f parts (subst (λ l. AreParts (spoken (others l)) parts) e h.parts_are),
+  λ n parts h. f parts (subst (λ l. AreParts (parts_spoken (others l)) parts) e h.parts_are),
 )
 refused BadName text name rest e named f = absurd f
 refused PrimitiveRefused text name rest e named f = f

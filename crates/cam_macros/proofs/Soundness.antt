@@ -15,9 +15,9 @@ use Rattle.cam_macros.specs.Grammar.{Sign, Plus, Minus, Cross, Small, Large, Sla
 use Rattle.cam_macros.specs.Grammar.{Numeral, Dollar, Enclosed, sign_byte, cross_byte, sum_text, term_text}
 use Rattle.cam_macros.specs.Grammar.{factor_text, factor_count, IsDecimal, IsVariable, IsSum, IsFactor}
 use Rattle.cam_macros.specs.Grammar.{sign_operator, cross_operator, sum_tree, term_tree, factor_tree, IsExpression}
-use Rattle.cam_macros.specs.Scanning.{Behind, finished, fresh, goes_on, is_numeric, level_of, mark_of, number_of}
+use Rattle.cam_macros.specs.Scanning.{Behind, finished, fresh_level, goes_on, is_run_byte, level_of, mark_of, number_of_run}
 use Rattle.cam_macros.specs.Scanning.{operator_at, Scan, scan, scan_of, scanned, variable_of, waiting, Wanted}
-use Rattle.cam_macros.specs.Scanning.{with_operand, with_step}
+use Rattle.cam_macros.specs.Scanning.{with_operand, step_scanned}
 use Rattle.cam_macros.specs.Machinery.Scanning.{prefixed, scan_behind, scan_wanted}
 use Rattle.cam_macros.proofs.Marks.{numeric_from_mark, numeral_is, dollar_is, prefix_then, operator_then}
 use Rattle.cam_macros.proofs.Marks.{none_wanted, finished_is}
@@ -28,7 +28,7 @@ use Rattle.cam_macros.proofs.Levels.{sum_part_operator, term_part_operator, minu
 use Rattle.cam_macros.proofs.Levels.{opened_count, outer_count, IsOpened, AreOpened, before, behind, IsBefore}
 use Rattle.cam_macros.proofs.Levels.{IsBehind, Found, Reads, ended, ended_text, ended_steps, ended_count}
 use Rattle.cam_macros.proofs.Levels.{ended_fits, signed, joined, operand_whole, operand_behind, operand_text}
-use Rattle.cam_macros.specs.Bytes.{closing, dollar, large_x, minus, opening, plus, slash, small_x}
+use Rattle.cam_macros.specs.Bytes.{closing, dollar, large_x, minus_sign, opening_parenthesis, plus, slash, small_x}
 
 found_at : (a b : List ℕ) (out : List Step) → a ≡ b → Found a out → Found b out
 found_at a b out e h =
@@ -72,13 +72,13 @@ numeral_found : (n : ℕ) (ih : Reads n) (b : ℕ) (bs : List ℕ) (l : Opened) 
     → Found (outer_text ls ++ (opened_text l ++ b ∷ bs)) out
 numeral_found n ih b bs l ls room budget out h k m e =
     let s = before l ls room budget in
-    let at = prefix_len is_numeric (b ∷ bs) in
+    let at = prefix_len is_run_byte (b ∷ bs) in
     let run = take at (b ∷ bs) in
     let some =
-    behind_some (number_of run) (λ v. with_step (Push v) s) (drop at (b ∷ bs)) out (sym (numeral_is s b bs m) ∙ e) in
+    behind_some (number_of_run run) (λ v. step_scanned (Push v) s) (drop at (b ∷ bs)) out (sym (numeral_is s b bs m) ∙ e) in
     let leaf = leaf_of run some.0 some.1 in
-    let place : at ≡ 1 + prefix_len is_numeric bs =
-    ap (λ v. cond v (1 + prefix_len is_numeric bs) 0) (numeric_from_mark b m) in
+    let place : at ≡ 1 + prefix_len is_run_byte bs =
+    ap (λ v. cond v (1 + prefix_len is_run_byte bs) 0) (numeric_from_mark b m) in
     found_at _ _ out
     (ap (λ x. outer_text ls ++ (opened_text l ++ x))
     (ap (λ x. x ++ drop at (b ∷ bs)) leaf.written ∙ take-append-drop at (b ∷ bs)))
@@ -98,7 +98,7 @@ dollar_found n ih b bs l ls room budget out h k m byte e =
     let at = prefix_len is_ascii_digit bs in
     let run = take at bs in
     let some =
-    behind_some (variable_of run) (λ v. with_step (Read v) s) (drop at bs) out (sym (dollar_is s b bs m) ∙ e) in
+    behind_some (variable_of run) (λ v. step_scanned (Read v) s) (drop at bs) out (sym (dollar_is s b bs m) ∙ e) in
     let found = variable_found run some.0 some.1 in
     found_at _ _ out
     (ap (λ x. outer_text ls ++ (opened_text l ++ x))
@@ -118,12 +118,12 @@ opened_before l ls room budget k = record {
   few = omega (arith, k.few);
 }
 
-open_text : (o p rest : List ℕ) → (o ++ (p ++ opening ∷ [])) ++ rest ≡ o ++ (p ++ opening ∷ rest)
+open_text : (o p rest : List ℕ) → (o ++ (p ++ opening_parenthesis ∷ [])) ++ rest ≡ o ++ (p ++ opening_parenthesis ∷ rest)
 open_text o p rest = simp append_assoc
 
 open_found : (n : ℕ) (ih : Reads n) (b : ℕ) (bs : List ℕ) (l : Opened) (ls : List Opened) (room budget : ℕ)
     (out : List Step)
-    → length bs ≤ n → IsBefore l ls room budget → b ≡ opening
+    → length bs ≤ n → IsBefore l ls room budget → b ≡ opening_parenthesis
     → scan_wanted (prefixed Mark.Open (before l ls room budget)) bs ≡ Some out
     → Found (outer_text ls ++ (opened_text l ++ b ∷ bs)) out
 open_found n ih b bs l ls zero budget out h k byte e = cc
@@ -131,7 +131,7 @@ open_found n ih b bs l ls (suc room) budget out h k byte e =
     found_at _ _ out
     (open_text (outer_text ls) (opened_text l) bs ∙ ap (λ c. outer_text ls ++ (opened_text l ++ c ∷ bs)) (sym byte))
     (ih.wanted bs h (opened NoSum NoTerm []) (l ∷ ls) room budget out (opened_before l ls room budget k)
-    (ap (λ x. scan Wanted (scan_of x fresh (level_at l ∷ levels_at ls) room budget) bs)
+    (ap (λ x. scan Wanted (scan_of x fresh_level (level_at l ∷ levels_at ls) room budget) bs)
     (append-nil (outer_steps ls ++ (sum_part_steps l.sum ++ term_part_steps l.term))) ∙ e))
 
 signs_text-push : (signs : List Sign) (o : Sign) → signs_text (signs ++ o ∷ []) ≡ signs_text signs ++ sign_byte o ∷ []
@@ -201,7 +201,7 @@ plus_found n ih b bs l ls room (suc budget) out h k byte e =
 
 minus_found : (n : ℕ) (ih : Reads n) (b : ℕ) (bs : List ℕ) (l : Opened) (ls : List Opened) (room budget : ℕ)
     (out : List Step)
-    → length bs ≤ n → IsBefore l ls room budget → b ≡ minus
+    → length bs ≤ n → IsBefore l ls room budget → b ≡ minus_sign
     → scan_wanted (prefixed Mark.Minus (before l ls room budget)) bs ≡ Some out
     → Found (outer_text ls ++ (opened_text l ++ b ∷ bs)) out
 minus_found n ih b bs l ls room zero out h k byte e = cc
@@ -286,7 +286,7 @@ add_found n ih b bs sum t ls room (suc budget) out h k byte e =
 
 subtract_found : (n : ℕ) (ih : Reads n) (b : ℕ) (bs : List ℕ) (sum : SumPart) (t : Term) (ls : List Opened)
     (room budget : ℕ) (out : List Step)
-    → length bs ≤ n → IsBehind sum t ls room budget → b ≡ minus
+    → length bs ≤ n → IsBehind sum t ls room budget → b ≡ minus_sign
     → goes_on (operator_at Mark.Minus (behind sum t ls room budget)) (λ status' s'. scan status' s' bs) ≡ Some out
     → Found (outer_text ls ++ (sum_part_text sum ++ (term_text t ++ b ∷ bs))) out
 subtract_found n ih b bs sum t ls room zero out h k byte e = cc
@@ -340,10 +340,10 @@ over_found n ih b bs sum t ls room (suc budget) out h k byte e =
     term_found n ih Slash b bs sum t ls room budget out h k byte e
 
 close_text : (o p s t e : List ℕ) (b : ℕ) (bs : List ℕ) → b ≡ closing → e ≡ s ++ t
-    → o ++ (p ++ (opening ∷ (e ++ closing ∷ []) ++ bs)) ≡ (o ++ (p ++ opening ∷ [])) ++ (s ++ (t ++ b ∷ bs))
+    → o ++ (p ++ (opening_parenthesis ∷ (e ++ closing ∷ []) ++ bs)) ≡ (o ++ (p ++ opening_parenthesis ∷ [])) ++ (s ++ (t ++ b ∷ bs))
 close_text o p s t e b bs byte h =
-    ap (λ x. o ++ (p ++ (opening ∷ (x ++ closing ∷ []) ++ bs))) h
-    ∙ (simp append_assoc (ap (λ x. o ++ (p ++ opening ∷ (s ++ (t ++ x ∷ bs)))) (sym byte)))
+    ap (λ x. o ++ (p ++ (opening_parenthesis ∷ (x ++ closing ∷ []) ++ bs))) h
+    ∙ (simp append_assoc (ap (λ x. o ++ (p ++ opening_parenthesis ∷ (s ++ (t ++ x ∷ bs)))) (sym byte)))
 
 enclosed_fits : (room : ℕ) (e : Sum) → IsSum room e → IsFactor (suc room) (Enclosed e)
 enclosed_fits room e h = h

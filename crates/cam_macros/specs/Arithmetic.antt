@@ -30,17 +30,17 @@ quotient a (pos zero) = None
 quotient a (pos (suc n)) = Some (nearest_of (a *ℤ pos billion) (suc n))
 quotient a (negsuc n) = Some (nearest_of (neg_ℤ a *ℤ pos billion) (suc n))
 
-abbrev pub applied : Operator → ℤ → ℤ → Option ℤ
-applied Add a b = Some (a +ℤ b)
-applied Subtract a b = Some (a -ℤ b)
-applied Multiply a b = Some (nearest_of (a *ℤ b) billion)
-applied Divide a b = quotient a b
+abbrev pub operator_applied : Operator → ℤ → ℤ → Option ℤ
+operator_applied Add a b = Some (a +ℤ b)
+operator_applied Subtract a b = Some (a -ℤ b)
+operator_applied Multiply a b = Some (nearest_of (a *ℤ b) billion)
+operator_applied Divide a b = quotient a b
 
 -- the value of an expression, if each node has one
-abbrev pub value_of : Values → Tree → Option ℤ
-value_of values (Number n) = within (pos n)
-value_of values (Variable n) = within (values n)
-value_of values (Negative t) = option_and_then (λ v. within (neg_ℤ v)) (value_of values t)
-value_of values (Binary o a b) =
-    option_and_then (λ x. option_and_then (λ y. option_and_then within (applied o x y)) (value_of values b))
-    (value_of values a)
+abbrev pub tree_value : Values → Tree → Option ℤ
+tree_value values (Number n) = within (pos n)
+tree_value values (Variable n) = within (values n)
+tree_value values (Negative t) = option_and_then (λ v. within (neg_ℤ v)) (tree_value values t)
+tree_value values (Binary o a b) =
+    option_and_then (λ x. option_and_then (λ y. option_and_then within (operator_applied o x y)) (tree_value values b))
+    (tree_value values a)

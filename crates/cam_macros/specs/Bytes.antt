@@ -4,8 +4,8 @@ use Rattle.std.specs.Prelude.{ℕ}
 abbrev pub dollar : ℕ
 dollar = 36
 
-abbrev pub opening : ℕ
-opening = 40
+abbrev pub opening_parenthesis : ℕ
+opening_parenthesis = 40
 
 abbrev pub closing : ℕ
 closing = 41
@@ -13,14 +13,14 @@ closing = 41
 abbrev pub plus : ℕ
 plus = 43
 
-abbrev pub comma : ℕ
-comma = 44
+abbrev pub comma_sign : ℕ
+comma_sign = 44
 
-abbrev pub minus : ℕ
-minus = 45
+abbrev pub minus_sign : ℕ
+minus_sign = 45
 
-abbrev pub point : ℕ
-point = 46
+abbrev pub decimal_point : ℕ
+decimal_point = 46
 
 abbrev pub slash : ℕ
 slash = 47

@@ -20,7 +20,7 @@ use Rattle.cam_macros.specs.declared.fault.MacroFault.TheVariants.{Malformed, Pr
 use Rattle.cam_macros.specs.declared.fault.MacroFault.TheVariants.{SizeRefused}
 use Rattle.cam_macros.specs.Numbers.{billion}
 use Rattle.cam_macros.specs.Tree.{Tree}
-use Rattle.cam_macros.specs.Arithmetic.{Values, parameter, setting, value_of}
+use Rattle.cam_macros.specs.Arithmetic.{Values, parameter, setting, tree_value}
 
 -- the second where the first has an answer, else the first's fault
 infixl 10 ◌>>=◌
@@ -30,7 +30,7 @@ Err fault >>= f = Err fault
 
 -- the value of an expression, and of each of a list
 abbrev pub worth : Values → Tree → Result ℤ MacroFault
-worth values tree = ok_or (value_of values tree) Malformed
+worth values tree = ok_or (tree_value values tree) Malformed
 
 abbrev pub all_worth : Values → List Tree → Result (List ℤ) MacroFault
 all_worth values [] = Ok []
@@ -64,10 +64,10 @@ rotation (negsuc n) = if suc n % 90000000000 == 0 then Ok (quarters_back (suc n 
     else Err RotationRefused
 
 -- the rotation may be left out
-abbrev pub turn_of : List ℤ → Result Turn MacroFault
-turn_of [] = Ok R0
-turn_of (v ∷ []) = rotation v
-turn_of (_ ∷ _ ∷ _) = Err Malformed
+abbrev pub rotation_field : List ℤ → Result Turn MacroFault
+rotation_field [] = Ok R0
+rotation_field (v ∷ []) = rotation v
+rotation_field (_ ∷ _ ∷ _) = Err Malformed
 
 -- a diameter, side or width is from 0 to 200 mm, once rounded
 abbrev pub size : ℤ → Result Nm MacroFault
@@ -78,11 +78,11 @@ abbrev pub size_of : FileUnit → ℤ → Result Nm MacroFault
 size_of unit v = size (fix9_of v unit)
 
 -- a coordinate is at most 200 mm in absolute value, once rounded
-abbrev pub coordinate : ℤ → Result Nm MacroFault
-coordinate n = if nat_le (unsigned_abs n) size_limit then Ok (record { 0 = n }) else Err SizeRefused
+abbrev pub rounded_coordinate : ℤ → Result Nm MacroFault
+rounded_coordinate n = if nat_le (unsigned_abs n) size_limit then Ok (record { 0 = n }) else Err SizeRefused
 
 abbrev pub coordinate_of : FileUnit → ℤ → Result Nm MacroFault
-coordinate_of unit v = coordinate (fix9_of v unit)
+coordinate_of unit v = rounded_coordinate (fix9_of v unit)
 
 -- a point, turned about the macro's origin
 abbrev pub point_of : FileUnit → Turn → ℤ → ℤ → Result Point MacroFault
@@ -91,19 +91,19 @@ point_of unit turn x y = do
   b ← coordinate_of unit y
   Ok (turned (matrix_of turn) (record { x = a.0; y = b.0 }))
 
-abbrev pub points_of : FileUnit → Turn → List ℤ → Result (List Point) MacroFault
-points_of unit turn [] = Ok []
-points_of unit turn (x ∷ []) = Ok []
-points_of unit turn (x ∷ y ∷ more) = do
+abbrev pub outline_points : FileUnit → Turn → List ℤ → Result (List Point) MacroFault
+outline_points unit turn [] = Ok []
+outline_points unit turn (x ∷ []) = Ok []
+outline_points unit turn (x ∷ y ∷ more) = do
   point ← point_of unit turn x y
-  points ← points_of unit turn more
+  points ← outline_points unit turn more
   Ok (point ∷ points)
 
 -- exposure, diameter, x, y [, rotation]
 abbrev pub disc_of : FileUnit → List ℤ → Result MacroPrimitive MacroFault
 disc_of unit (exposure ∷ d ∷ x ∷ y ∷ more) = do
   paint ← paint_of exposure
-  turn ← turn_of more
+  turn ← rotation_field more
   diameter ← size_of unit d
   centre ← point_of unit turn x y
   Ok (record { paint = paint; shape = Disc centre diameter })
@@ -113,7 +113,7 @@ disc_of unit _ = Err Malformed
 abbrev pub bar_of : FileUnit → List ℤ → Result MacroPrimitive MacroFault
 bar_of unit (exposure ∷ w ∷ x1 ∷ y1 ∷ x2 ∷ y2 ∷ more) = do
   paint ← paint_of exposure
-  turn ← turn_of more
+  turn ← rotation_field more
   width ← size_of unit w
   from ← point_of unit turn x1 y1
   to ← point_of unit turn x2 y2
@@ -135,7 +135,7 @@ rect_turned M180 centre width height = Rect centre width height
 abbrev pub rect_of : FileUnit → List ℤ → Result MacroPrimitive MacroFault
 rect_of unit (exposure ∷ w ∷ h ∷ x ∷ y ∷ more) = do
   paint ← paint_of exposure
-  turn ← turn_of more
+  turn ← rotation_field more
   width ← size_of unit w
   height ← size_of unit h
   centre ← point_of unit turn x y
@@ -152,25 +152,25 @@ count_of (negsuc n) = Err Malformed
 abbrev pub outline_through : FileUnit → Bool → ℕ → List ℤ → Result MacroPrimitive MacroFault
 outline_through unit paint count values =
     if nat_lt (length values) (2 * count + 2) then Err Malformed
-    else (turn_of (drop (2 * count + 2) values) >>= λ turn.
-    points_of unit turn (take (2 * count) values) >>= λ points.
+    else (rotation_field (drop (2 * count + 2) values) >>= λ turn.
+    outline_points unit turn (take (2 * count) values) >>= λ points.
     Ok (record { paint = paint; shape = Outline points }))
 
 -- exposure, n, n + 1 points [, rotation]
-abbrev pub outline_of : FileUnit → List ℤ → Result MacroPrimitive MacroFault
-outline_of unit (exposure ∷ n ∷ more) = do
+abbrev pub outline_made : FileUnit → List ℤ → Result MacroPrimitive MacroFault
+outline_made unit (exposure ∷ n ∷ more) = do
   paint ← paint_of exposure
   count ← count_of n
   outline_through unit paint count more
-outline_of unit _ = Err Malformed
+outline_made unit _ = Err Malformed
 
 -- what the fields of a primitive make, if its code is known
-abbrev pub shape_of : ℕ → Option (FileUnit → List ℤ → Result MacroPrimitive MacroFault)
-shape_of code =
+abbrev pub primitive_made : ℕ → Option (FileUnit → List ℤ → Result MacroPrimitive MacroFault)
+primitive_made code =
     if code == 1 then Some disc_of
     else (if (code == 2) || (code == 20) then Some bar_of
     else (if code == 21 then Some rect_of
-    else (if code == 4 then Some outline_of else None)))
+    else (if code == 4 then Some outline_made else None)))
 
 abbrev pub primitive_of : Option (FileUnit → List ℤ → Result MacroPrimitive MacroFault) → FileUnit → Values
     → List Tree → Result MacroPrimitive MacroFault
@@ -180,11 +180,11 @@ primitive_of (Some shape) unit values fields = all_worth values fields >>= shape
 -- what a part adds to the primitives, or its fault
 abbrev pub outcome : FileUnit → Values → Part → Result (List MacroPrimitive) MacroFault
 outcome unit values (Assignment variable value) = worth values value >>= λ _. Ok []
-outcome unit values (Primitive code fields) = primitive_of (shape_of code) unit values fields >>= λ made. Ok (made ∷ [])
+outcome unit values (Primitive code fields) = primitive_of (primitive_made code) unit values fields >>= λ made. Ok (made ∷ [])
 
 -- what the variables are worth behind a part
 abbrev pub values_after : Values → Part → Values
-values_after values (Assignment variable value) = setting values variable (unwrap_or (value_of values value) (pos 0))
+values_after values (Assignment variable value) = setting values variable (unwrap_or (tree_value values value) (pos 0))
 values_after values (Primitive code fields) = values
 
 -- the primitives of the parts in order, or the fault of the first faulty part

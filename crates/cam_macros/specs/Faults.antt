@@ -5,10 +5,10 @@ use Rattle.cam_macros.specs.declared.fault.MacroFault.{MacroFault}
 use Rattle.cam_macros.specs.declared.fault.MacroFault.TheVariants.{BadName, Malformed, PrimitiveRefused}
 use Rattle.cam_macros.specs.declared.fault.MacroFault.TheVariants.{RotationRefused, SizeRefused, OutOfMemory}
 
-abbrev pub refusal_of : MacroFault → Refusal
-refusal_of BadName = refusal.UnknownCommand
-refusal_of PrimitiveRefused = refusal.PrimitiveRefused
-refusal_of RotationRefused = refusal.RotationRefused
-refusal_of SizeRefused = refusal.SizeRefused
-refusal_of Malformed = refusal.MacroFault
-refusal_of OutOfMemory = refusal.NoMemory
+abbrev pub macro_refusal : MacroFault → Refusal
+macro_refusal BadName = refusal.UnknownCommand
+macro_refusal PrimitiveRefused = refusal.PrimitiveRefused
+macro_refusal RotationRefused = refusal.RotationRefused
+macro_refusal SizeRefused = refusal.SizeRefused
+macro_refusal Malformed = refusal.MacroFault
+macro_refusal OutOfMemory = refusal.NoMemory

@@ -6,7 +6,7 @@ use Rattle.std.specs.List.{list_all}
 use Rattle.std.specs.Char.{is_ascii_digit}
 use Rattle.cam_macros.specs.declared.expression.Operator.{Operator}
 use Rattle.cam_macros.specs.declared.expression.Operator.TheVariants.{Add, Subtract, Multiply, Divide}
-use Rattle.cam_macros.specs.Bytes.{closing, dollar, large_x, minus, opening, plus, point, slash, small_x}
+use Rattle.cam_macros.specs.Bytes.{closing, dollar, large_x, minus_sign, opening_parenthesis, plus, decimal_point, slash, small_x}
 use Rattle.cam_macros.specs.Tree.{Tree, Number, Variable, Negative, Binary}
 use Rattle.cam_numbers.specs.Numbers.{value_of}
 use Rattle.cam_macros.specs.Numbers.{number_written}
@@ -46,7 +46,7 @@ mutual
 
 abbrev pub sign_byte : Sign → ℕ
 sign_byte Plus = plus
-sign_byte Minus = minus
+sign_byte Minus = minus_sign
 
 abbrev pub cross_byte : Cross → ℕ
 cross_byte Small = small_x
@@ -55,7 +55,7 @@ cross_byte Slash = slash
 
 abbrev pub decimal_text : Decimal → List ℕ
 decimal_text (Whole whole) = whole
-decimal_text (Pointed whole decimals) = whole ++ point ∷ decimals
+decimal_text (Pointed whole decimals) = whole ++ decimal_point ∷ decimals
 
 abbrev mutual
   pub sum_text : Sum → List ℕ
@@ -70,7 +70,7 @@ abbrev mutual
   factor_text (Numeral d) = decimal_text d
   factor_text (Dollar digits) = dollar ∷ digits
   factor_text (Signed o f) = sign_byte o ∷ factor_text f
-  factor_text (Enclosed s) = opening ∷ (sum_text s ++ closing ∷ [])
+  factor_text (Enclosed s) = opening_parenthesis ∷ (sum_text s ++ closing ∷ [])
 
 -- how many operators and signs there are
 

@@ -5,9 +5,9 @@ use Rattle.std.specs.Option.{option_map}
 use Rattle.std.specs.List.{slice_split, before_first, after_first, position_or_len}
 use Rattle.cam_macros.specs.declared.part.Part.{Part}
 use Rattle.cam_macros.specs.declared.part.Part.TheVariants.{Assignment, Primitive}
-use Rattle.cam_macros.specs.Bytes.{comma, dollar, equals}
+use Rattle.cam_macros.specs.Bytes.{comma_sign, dollar, equals}
 use Rattle.cam_macros.specs.Tree.{Tree}
-use Rattle.cam_macros.specs.Reading.{pieces, first, others, spoken, is_name, IsReading}
+use Rattle.cam_macros.specs.Reading.{pieces, first, others, parts_spoken, is_macro_name, IsMacroReading}
 use Rattle.cam_macros.specs.Postfix.{tree_of}
 use Rattle.cam_macros.specs.Scanning.{scanned, variable_of}
 use Rattle.cam_numbers.specs.Numbers.{natural}
@@ -40,7 +40,7 @@ primitive_by (digits ∷ texts) =
     with_both (λ code fields. Primitive (min code 10000) fields) (natural digits) (all_read expression_read texts)
 
 unfoldable pub primitive_read : List ℕ → Option Part
-primitive_read piece = primitive_by (slice_split (λ b. b == comma) piece)
+primitive_read piece = primitive_by (slice_split (λ b. b == comma_sign) piece)
 
 abbrev pub part_read : List ℕ → Option Part
 part_read [] = primitive_read []
@@ -49,12 +49,12 @@ part_read (b ∷ bs) = if b == dollar then assignment_read bs else primitive_rea
 -- the parts of the macro for which a text stands, if it stands for one
 unfoldable pub parts_of : List ℕ → Option (List Part)
 parts_of text =
-    if is_name (first (pieces text)) then all_read part_read (spoken (others (pieces text))) else None
+    if is_macro_name (first (pieces text)) then all_read part_read (parts_spoken (others (pieces text))) else None
 
 -- the text stands for a macro with these parts, or for none
 abbrev pub IsReadAs : List ℕ → Option (List Part) → Type 0
-IsReadAs text (Some parts) = IsReading text (first (pieces text)) parts
-IsReadAs text None = (name : List ℕ) (parts : List Part) → ¬ IsReading text name parts
+IsReadAs text (Some parts) = IsMacroReading text (first (pieces text)) parts
+IsReadAs text None = (name : List ℕ) (parts : List Part) → ¬ IsMacroReading text name parts
 
 -- what is computed is what the grammar says
 abbrev pub IsParsedByTheGrammar : Type 0

@@ -25,13 +25,13 @@ built (Apply o ∷ steps) [] = []
 built (Apply o ∷ steps) (b ∷ []) = []
 built (Apply o ∷ steps) (b ∷ a ∷ stack) = built steps (Binary o a b ∷ stack)
 
-abbrev pub top : List Tree → Tree
-top [] = Number 0
-top (t ∷ _) = t
+abbrev pub top_tree : List Tree → Tree
+top_tree [] = Number 0
+top_tree (t ∷ _) = t
 
 -- the tree of steps in postfix order
 abbrev pub tree_of : List Step → Tree
-tree_of steps = top (built steps [])
+tree_of steps = top_tree (built steps [])
 
 pub built-postfix : (t : Tree) (more : List Step) (stack : List Tree)
     → built (postfix t ++ more) stack ≡ built more (t ∷ stack)
@@ -46,7 +46,7 @@ built-postfix (Binary o a b) more stack =
     ∙ built-postfix b (Apply o ∷ more) (a ∷ stack)
 
 pub tree_of-postfix : (t : Tree) → tree_of (postfix t) ≡ t
-tree_of-postfix t = ap (λ s. tree_of s) (sym (append-nil (postfix t))) ∙ ap top (built-postfix t [] [])
+tree_of-postfix t = ap (λ s. tree_of s) (sym (append-nil (postfix t))) ∙ ap top_tree (built-postfix t [] [])
 
 -- expressions one behind the other
 abbrev pub postfixes : List Tree → List Step

@@ -11,7 +11,7 @@ use Rattle.cam_macros.specs.declared.fault.MacroFault.TheVariants.{BadName}
 use Rattle.cam_words.specs.Bytes.{star}
 use Rattle.cam_words.specs.Heads.{packed}
 use Rattle.cam_macros.specs.Answers.{IsMalformed, Nothing}
-use Rattle.cam_macros.specs.Bytes.{comma, dollar, equals, nought}
+use Rattle.cam_macros.specs.Bytes.{comma_sign, dollar, equals, nought}
 use Rattle.cam_macros.specs.Tree.{Tree}
 use Rattle.cam_numbers.specs.Numbers.{value_of}
 use Rattle.cam_macros.specs.Grammar.{AreDigits, IsVariable, IsExpression}
@@ -29,9 +29,9 @@ others [] = []
 others (_ ∷ parts) = parts
 
 -- no digit first, and no comma
-abbrev pub is_name : List ℕ → Bool
-is_name [] = false
-is_name (b ∷ bs) = not (is_ascii_digit b) && not (list_any (λ c. c == comma) (b ∷ bs))
+abbrev pub is_macro_name : List ℕ → Bool
+is_macro_name [] = false
+is_macro_name (b ∷ bs) = not (is_ascii_digit b) && not (list_any (λ c. c == comma_sign) (b ∷ bs))
 
 -- an empty part, or a comment
 abbrev pub is_silent : List ℕ → Bool
@@ -39,8 +39,8 @@ is_silent [] = true
 is_silent (b ∷ _) = b == nought
 
 -- the pieces that are parts
-abbrev pub spoken : List (List ℕ) → List (List ℕ)
-spoken pieces = filter (λ piece. not (is_silent piece)) pieces
+abbrev pub parts_spoken : List (List ℕ) → List (List ℕ)
+parts_spoken pieces = filter (λ piece. not (is_silent piece)) pieces
 
 abbrev pub AreExpressions : List (List ℕ) → List Tree → Type 0
 AreExpressions [] [] = ⊤
@@ -61,7 +61,7 @@ pub record IsAssignment (piece : List ℕ) (variable : ℕ) (value : Tree) : Typ
 pub record IsPrimitive (piece : List ℕ) (code : ℕ) (fields : List Tree) : Type 0 where
   pub digits : List ℕ
   pub texts : List (List ℕ)
-  pub written : slice_split (λ b. b == comma) piece ≡ digits ∷ texts
+  pub written : slice_split (λ b. b == comma_sign) piece ≡ digits ∷ texts
   pub some : digits ≡ [] → ⊥
   pub number : AreDigits digits
   pub same : code ≡ min (value_of digits) 10000
@@ -78,16 +78,16 @@ AreParts [] (_ ∷ _) = ⊥
 AreParts (_ ∷ _) [] = ⊥
 
 -- the text stands for a macro of this name and with these parts
-pub record IsReading (text name : List ℕ) (parts : List Part) : Type 0 where
+pub record IsMacroReading (text name : List ℕ) (parts : List Part) : Type 0 where
   pub name_is : name ≡ first (pieces text)
-  pub named : is_name name ≡ true
-  pub parts_are : AreParts (spoken (others (pieces text))) parts
+  pub named : is_macro_name name ≡ true
+  pub parts_are : AreParts (parts_spoken (others (pieces text))) parts
 
 -- why the text stands for none
-abbrev pub IsRefused : List ℕ → MacroFault → Type 0
-IsRefused text BadName = is_name (first (pieces text)) ≡ false
-IsRefused text fault =
-    IsMalformed fault ((is_name (first (pieces text)) ≡ true) × ((name : List ℕ) → Nothing (IsReading text name)))
+abbrev pub IsMacroRefused : List ℕ → MacroFault → Type 0
+IsMacroRefused text BadName = is_macro_name (first (pieces text)) ≡ false
+IsMacroRefused text fault =
+    IsMalformed fault ((is_macro_name (first (pieces text)) ≡ true) × ((name : List ℕ) → Nothing (IsMacroReading text name)))
 
 -- the pieces between bytes, if any text is left
 abbrev pub pieces_between : ℕ → Option (Bor (List ℕ)) → List (List ℕ)
@@ -96,4 +96,4 @@ pieces_between c (Some text) = slice_split (λ b. b == c) text.now
 
 -- a text stands for one macro at most
 abbrev pub OneReadingLaw : Type 0
-OneReadingLaw = (text m n : List ℕ) (a b : List Part) → IsReading text m a → IsReading text n b → (m ≡ n) × (a ≡ b)
+OneReadingLaw = (text m n : List ℕ) (a b : List Part) → IsMacroReading text m a → IsMacroReading text n b → (m ≡ n) × (a ≡ b)

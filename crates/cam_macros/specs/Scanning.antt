@@ -12,27 +12,27 @@ use Rattle.cam_macros.specs.declared.parsing.mark.Mark.{Mark}
 use Rattle.cam_macros.specs.declared.parsing.mark.Mark.TheVariants.{Numeral, Dollar, Open, Close, Plus, Minus, Times, Over}
 use Rattle.cam_macros.specs.declared.parsing.mark.Mark.TheVariants.{Other}
 use Rattle.cam_macros.specs.declared.parsing.scanner.Level.{Level}
-use Rattle.cam_macros.specs.Bytes.{closing, dollar, large_x, minus, opening, plus, point, slash, small_x}
+use Rattle.cam_macros.specs.Bytes.{closing, dollar, large_x, minus_sign, opening_parenthesis, plus, decimal_point, slash, small_x}
 use Rattle.cam_numbers.specs.Numbers.{natural, unsigned_decimal}
 
 -- a digit or a point
-abbrev pub is_numeric : ℕ → Bool
-is_numeric b = is_ascii_digit b || (b == point)
+abbrev pub is_run_byte : ℕ → Bool
+is_run_byte b = is_ascii_digit b || (b == decimal_point)
 
 abbrev pub mark_of : ℕ → Mark
 mark_of b =
-    if is_numeric b then Numeral
+    if is_run_byte b then Numeral
     else (if b == dollar then Dollar
-    else (if b == opening then Open
+    else (if b == opening_parenthesis then Open
     else (if b == closing then Close
     else (if b == plus then Plus
-    else (if b == minus then Minus
+    else (if b == minus_sign then Minus
     else (if (b == small_x) || (b == large_x) then Times
     else (if b == slash then Over else Other)))))))
 
 -- a run of digits and points
-abbrev pub number_of : List ℕ → Option ℕ
-number_of run = unsigned_decimal run
+abbrev pub number_of_run : List ℕ → Option ℕ
+number_of_run run = unsigned_decimal run
 
 -- the number of a variable
 abbrev pub variable_by : ℕ → Option ℕ
@@ -53,15 +53,15 @@ pub record Scan : Type 0 where
 abbrev pub level_of : Option Operator → Option Operator → ℕ → Level
 level_of sum term minuses = record { sum = sum; term = term; minuses = minuses }
 
-abbrev pub fresh : Level
-fresh = level_of None None 0
+abbrev pub fresh_level : Level
+fresh_level = level_of None None 0
 
 abbrev pub scan_of : List Step → Level → List Level → ℕ → ℕ → Scan
 scan_of steps level outer room budget =
     record { steps = steps; level = level; outer = outer; room = room; budget = budget }
 
 abbrev pub start : Scan
-start = scan_of [] fresh [] 64 1000
+start = scan_of [] fresh_level [] 64 1000
 
 abbrev pub waiting : Option Operator → List Step
 waiting None = []
@@ -73,8 +73,8 @@ with_operand s =
     scan_of (s.steps ++ replicate s.level.minuses Negate ++ waiting s.level.term) (level_of s.level.sum None 0)
     s.outer s.room s.budget
 
-abbrev pub with_step : Step → Scan → Scan
-with_step step s = with_operand (scan_of (s.steps ++ step ∷ []) s.level s.outer s.room s.budget)
+abbrev pub step_scanned : Step → Scan → Scan
+step_scanned step s = with_operand (scan_of (s.steps ++ step ∷ []) s.level s.outer s.room s.budget)
 
 -- one operator or sign more
 abbrev pub charged : Scan → Option Scan
@@ -90,8 +90,8 @@ with_sum o s =
 abbrev pub with_term : Operator → Scan → Scan
 with_term o s = scan_of s.steps (level_of s.level.sum (Some o) s.level.minuses) s.outer s.room s.budget
 
-abbrev pub opened : Scan → Option Scan
-opened s = elim s.room [ zero ↦ None | suc room ↦ Some (scan_of s.steps fresh (s.level ∷ s.outer) room s.budget) ]
+abbrev pub group_opened : Scan → Option Scan
+group_opened s = elim s.room [ zero ↦ None | suc room ↦ Some (scan_of s.steps fresh_level (s.level ∷ s.outer) room s.budget) ]
 
 abbrev pub closed : Scan → Option Scan
 closed s =
@@ -116,10 +116,10 @@ then_at status next = option_map (λ s. (status, s)) next
 
 abbrev pub operand_at : Mark → Scan → ℕ → List ℕ → Next
 operand_at Numeral s b bs =
-    option_map (λ n. (InNumber, with_step (Push n) s)) (number_of (b ∷ take_while is_numeric bs))
+    option_map (λ n. (InNumber, step_scanned (Push n) s)) (number_of_run (b ∷ take_while is_run_byte bs))
 operand_at Dollar s b bs =
-    option_map (λ n. (InVariable, with_step (Read n) s)) (variable_of (take_while is_ascii_digit bs))
-operand_at Open s b bs = then_at Wanted (opened s)
+    option_map (λ n. (InVariable, step_scanned (Read n) s)) (variable_of (take_while is_ascii_digit bs))
+operand_at Open s b bs = then_at Wanted (group_opened s)
 operand_at Plus s b bs = then_at Wanted (charged s)
 operand_at Minus s b bs = then_at Wanted (option_map with_minus (charged s))
 operand_at Close s b bs = None
@@ -141,7 +141,7 @@ operator_at Other s = None
 abbrev pub step_at : Status → Scan → ℕ → List ℕ → Next
 step_at Wanted s b bs = operand_at (mark_of b) s b bs
 step_at Behind s b bs = operator_at (mark_of b) s
-step_at InNumber s b bs = if is_numeric b then Some (InNumber, s) else operator_at (mark_of b) s
+step_at InNumber s b bs = if is_run_byte b then Some (InNumber, s) else operator_at (mark_of b) s
 step_at InVariable s b bs = if is_ascii_digit b then Some (InVariable, s) else operator_at (mark_of b) s
 
 abbrev pub finished : Status → Scan → Option (List Step)

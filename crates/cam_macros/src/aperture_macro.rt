@@ -4,7 +4,7 @@ ghost use Rattle.std.specs.Prelude.{◌≡◌, IfOk, IfErr};
 ghost use Rattle.cam_words.specs.Heads.{packed};
 ghost use Rattle.cam_macros.specs.Answers.{IsUnlessMemory};
 ghost use Rattle.cam_macros.specs.Expansion.{expansion_of};
-ghost use Rattle.cam_macros.specs.Reading.{IsReading, IsRefused, is_name};
+ghost use Rattle.cam_macros.specs.Reading.{IsMacroReading, IsMacroRefused, is_macro_name};
 
 use crate::expansion::parts::expanded;
 use crate::fault::MacroFault;
@@ -32,12 +32,12 @@ impl Macro {
     /// `BadName` where the name is none, `Malformed` where a part is outside the grammar
     /// (Gerber Layer Format Specification, "Aperture macro (AM)").
     pub fn parse(alloc: Global, text: &[u8]) -> Result<Macro, MacroFault>
-        ensures ok { IfOk result (λ made. IsReading text.now made.name made.parts) }
-        ensures fault { IfErr result (IsRefused text.now) }
+        ensures ok { IfOk result (λ made. IsMacroReading text.now made.name made.parts) }
+        ensures fault { IfErr result (IsMacroRefused text.now) }
     {
         let text = packed(alloc, text)?;
         let (name, rest) = cut(text.as_slice(), b'*');
-        if !is_name(name) {
+        if !is_macro_name(name) {
             return Err(MacroFault::BadName);
         }
         let bytes = name.to_vec(alloc)?;
@@ -70,8 +70,8 @@ fn packed(alloc: Global, text: &[u8]) -> Result<Vec<u8>, AllocError>
         .collect(alloc)
 }
 
-fn is_name(name: &[u8]) -> bool
-    ensures { result ≡ is_name name.now }
+fn is_macro_name(name: &[u8]) -> bool
+    ensures { result ≡ is_macro_name name.now }
 {
     let Some(first) = name.first() else {
         return false;

@@ -79,7 +79,7 @@ impl Expression {
         steps
     }
 
-    /// The same, in room for its steps and no more.
+    /// A copy, in room for its steps and no more.
     pub(crate) fn in_exact_room(&self, alloc: Global) -> Result<Expression, AllocError>
         ensures { IfOk result (λ same. same ≡ self.now) }
     {

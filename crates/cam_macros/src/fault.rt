@@ -2,7 +2,7 @@
 
 ghost use Rattle.std.specs.Prelude.{◌≡◌};
 ghost use Rattle.cam_refusals.specs.Refusals.{number_of};
-ghost use Rattle.cam_macros.specs.Faults.{refusal_of};
+ghost use Rattle.cam_macros.specs.Faults.{macro_refusal};
 ghost use Rattle.cam_macros.specs.declared.fault.MacroFault.TheVariants.{OutOfMemory};
 
 use cam_refusals::Refusal;
@@ -29,7 +29,7 @@ pub enum MacroFault {
 impl MacroFault {
     /// The refusal that tells it.
     pub fn refusal(self) -> Refusal
-        ensures { result ≡ refusal_of self }
+        ensures { result ≡ macro_refusal self }
     {
         match self {
             MacroFault::BadName => Refusal::UnknownCommand,
@@ -43,7 +43,7 @@ impl MacroFault {
 
     /// The number by which it is told: 3, 29, 12, 13, 24 or 30.
     pub fn number(self) -> u8
-        ensures { result ≡ number_of (refusal_of self) }
+        ensures { result ≡ number_of (macro_refusal self) }
     {
         self.refusal().number()
     }

@@ -6,7 +6,7 @@ use Rattle.std.proofs.lemmas.List.Elements.{All-cons, All-nil}
 use Rattle.std.proofs.lemmas.Option.{get_or_from_slice_get}
 use Rattle.cam_refusals.specs.Limits.{board_limit}
 use Rattle.cam_units.specs.Board.{IsOnBoard, IsPlace, place_limit}
-use Rattle.cam_units.specs.Boxes.{Holds, IsBetween}
+use Rattle.cam_units.specs.Boxes.{Holds, IsInBox}
 use Rattle.cam_units.specs.declared.bounds.Bounds.{Bounds}
 use Rattle.cam_units.specs.declared.bounds.Bounds.TheVariants.{Closed}
 use Rattle.cam_units.specs.declared.length.Nm.{Nm}
@@ -223,7 +223,7 @@ left_of from to w h s place a nearest right n at is seen reach far least =
 
 pub round_missed : (tip : Tip) (w : Nm) (from to : Point) (within : Bounds) (low high : Spot)
     → tip ≡ Round w → within ≡ Closed low high
-    → ((s : Spot) → IsBetween low high s → IsNearWay (way from to) (seen_from from s) w.0 w.0 → ⊥)
+    → ((s : Spot) → IsInBox low high s → IsNearWay (way from to) (seen_from from s) w.0 w.0 → ⊥)
     → (s : Spot) → Holds within s → Covers (drawn tip from to) s → ⊥
 round_missed tip w from to within low high round box far s held on =
     let inside : IsInCapsule s (record { from = from; to = to; width = w }) =

@@ -1,6 +1,6 @@
 -- the attributes of a layer stay sound as they are edited
-use Rattle.std.proofs.Common.{◌≡◌, ℕ, suc, ◌+◌, ◌<◌, ◌≤◌, Bool, true, false, cond, ltb, not, IsTrue, List, [], ◌∷◌, ◌++◌, length, set}
-use Rattle.std.proofs.Common.{◌↔◌, ◌⊎◌, inl, inr, None, Some, refl, sym, ap, subst, ◌∙◌, arith, lit≤}
+use Rattle.std.proofs.Common.{◌≡◌, ℕ, suc, ◌+◌, ◌<◌, ◌≤◌, Bool, true, false, cond, ltb, not, List, [], ◌∷◌, ◌++◌, length, set}
+use Rattle.std.proofs.Common.{◌⊎◌, inl, inr, None, Some, refl, sym, ap, subst, ◌∙◌, arith, lit≤}
 use Rattle.std.specs.List.{All, IsDistinct, position_or_len}
 use Rattle.std.specs.Str.{bytes_eq}
 use Rattle.std.proofs.lemmas.Bool.{false_from_ne_true, false≢true, le-ltb, lt-ltb, ltb-false, ltb-true}
@@ -11,7 +11,7 @@ use Rattle.std.proofs.lemmas.List.Sums.{fails_before_first}
 use Rattle.std.proofs.lemmas.Map.Keys.{IsDistinct-cons, IsDistinct-from_apart, IsDistinct-head, IsDistinct-tail}
 use Rattle.std.proofs.lemmas.Slice.Eq.{bytes_eq-Decides}
 use Rattle.cam_objects.specs.declared.attribute.Attribute.{Attribute}
-use Rattle.cam_objects.specs.Attributes.{AreAttributes, IsAttribute, MaySet, has_name, names_of, place_of, with_attribute}
+use Rattle.cam_objects.specs.Attributes.{AreAttributes, IsAttribute, MaySet, has_name, names_of, attribute_place, with_attribute}
 use Rattle.cam_objects.specs.LayerLaws.{AttributeEditLaw, SettingLaw}
 use Rattle.cam_objects.proofs.EditedLayers.{all_with, all_without}
 
@@ -58,35 +58,28 @@ place_none : (t : Bool) (n : ℕ) → cond t (Some n) None ≡ None → t ≡ fa
 place_none true n e = absurd (cc)
 place_none false n e = refl
 
-pub kept_place : (a : Attribute) (xs : List Attribute) (k : ℕ) → place_of a.name xs ≡ Some k → with_attribute a xs ≡ set xs k a
+pub kept_place : (a : Attribute) (xs : List Attribute) (k : ℕ) → attribute_place a.name xs ≡ Some k → with_attribute a xs ≡ set xs k a
 kept_place a xs k e =
     let h = place_some (ltb (position_or_len (has_name a.name) xs) (length xs)) (position_or_len (has_name a.name) xs) k e in
     set_or_add a xs k h.1
     ∙ ap (λ t. cond t (set xs k a) (xs ++ a ∷ [])) (subst (λ n. ltb n (length xs) ≡ true) h.1 h.0)
 
-pub added_last : (a : Attribute) (xs : List Attribute) → place_of a.name xs ≡ None → with_attribute a xs ≡ xs ++ a ∷ []
+pub added_last : (a : Attribute) (xs : List Attribute) → attribute_place a.name xs ≡ None → with_attribute a xs ≡ xs ++ a ∷ []
 added_last a xs e =
     let n = position_or_len (has_name a.name) xs in
     set_or_add a xs n refl ∙ ap (λ t. cond t (set xs n a) (xs ++ a ∷ [])) (place_none (ltb n (length xs)) n e)
 
 -- how many attributes there are with one more
-pub room_kept : (a : Attribute) (xs : List Attribute) (k : ℕ) → place_of a.name xs ≡ Some k → length (with_attribute a xs) ≡ length xs
+pub room_kept : (a : Attribute) (xs : List Attribute) (k : ℕ) → attribute_place a.name xs ≡ Some k → length (with_attribute a xs) ≡ length xs
 room_kept a xs k e = ap length (kept_place a xs k e) ∙ length-set xs k a
 
-pub room_added : (a : Attribute) (xs : List Attribute) → place_of a.name xs ≡ None → length (with_attribute a xs) ≡ length xs + 1
+pub room_added : (a : Attribute) (xs : List Attribute) → attribute_place a.name xs ≡ None → length (with_attribute a xs) ≡ length xs + 1
 room_added a xs e = omega (arith, ap length (added_last a xs e), length-append xs (a ∷ []))
-
-pub may_set : (xs : List Attribute) (a : Attribute) (n : ℕ) (b : Bool) → IsAttribute a → length (with_attribute a xs) ≡ n
-    → (IsTrue b → n ≤ 1000) → (n ≤ 1000 → IsTrue b) → IsTrue b ↔ MaySet xs a
-may_set xs a n b sound is to from = (
-  (λ t. record { sound = sound; room = subst (λ m. m ≤ 1000) (sym is) (to t) }),
-  (λ may. from (subst (λ m. m ≤ 1000) is may.room)),
-)
 
 pub setting_law : SettingLaw
 setting_law = record { keep = λ xs a k e. kept_place a xs k e; add = λ xs a e. added_last a xs e }
 
-pub lacks : (name : List ℕ) (xs : List Attribute) → place_of name xs ≡ None → Lacks name xs
+pub lacks : (name : List ℕ) (xs : List Attribute) → attribute_place name xs ≡ None → Lacks name xs
 lacks name xs e =
     let n = position_or_len (has_name name) xs in
     let all : length xs ≤ n = ltb-false n (length xs) (place_none (ltb n (length xs)) n e) in

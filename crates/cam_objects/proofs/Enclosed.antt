@@ -4,7 +4,7 @@ use Rattle.std.proofs.lemmas.Bool.{cases_lt}
 use Rattle.std.proofs.lemmas.Int.{ints}
 use lib.Signed.{le_z}
 use Rattle.cam_shapes.proofs.Widths.{at_most_is}
-use Rattle.cam_units.specs.Boxes.{IsBetween}
+use Rattle.cam_units.specs.Boxes.{IsInBox}
 use Rattle.cam_units.specs.declared.bounds.Bounds.{Bounds}
 use Rattle.cam_units.specs.declared.bounds.Bounds.TheVariants.{Closed}
 use Rattle.cam_units.specs.declared.point.Spot.{Spot}
@@ -12,14 +12,14 @@ use Rattle.cam_objects.specs.Cells.{box_at}
 use Rattle.cam_objects.specs.Enclosed.{IsEnclosed}
 use Rattle.cam_objects.proofs.TestLaws.{both, like}
 
-pub between : (low high s : Spot) → IsTrue (((le_z low.x s.x && le_z s.x high.x) && le_z low.y s.y) && le_z s.y high.y) ↔ IsBetween low high s
+pub between : (low high s : Spot) → IsTrue (((le_z low.x s.x && le_z s.x high.x) && le_z low.y s.y) && le_z s.y high.y) ↔ IsInBox low high s
 between low high s =
     like (λ h. record { left = h.0.0.0; right = h.0.0.1; below = h.0.1; above = h.1 }) (λ h. (((h.left, h.right), h.below), h.above))
     (both (both (both (at_most_is low.x s.x) (at_most_is s.x high.x)) (at_most_is low.y s.y)) (at_most_is s.y high.y))
 
 -- a box of which no corner is crossed lies in another where its corners do
 corners : (low high least greatest : Spot)
-    → (((IsBetween low high low × IsBetween least greatest low) × IsBetween least greatest high)
+    → (((IsInBox low high low × IsInBox least greatest low) × IsInBox least greatest high)
     → IsEnclosed (Closed low high) (Closed least greatest))
 corners low high least greatest h = record {
   place = (low, h.0.0);
@@ -32,17 +32,17 @@ corners low high least greatest h = record {
 }
 
 back : (low high least greatest : Spot) → IsEnclosed (Closed low high) (Closed least greatest)
-    → (IsBetween low high low × IsBetween least greatest low) × IsBetween least greatest high
+    → (IsInBox low high low × IsInBox least greatest low) × IsInBox least greatest high
 back low high least greatest h =
     let s = h.place.0 in
-    let k : IsBetween low high s = h.place.1 in
-    let first : IsBetween low high low = record {
+    let k : IsInBox low high s = h.place.1 in
+    let first : IsInBox low high low = record {
       left = omega (arith, ints);
       right = omega (arith, ints, k.left, k.right);
       below = omega (arith, ints);
       above = omega (arith, ints, k.below, k.above);
     } in
-    let last : IsBetween low high high = record {
+    let last : IsInBox low high high = record {
       left = omega (arith, ints, k.left, k.right);
       right = omega (arith, ints);
       below = omega (arith, ints, k.below, k.above);
@@ -50,8 +50,8 @@ back low high least greatest h =
     } in
     ((first, h.within low first), h.within high last)
 
-pub enclosed : (low high least greatest : Spot) (a b c : Bool) → (IsTrue a ↔ IsBetween low high low)
-    → (IsTrue b ↔ IsBetween least greatest low) → (IsTrue c ↔ IsBetween least greatest high)
+pub enclosed : (low high least greatest : Spot) (a b c : Bool) → (IsTrue a ↔ IsInBox low high low)
+    → (IsTrue b ↔ IsInBox least greatest low) → (IsTrue c ↔ IsInBox least greatest high)
     → IsTrue ((a && b) && c) ↔ IsEnclosed (Closed low high) (Closed least greatest)
 enclosed low high least greatest a b c p q r =
     like (corners low high least greatest) (back low high least greatest) (both (both p q) r)

@@ -3,9 +3,7 @@ use Rattle.std.proofs.Common.{◌≡◌, ℕ, zero, suc, ◌+◌, ◌-◌, ◌*�
 use Rattle.std.specs.List.{All, IsDistinct, flat_map, range_with_len}
 use Rattle.std.proofs.lemmas.Int.{ints}
 use Rattle.std.proofs.lemmas.List.Elements.{All-weaker}
-use Rattle.cam_units.specs.Boxes.{Holds, join_of}
-use Rattle.cam_units.specs.declared.point.Spot.{Spot}
-use Rattle.cam_objects.specs.Image.{IsUncovered}
+use Rattle.cam_units.specs.Boxes.{join_of}
 use Rattle.std.specs.Map.{keys_of}
 use Rattle.cam_units.specs.declared.bounds.Bounds.{Bounds}
 use Rattle.cam_units.specs.declared.point.Point.{Point}
@@ -35,7 +33,6 @@ use Rattle.cam_units.specs.Board.{IsOnBoard}
 use Rattle.cam_objects.proofs.BoxLimits.{IsBoxWithin, within_near, within_uncrossed}
 use Rattle.cam_objects.proofs.CopyBoxes.{all_flat, repeat_box}
 use Rattle.cam_objects.proofs.Dictionaries.{whole}
-use Rattle.cam_objects.proofs.CoveredBoxes.{outside_box}
 use Rattle.cam_objects.proofs.Painting.{All_left, meaning-at}
 use Rattle.cam_objects.proofs.PlacedBoxes.{flash_placed}
 use Rattle.cam_objects.proofs.PlacedShapes.{shapes_so}
@@ -106,13 +103,6 @@ pub flash_box : (es : List (ℕ × Entry)) (n : ℕ) (p : Place) (f : Facts) (b 
     → b ≡ bounds_of ((meaning_in es n).flash p)
 flash_box es n p f b facts box =
     box ∙ ap (λ (x : Facts). placed_bounds p x.bounds) facts ∙ sym (flash_placed box_of_shape shapes_so (reverse es) n p)
-
--- a place outside it is covered by none of them
-pub missed : (es : List (ℕ × Entry)) (n : ℕ) (p : Place) (f : Facts) (b : Bounds) (s : Spot) → f ≡ facts_at es n
-    → b ≡ placed_bounds p f.bounds
-    → (Holds b s → ⊥) → IsUncovered ((meaning_in es n).flash p) s
-missed es n p f b s facts box out =
-    outside_box ((meaning_in es n).flash p) s (subst (λ (x : Bounds). Holds x s → ⊥) (flash_box es n p f b facts box) out)
 
 -- an entry among the first ones means what it does among all
 pub meaning_among : (es : List (ℕ × Entry)) (i upto n : ℕ) (e : Entry) → IsDistinct nat_eq (keys_of es) → slice_get es i ≡ Some (n, e)

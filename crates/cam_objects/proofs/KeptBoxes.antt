@@ -13,10 +13,7 @@ use Rattle.cam_units.specs.Boxes.{HaveCommonPlace}
 use Rattle.cam_units.specs.declared.bounds.Bounds.{Bounds}
 use Rattle.cam_units.specs.declared.bounds.Bounds.TheVariants.{Empty, Closed}
 use Rattle.cam_units.specs.declared.point.Spot.{Spot}
-use Rattle.cam_objects.specs.declared.cells.reach.Measure.{Measure}
 use Rattle.cam_objects.specs.declared.cells.reach.Reach.{Reach}
-use Rattle.cam_objects.specs.declared.drill_item.DrillItem.{DrillItem}
-use Rattle.cam_objects.specs.declared.drill_layer.DrillLayer.{DrillLayer}
 use Rattle.cam_objects.specs.declared.item.Item.{Item}
 use Rattle.cam_objects.specs.declared.item.Item.TheVariants.{One}
 use Rattle.cam_objects.specs.declared.object.Object.{Object}
@@ -25,7 +22,6 @@ use Rattle.cam_objects.specs.declared.cells.sides.Sides.{Sides}
 use Rattle.cam_objects.specs.Bounds.{bounds_of}
 use Rattle.cam_objects.specs.Leaves.{item_leaves, meaning_in}
 use Rattle.cam_objects.specs.Cells.{AreBeside, AreCellsOf, IsCell, IsReachOf, IsSide, Reaches, bottom_of, box_at, left_of, right_of, top_of}
-use Rattle.cam_objects.specs.Machinery.Measures.{IsDrillMeasureOf}
 use Rattle.cam_objects.specs.Machinery.Painting.{StandsOnBoard}
 use Rattle.cam_objects.specs.Soundness.{HasSoundItems, IsInside, IsSoundItem}
 use Rattle.cam_objects.proofs.SoundItems.{meets}
@@ -60,17 +56,6 @@ listed_stands layer shown place x o sound is within here one =
     let item : IsSoundItem es (One o) = subst (IsSoundItem es) (sym here ∙ one) listed in
     let inside : IsInside es (One o) = (meets es (One o) item).inside in
     inside.points 0 o (omega arith)
-
-pub drill_measured : (layer shown : DrillLayer) (place : ℕ) (x y item : DrillItem) (m : Measure) → layer ≡ shown
-    → x ≡ get_or layer.items.items place x → slice_get shown.items.items place ≡ Some item → x ≡ y
-    → IsDrillMeasureOf layer.tools y m → IsDrillMeasureOf shown.tools item m
-drill_measured layer shown place x y item m is here at same known =
-    subst (λ (z : DrillItem). IsDrillMeasureOf shown.tools z m)
-    (sym same
-    ∙ here
-    ∙ ap (λ (l : DrillLayer). get_or l.items.items place x) is
-    ∙ get_or_from_slice_get shown.items.items place item x at)
-    (subst (λ (l : DrillLayer). IsDrillMeasureOf l.tools y m) is known)
 
 -- ---- cells
 
@@ -124,9 +109,6 @@ far_item boxes reaches sides near s k kept same known told listed apart common =
 -- ---- numbers beside a list that is edited
 
 module _ {X : Type 0} (R : X → ℕ → Type 0) (d : X) where
-  pub beside_none : (xs : List X) → AreBeside R d xs []
-  beside_none xs = record { each = λ k listed known. absurd (omega arith) }
-
   pub beside_nothing : (ys : List ℕ) → AreBeside R d [] ys
   beside_nothing ys = record { each = λ k listed known. absurd (omega arith) }
 

@@ -18,7 +18,6 @@ pub mod EditedAttributes
 pub mod EditedLayers
 pub mod Enclosed
 pub mod Extents
-pub mod Frames
 pub mod GrownDictionaries
 pub mod Inking
 pub mod ItemBounds
@@ -26,7 +25,6 @@ pub mod ItemCopies
 pub mod KeptBoxes
 pub mod KeptCopies
 pub mod KeptFacts
-pub mod LastFrames
 pub mod LastInks
 pub mod MovedBounds
 pub mod MovedBoxes

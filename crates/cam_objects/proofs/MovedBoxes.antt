@@ -161,9 +161,6 @@ module _ (by : Point) where
 
   -- ---- what is painted: an object that is moved paints what it would paint at a place that is moved so
 
-  across : (x y b : ℤ) → (pos 1 *ℤ (x +ℤ b) +ℤ pos 0 *ℤ y) +ℤ pos 0 ≡ (pos 1 *ℤ x +ℤ pos 0 *ℤ y) +ℤ b
-  across x y b = omega (arith, ints)
-
   across' : (x y b c : ℤ) → (pos 1 *ℤ (x +ℤ b) +ℤ pos 0 *ℤ (y +ℤ c)) +ℤ pos 0 ≡ (pos 1 *ℤ x +ℤ pos 0 *ℤ y) +ℤ b
   across' x y b c = omega (arith, ints)
 

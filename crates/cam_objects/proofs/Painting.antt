@@ -49,7 +49,7 @@ use Rattle.cam_units.specs.declared.turn.Turn.{Turn}
 use Rattle.cam_shapes.specs.Placing.{IsPlaceable, IsPlaceablePoint, placed_contour, placed_direction}
 use Rattle.cam_shapes.specs.Shifting.{IsShiftable}
 use Rattle.cam_shapes.specs.declared.contour.Contour.{Contour}
-use Rattle.cam_apertures.specs.Soundness.{IsSoundAperture, IsSide}
+use Rattle.cam_apertures.specs.Soundness.{IsSoundAperture, IsSideLength}
 use Rattle.cam_apertures.specs.declared.aperture.Aperture.{Aperture as Template}
 use Rattle.cam_apertures.specs.declared.aperture.Aperture.TheVariants.{Circle, Rect, Obround, Prims}
 use Rattle.cam_objects.specs.declared.object.Object.{Object}
@@ -130,7 +130,7 @@ block_stands es i n objects at sound =
     All-weaker (λ o. IsSoundItem (take i es) (One o)) StandsOnBoard (λ o h. item_stands (take i es) o (meets (take i es) (One o) h).inside) objects block.each
 
 -- a side is a size
-pub side_size : (n : ℤ) → IsSide n → IsSize n
+pub side_size : (n : ℤ) → IsSideLength n → IsSize n
 side_size n h = (omega (arith, ints, h.0), h.1)
 
 pub solid_size : (a : Template) → IsSoundAperture a → IfSome (solid_tip a) IsSizedTip

@@ -21,7 +21,7 @@ use Rattle.cam_shapes.specs.Plane.{dot, place_of, way}
 use Rattle.cam_apertures.specs.declared.aperture.Aperture.{Aperture as Template}
 use Rattle.cam_apertures.specs.declared.aperture.Aperture.TheVariants.{Circle, Rect, Obround, Prims}
 use Rattle.cam_apertures.specs.Bounds.{bounds_of as template_bounds}
-use Rattle.cam_apertures.specs.Cover.{origin as flash_point}
+use Rattle.cam_apertures.specs.Cover.{flash_point}
 use Rattle.cam_apertures.specs.Primitives.{box_about, box_of_point, box_of_prims}
 use Rattle.cam_apertures.specs.Turned.{turned_box, turned_height, turned_width}
 use Rattle.cam_apertures.proofs.Corners.{same_box}

@@ -6,7 +6,7 @@ use Rattle.std.proofs.lemmas.List.Elements.{All-head, All-tail}
 use Rattle.cam_units.specs.declared.point.Spot.{Spot}
 use Rattle.cam_units.specs.Boxes.{Holds}
 use Rattle.cam_objects.specs.Bounds.{bounds_of}
-use Rattle.cam_objects.specs.BoxLaws.{CoverBoxLaw, IsOutside, KeepsOutside, RedrawLaw}
+use Rattle.cam_objects.specs.BoxLaws.{CoverBoxLaw, IsOutside, KeepsOutside, BoxRedrawLaw}
 use Rattle.cam_objects.specs.Drilling.{drill_item_leaves}
 use Rattle.cam_objects.specs.Image.{IsBlack, IsUncovered}
 use Rattle.cam_objects.specs.Leaves.{Leaf, item_leaves, meaning_in}
@@ -57,7 +57,7 @@ module _ {X : Type 0} (paints : X → List Leaf) where
 pub cover_box_law : CoverBoxLaw
 cover_box_law = record { shape = covered_box; leaves = outside_box }
 
-pub redraw_law : RedrawLaw
+pub redraw_law : BoxRedrawLaw
 redraw_law = record {
   items = λ entries. keeps_outside (item_leaves (meaning_in entries));
   drill_items = λ tools. keeps_outside (drill_item_leaves tools);

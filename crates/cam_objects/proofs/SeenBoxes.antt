@@ -3,7 +3,7 @@ use Rattle.std.proofs.Common.{◌≡◌, ◌^◌, ◌<◌, ℤ, pos, negsuc, neg
 use Rattle.std.specs.Int.RustNames.{unsigned_abs}
 use Rattle.std.proofs.lemmas.Int.{clamps, ints}
 use Rattle.std.specs.Int.{int_max, int_min, saturate_signed}
-use Rattle.cam_units.specs.Boxes.{HaveCommonPlace, Holds, IsBetween}
+use Rattle.cam_units.specs.Boxes.{HaveCommonPlace, Holds, IsInBox}
 use Rattle.cam_units.specs.declared.bounds.Bounds.{Bounds}
 use Rattle.cam_units.specs.declared.bounds.Bounds.TheVariants.{Empty, Closed}
 use Rattle.cam_units.specs.declared.point.Spot.{Spot}
@@ -49,11 +49,11 @@ before M90 s = record { x = neg_ℤ s.y; y = neg_ℤ s.x }
 before M180 s = record { x = s.x; y = neg_ℤ s.y }
 before M270 s = record { x = s.y; y = s.x }
 
-between : (low high s : Spot) → low.x ≤ℤ s.x → s.x ≤ℤ high.x → low.y ≤ℤ s.y → s.y ≤ℤ high.y → IsBetween low high s
+between : (low high s : Spot) → low.x ≤ℤ s.x → s.x ≤ℤ high.x → low.y ≤ℤ s.y → s.y ≤ℤ high.y → IsInBox low high s
 between low high s left right below above = record { left = left; right = right; below = below; above = above }
 
 -- it lay in the box that was turned
-lay_in : (t : Turn) (low high s : Spot) → Holds (turned_corners t low high) s → IsBetween low high (before t s)
+lay_in : (t : Turn) (low high s : Spot) → Holds (turned_corners t low high) s → IsInBox low high (before t s)
 lay_in R0 low high s h = h
 lay_in R90 low high s h = between low high (before R90 s) h.below h.above (omega (arith, ints, h.right)) (omega (arith, ints, h.left))
 lay_in R180 low high s h =
@@ -66,7 +66,7 @@ lay_in M180 low high s h = between low high (before M180 s) h.left h.right (omeg
 lay_in M270 low high s h = between low high (before M270 s) h.below h.above h.left h.right
 
 -- and in each box that it lies in, taken back
-lies_in : (t : Turn) (low high s : Spot) → IsBetween low high s → Holds (turned_corners (turned_back t) low high) (before t s)
+lies_in : (t : Turn) (low high s : Spot) → IsInBox low high s → Holds (turned_corners (turned_back t) low high) (before t s)
 lies_in R0 low high s h = h
 lies_in R90 low high s h = between _ _ (before R90 s) h.below h.above (omega (arith, ints, h.right)) (omega (arith, ints, h.left))
 lies_in R180 low high s h =
@@ -79,7 +79,7 @@ lies_in M180 low high s h = between _ _ (before M180 s) h.left h.right (omega (a
 lies_in M270 low high s h = between _ _ (before M270 s) h.below h.above h.left h.right
 
 -- a place of a near box is near
-near_place : (low high s : Spot) → IsNearSpot low → IsNearSpot high → IsBetween low high s → IsNearSpot s
+near_place : (low high s : Spot) → IsNearSpot low → IsNearSpot high → IsInBox low high s → IsNearSpot s
 near_place low high s a b h = record {
   x = omega (arith, ints, a.x, b.x, h.left, h.right);
   y = omega (arith, ints, a.y, b.y, h.below, h.above);

@@ -62,7 +62,7 @@ use Rattle.cam_macros.specs.declared.primitive.PrimShape.TheVariants.{Disc, Bar,
 use Rattle.cam_apertures.specs.declared.aperture.Aperture.{Aperture as Template}
 use Rattle.cam_apertures.specs.declared.aperture.Aperture.TheVariants.{Circle, Rect, Obround, Prims}
 use Rattle.cam_apertures.specs.Bounds.{bounds_of as template_bounds}
-use Rattle.cam_apertures.specs.Cover.{origin as flash_point}
+use Rattle.cam_apertures.specs.Cover.{flash_point}
 use Rattle.cam_apertures.specs.Primitives.{
   IsMacroPoint,
   IsSoundPrim,
@@ -70,7 +70,7 @@ use Rattle.cam_apertures.specs.Primitives.{
   box_about,
   box_of_point,
   box_of_prims,
-  box_of_shape as box_of_prim,
+  primitive_box as box_of_prim,
 }
 use Rattle.cam_apertures.specs.Soundness.{IsSoundAperture}
 use Rattle.cam_apertures.proofs.TurnedBoxes.{prims_turned}

@@ -16,7 +16,7 @@ use Rattle.cam_objects.specs.Leaves.{Leaf, item_leaves, meaning_in}
 use Rattle.cam_objects.specs.Soundness.{HasShortSteps, are_on_board, has_short_steps, is_inside, is_on_board, keeps_limits}
 use Rattle.cam_objects.specs.Soundness.{objects_of, points_of, points_of_shape}
 use Rattle.cam_objects.specs.Weights.{item_count, weight_in}
-use Rattle.cam_objects.specs.Tests.{BoardTestLaw, InsideTestLaw, LimitTestLaw, TestLaw, is_black, last_ink}
+use Rattle.cam_objects.specs.Tests.{BoardTestLaw, InsideTestLaw, LimitTestLaw, PaintingTestLaw, is_black, last_ink}
 use Rattle.cam_objects.proofs.LastInks.{last_law, last_paints}
 
 -- ---- places
@@ -26,7 +26,7 @@ dark_ink : (o : Option Bool) → unwrap_or o false ≡ true → o ≡ Some true
 dark_ink None e = absurd (true≢false (sym e))
 dark_ink (Some dark) e = ap Some e
 
-pub black_law : TestLaw
+pub black_law : PaintingTestLaw
 black_law ls s = (
   (λ h. (last_paints ls s true).0 (dark_ink (last_ink ls s) (sym (last_law ls s) ∙ h))),
   (λ h. last_law ls s ∙ ap (λ o. unwrap_or o false) ((last_paints ls s true).1 h)),

@@ -4,7 +4,7 @@ use Rattle.std.specs.List.{flat_map}
 use Rattle.std.proofs.lemmas.Bool.{cases_lt}
 use Rattle.std.proofs.lemmas.List.{get_or-map, length-map}
 use Rattle.std.proofs.lemmas.Int.{ints}
-use Rattle.cam_units.specs.Boxes.{HaveCommonPlace, Holds, IsBetween}
+use Rattle.cam_units.specs.Boxes.{HaveCommonPlace, Holds, IsInBox}
 use Rattle.cam_units.specs.declared.bounds.Bounds.{Bounds}
 use Rattle.cam_units.specs.declared.bounds.Bounds.TheVariants.{Closed, Empty}
 use Rattle.cam_units.specs.declared.point.Spot.{Spot}
@@ -32,7 +32,7 @@ abbrev pub AreElsewhere : List Bounds → Spot → ℕ → ℕ → Type 0
 AreElsewhere boxes s first end =
     (k : ℕ) → first ≤ k → k < end → k < length boxes → HaveCommonPlace (box_at boxes k) (Closed s s) → ⊥
 
-self : (s : Spot) → IsBetween s s s
+self : (s : Spot) → IsInBox s s s
 self s = record {
   left = omega (arith, ints);
   right = omega (arith, ints);

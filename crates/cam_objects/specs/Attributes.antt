@@ -35,8 +35,8 @@ abbrev pub has_name : List ℕ → Attribute → Bool
 has_name name a = bytes_eq a.name name
 
 -- where the attribute of that name stands, counted from 0
-abbrev pub place_of : List ℕ → List Attribute → Option ℕ
-place_of name xs = position (has_name name) xs
+abbrev pub attribute_place : List ℕ → List Attribute → Option ℕ
+attribute_place name xs = position (has_name name) xs
 
 -- an attribute takes the place of the one that has its name; another goes last
 abbrev pub with_attribute : Attribute → List Attribute → List Attribute

@@ -29,6 +29,6 @@ pub record KeepsOutside {X : Type 0} (paints : X → List Leaf) : Type 0 where
       ↔ IsBlack (flat_map paints (before ++ between ++ going ++ after)) s
 
 -- of the items of a layer, and of a drill layer
-pub record RedrawLaw : Type 0 where
+pub record BoxRedrawLaw : Type 0 where
   pub items : (entries : List (ℕ × Entry)) → KeepsOutside (item_leaves (meaning_in entries))
   pub drill_items : (tools : List (ℕ × Nm)) → KeepsOutside (drill_item_leaves tools)

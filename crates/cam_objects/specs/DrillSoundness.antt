@@ -3,7 +3,7 @@ use Rattle.std.specs.Prelude.{◌≡◌, ℕ, ◌≤◌, nat_le, nat_lt, pos, �
 use Rattle.std.specs.Prelude.{None, is_some, nat_eq, sum_by, All}
 use Rattle.std.specs.List.{IsDistinct}
 use Rattle.std.specs.Map.{keys_of}
-use Rattle.cam_refusals.specs.Checks.{Checks, first}
+use Rattle.cam_refusals.specs.Checks.{Checks, first_holding}
 use Rattle.cam_refusals.specs.Limits.{count_limit, leaf_limit, size_limit}
 use Rattle.cam_units.specs.declared.length.Nm.{Nm}
 use Rattle.cam_units.specs.declared.point.Point.{Point}
@@ -56,7 +56,7 @@ drill_item_checks tools item = drilling_checks (is_some (diameter_of tools (tool
 
 -- no check holds
 abbrev pub IsSoundDrillItem : List (ℕ × Nm) → DrillItem → Type 0
-IsSoundDrillItem tools item = first (drill_item_checks tools item) ≡ None
+IsSoundDrillItem tools item = first_holding (drill_item_checks tools item) ≡ None
 
 -- a tool may stand behind the others where it is sound and its number is new
 pub record MayAddTool (tools : List (ℕ × Nm)) (tool : ℕ) (diameter : Nm) : Type 0 where

@@ -8,7 +8,7 @@ use Rattle.cam_objects.specs.declared.attribute.Attribute.{Attribute}
 use Rattle.cam_objects.specs.declared.drill_item.DrillItem.{DrillItem}
 use Rattle.cam_objects.specs.declared.entry.Entry.{Entry}
 use Rattle.cam_objects.specs.declared.item.Item.{Item}
-use Rattle.cam_objects.specs.Attributes.{AreAttributes, IsAttribute, MaySet, place_of, with_attribute}
+use Rattle.cam_objects.specs.Attributes.{AreAttributes, IsAttribute, MaySet, attribute_place, with_attribute}
 use Rattle.cam_objects.specs.Drilling.{diameter_of}
 use Rattle.cam_objects.specs.DrillSoundness.{IsSoundDrillContent, IsSoundDrillItem, IsSoundTool, KeepsDrillLimits, drill_points_of}
 use Rattle.cam_objects.specs.Leaves.{leaves_of}
@@ -47,7 +47,7 @@ pub record AttributeEditLaw : Type 0 where
   pub none : AreAttributes []
   pub set : (xs : List Attribute) (a : Attribute) → AreAttributes xs → MaySet xs a → AreAttributes (with_attribute a xs)
   pub insert : (before after : List Attribute) (a : Attribute) → AreAttributes (before ++ after) → IsAttribute a
-      → place_of a.name (before ++ after) ≡ None → length (before ++ after) < attribute_limit
+      → attribute_place a.name (before ++ after) ≡ None → length (before ++ after) < attribute_limit
       → AreAttributes (before ++ a ∷ after)
   pub remove : (before after : List Attribute) (a : Attribute)
       → AreAttributes (before ++ a ∷ after) → AreAttributes (before ++ after)
@@ -56,9 +56,9 @@ pub record AttributeEditLaw : Type 0 where
 
 -- a name that is there keeps its place, and another goes last
 pub record SettingLaw : Type 0 where
-  pub keep : (xs : List Attribute) (a : Attribute) (k : ℕ) → place_of a.name xs ≡ Some k
+  pub keep : (xs : List Attribute) (a : Attribute) (k : ℕ) → attribute_place a.name xs ≡ Some k
       → with_attribute a xs ≡ slice_set xs k a
-  pub add : (xs : List Attribute) (a : Attribute) → place_of a.name xs ≡ None → with_attribute a xs ≡ xs ++ a ∷ []
+  pub add : (xs : List Attribute) (a : Attribute) → attribute_place a.name xs ≡ None → with_attribute a xs ≡ xs ++ a ∷ []
 
 -- the same of the items of a drill layer, and it stays sound with another diameter of a tool
 pub record DrillEditLaw : Type 0 where

@@ -11,7 +11,6 @@ pub mod Inside
 pub mod Runs
 pub mod Extents
 pub mod FirstCopies
-pub mod Frames
 pub mod Measures
 pub mod Sides
 pub mod Lines

@@ -29,7 +29,7 @@ use Rattle.std.specs.List.{flat_map, list_all}
 use Rattle.std.specs.Map.{lookup}
 use Rattle.std.specs.Ordering.{int_eq}
 use Rattle.std.specs.Int.RustNames.{unsigned_abs}
-use Rattle.cam_refusals.specs.Checks.{Checks, first}
+use Rattle.cam_refusals.specs.Checks.{Checks, first_holding}
 use Rattle.cam_refusals.specs.Limits.{board_limit, count_limit, depth_limit, leaf_limit}
 use Rattle.cam_units.specs.Board.{IsOnBoard}
 use Rattle.cam_units.specs.declared.point.Point.{Point}
@@ -210,7 +210,7 @@ item_checks entries item =
 
 -- no check holds
 abbrev pub IsSoundItem : List (ℕ × Entry) → Item → Type 0
-IsSoundItem entries item = first (item_checks entries item) ≡ None
+IsSoundItem entries item = first_holding (item_checks entries item) ≡ None
 
 -- its steps are under a metre in absolute value
 abbrev pub HasShortSteps : Item → Type 0

@@ -44,8 +44,8 @@ abbrev pub CoverTestLaw : Type 0
 CoverTestLaw = (shape : Shape) (s : Spot) → IsTrue (covers shape s) ↔ Covers shape s
 
 -- painting in order makes exactly those places black of which the last leaf that covers them is dark
-abbrev pub TestLaw : Type 0
-TestLaw = (leaves : List Leaf) (s : Spot) → IsTrue (is_black leaves s) ↔ IsBlack leaves s
+abbrev pub PaintingTestLaw : Type 0
+PaintingTestLaw = (leaves : List Leaf) (s : Spot) → IsTrue (is_black leaves s) ↔ IsBlack leaves s
 
 -- and so does looking for that leaf
 abbrev pub LastInkLaw : Type 0

@@ -5,7 +5,6 @@ pub(crate) mod first_copies;
 pub(crate) mod first_copy;
 pub(crate) mod item_boxes;
 pub(crate) mod items;
-pub(crate) mod last_frame;
 pub(crate) mod lines;
 pub(crate) mod object_boxes;
 pub(crate) mod placed;

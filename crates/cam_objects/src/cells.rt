@@ -1,6 +1,5 @@
 //! What many items reach: what a redraw passes over, and an edit follows.
 
-pub(crate) mod frame;
 pub(crate) mod item_list;
 pub(crate) mod kept;
 pub(crate) mod numbers;

@@ -11,7 +11,7 @@ pub(crate) trait Copied {
         ensures { IfOk result (λ copy. copy ≡ self.now) };
 }
 
-/// The same items in memory of their own, in order.
+/// Copies of the items in memory of their own, in order.
 pub(crate) fn copies_of<T: Copied + Drop>(items: &[T], alloc: Global) -> Result<Vec<T>, AllocError>
     ensures { IfOk result (λ copies. copies.items ≡ items.now) }
 {

@@ -128,20 +128,6 @@ impl Dictionary {
         }
     }
 
-    /// The map of the entries, in their order, without a copy; what is kept beside them is let go.
-    pub fn into_map(self) -> IndexMap<u32, Entry>
-        ensures { result.entries ≡ self }
-    {
-        let Dictionary {
-            map,
-            facts: _,
-            cells: _,
-            places: _,
-            alloc: _,
-        } = self;
-        map
-    }
-
     /// How many entries there are.
     pub fn len(&self) -> usize
         ensures value { result ≡ length self.now }
@@ -177,7 +163,7 @@ impl Dictionary {
         }
     }
 
-    /// The same.
+    /// The place of a number and its entry, by the hash of the number.
     fn find_by_hash(&self, number: u32) -> Option<(usize, &Entry)>
         ensures found { IfSome result (λ r. slice_get self.now r.0 ≡ Some (number, r.1.now)) }
         ensures absent { IfNone result (lookup (nat_eq number) self.now ≡ None) }
@@ -189,7 +175,7 @@ impl Dictionary {
         }
     }
 
-    /// The same of a number whose place is kept.
+    /// The place of a number and its entry, where the place is kept: of small numbers.
     #[inline]
     fn find_by_place(&self, number: u32) -> Option<(usize, &Entry)>
         ensures found { IfSome result (λ r. slice_get self.now r.0 ≡ Some (number, r.1.now)) }

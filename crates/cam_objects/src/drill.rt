@@ -3,5 +3,4 @@
 pub(crate) mod bounds;
 pub(crate) mod checks;
 pub(crate) mod item_boxes;
-pub(crate) mod last_hole;
 pub(crate) mod painting;

@@ -2,7 +2,7 @@
 
 ghost use Rattle.std.specs.Prelude.{◌≡◌, ◌++◌, ◌∷◌, ◌↔◌, [], IfOk, IsTrue, OnErr, OnOk, sum_by};
 ghost use Rattle.cam_units.specs.Board.{IsPlace};
-ghost use Rattle.cam_refusals.specs.Checks.{answer_of, first};
+ghost use Rattle.cam_refusals.specs.Checks.{answer_of, first_holding};
 ghost use Rattle.cam_objects.specs.Drilling.{drill_leaves};
 ghost use Rattle.cam_objects.specs.DrillSoundness.{
   IsSoundDrillItem,
@@ -95,7 +95,7 @@ impl DrillLayer {
     /// Whether the item is sound beside the layer's tools, or the first of these faults: it has no
     /// point, no tool of the layer, a point outside the board, or more than 1,000,000 points.
     pub fn check_item(&self, item: &DrillItem) -> Result<(), ItemFault>
-        ensures { result ≡ answer_of (first (drill_item_checks self.now.tools item.now)) }
+        ensures { result ≡ answer_of (first_holding (drill_item_checks self.now.tools item.now)) }
     {
         match item {
             DrillItem::Hit { tool, at } => check_drilling(self.tools.get(*tool).is_some(), &[*at]),
@@ -143,7 +143,7 @@ impl DrillLayer {
         pixel.is_dark()
     }
 
-    /// The same layer in memory of its own, from the allocator of this one.
+    /// A copy of the layer in memory of its own, from the allocator of this one.
     pub fn try_copy(&self) -> Result<DrillLayer, AllocError>
         ensures tools { IfOk result (λ copy. copy.tools ≡ self.now.tools) }
         ensures items { IfOk result (λ copy. copy.items.items ≡ self.now.items.items) }

@@ -1,9 +1,9 @@
 //! Laws of layers. Each function does nothing: its contract is a law of what layers mean.
 
-ghost use Rattle.cam_objects.specs.BoxLaws.{CoverBoxLaw, RedrawLaw};
+ghost use Rattle.cam_objects.specs.BoxLaws.{CoverBoxLaw, BoxRedrawLaw};
 ghost use Rattle.cam_objects.specs.DrillSoundness.{DrillGrowthLaw};
 ghost use Rattle.cam_objects.specs.LayerLaws.{AttributeEditLaw, DrillEditLaw, LayerEditLaw, SettingLaw};
-ghost use Rattle.cam_objects.specs.Tests.{BoardTestLaw, CoverTestLaw, InsideTestLaw, LastInkLaw, LimitTestLaw, TestLaw};
+ghost use Rattle.cam_objects.specs.Tests.{BoardTestLaw, CoverTestLaw, InsideTestLaw, LastInkLaw, LimitTestLaw, PaintingTestLaw};
 ghost use Rattle.cam_objects.specs.Topmost.{TopmostLaw};
 ghost use Rattle.cam_objects.specs.Turning.{AfterLaw};
 
@@ -28,7 +28,7 @@ pub fn covers_lie_in_their_bounds()
 /// Outside the boxes of the items that are taken out and put in, or that go from one place of the list to
 /// another, a layer and a drill layer paint what they did.
 pub fn edits_stay_in_their_bounds()
-    ensures { RedrawLaw }
+    ensures { BoxRedrawLaw }
 {}
 
 /// The test of a shape that computes holds exactly of the places that the shape covers.
@@ -39,7 +39,7 @@ pub fn tests_tell_covers()
 /// Painting leaves in order, each over those before it, makes exactly those places black of which
 /// the last leaf that covers them is dark.
 pub fn painting_in_order_makes_the_image()
-    ensures { TestLaw }
+    ensures { PaintingTestLaw }
 {}
 
 /// So does looking for the last leaf that covers a place: the place is black exactly where there is one, and it is dark.

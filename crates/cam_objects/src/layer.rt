@@ -2,7 +2,7 @@
 
 ghost use Rattle.std.specs.Prelude.{◌≡◌, ◌≤◌, ◌++◌, ◌∷◌, ◌↔◌, [], IfOk, IsTrue, OnErr, OnOk};
 ghost use Rattle.cam_units.specs.Board.{IsPlace};
-ghost use Rattle.cam_objects.specs.Attributes.{MaySet, attribute_of, place_of, with_attribute};
+ghost use Rattle.cam_objects.specs.Attributes.{MaySet, attribute_of, attribute_place, with_attribute};
 ghost use Rattle.cam_objects.specs.Image.{IsBlack};
 ghost use Rattle.cam_objects.specs.Leaves.{leaves_of};
 ghost use Rattle.cam_objects.specs.Soundness.{HasSoundItems, IsSoundItem, KeepsLimits, MayAddEntry};
@@ -89,7 +89,7 @@ impl Layer {
 
     /// The place of the file attribute with this name, counted from 0. Takes no memory.
     pub fn attribute_place(&self, name: &[u8]) -> Option<usize>
-        ensures { result ≡ place_of name.now self.now.attributes.items }
+        ensures { result ≡ attribute_place name.now self.now.attributes.items }
     {
         self.attributes
             .iter()
@@ -117,7 +117,7 @@ impl Layer {
         self.items.as_slice()
     }
 
-    /// The same layer in memory of its own, from the allocator of this one.
+    /// A copy of the layer in memory of its own, from the allocator of this one.
     pub fn try_copy(&self) -> Result<Layer, AllocError>
         ensures attributes { IfOk result (λ copy. copy.attributes.items ≡ self.now.attributes.items) }
         ensures apertures { IfOk result (λ copy. copy.apertures ≡ self.now.apertures) }

@@ -5,20 +5,20 @@
 //! are its *leaves*, one shape after another, blocks and repeats unfolded: each makes dark or clear what it covers, so
 //! that the last leaf that covers a place decides. Nothing is unfolded in memory.
 //!
-//! ```text
-//! if layer.check_entry(10, &circle) {
-//!     layer.add_entry(10, circle)?;                    number 10 is a circle
-//! }
-//! let pad = Item::One(Object::Flash { aperture: 10, at, turn: Turn::R0, dark: true });
-//! if layer.check_item(&pad).is_ok() && layer.has_room(&pad) {
-//!     layer.push(pad)?;                                a flash of it at a point
-//! }
-//! if layer.check_attribute(b".Part", b",Single") {
-//!     layer.set_attribute(name, fields)?;              `%TF.Part,Single*%`
-//! }
-//! layer.black_at(spot)                                 whether a place is black
-//! layer.item_bounds(0)                                 the box of what the first item paints
-//! layer.paint(&mut canvas);                            each pixel of a `Canvas` that is covered becomes dark or clear
+//! ```rust
+//! use cam_gerber::read_gerber;
+//! use cam_units::Spot;
+//!
+//! // a disc of 1 mm, and another half a millimetre to its right that clears
+//! let file = b"%FSLAX46Y46*%%MOMM*%%ADD10C,1*%D10*X0Y0D03*%LPC*%X500000Y0D03*M02*";
+//! let layer = read_gerber(alloc, file)?;
+//! assert!(rt; layer.entries().len() == 1 && layer.items().len() == 2);
+//! // places are in half nm; the last leaf that covers a place decides
+//! assert!(rt; layer.black_at(Spot { x: -1_000_000, y: 0 }));
+//! assert!(rt; !layer.black_at(Spot { x: 0, y: 0 }));
+//! // the topmost item at a place, and the topmost below that one
+//! assert!(rt; layer.item_at(None, Spot { x: 0, y: 0 }, 2) == Some(1));
+//! assert!(rt; layer.item_at(None, Spot { x: 0, y: 0 }, 1) == Some(0));
 //! ```
 //!
 //! Beside the types that layers list, `checks` tells what keeps a layer sound, `image` which places are black,
@@ -58,16 +58,18 @@ mod points;
 mod tip;
 mod tools;
 
+pub use asking::enclosed::is_enclosed;
 pub use attribute::Attribute;
 pub use boxes::first_copies::FirstCopies;
 pub use boxes::first_copy::FirstCopy;
 pub use boxes::item_boxes::ItemBoxes;
+pub use boxes::shapes::squared_length;
 pub use cam_shapes::{Contour, Seg, Segments};
 pub use canvas::{Canvas, Figure, Print};
 pub use cells::item_list::BoxedItems;
 pub use cells::kept::{ItemCells, near_end};
 pub use cells::numbers::ItemNumbers;
-pub use checks::attributes::is_attribute;
+pub use checks::inside::is_place;
 pub use dictionary::Dictionary;
 pub use drill::item_boxes::DrillItemBoxes;
 pub use drill_item::DrillItem;

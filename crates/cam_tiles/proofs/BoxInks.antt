@@ -6,7 +6,7 @@ use Rattle.cam_tiles.specs.declared.masks.runs.Runs.{Runs}
 use Rattle.cam_tiles.specs.declared.span.Span.{Span}
 use Rattle.cam_tiles.specs.Machinery.Inks.{in_box, in_row, in_runs}
 use Rattle.cam_tiles.specs.Machinery.Runs.{AreAlike}
-use Rattle.cam_tiles.proofs.RunInks.{above_told, in_above, row_told, runs_told, span_told}
+use Rattle.cam_tiles.proofs.RunInks.{row_told, runs_told, span_told}
 
 pub box_told : (rows : Span) (first end row column : ℕ)
     → IsTrue (in_box rows first end row column) ↔ (IsInRun rows.first rows.end row × IsInRun first end column)
@@ -76,40 +76,6 @@ same_box rows first end from to row column same =
     let other = box_told rows from to row column in (
       (λ on. let h = one.0 on in other.1 (h.0, same.0 h.1)),
       (λ on. let h = other.0 on in one.1 (h.0, same.1 h.1)),
-    )
-
--- rows from one up to another that have the same run
-pub next_box : (r : Runs) (k until row column : ℕ) → r.band.first ≤ k → k < until → until ≤ r.band.end
-    → ((other : ℕ) → k ≤ other → other < until → AreAlike r k other)
-    → IsTrue (in_above r until row column)
-    ↔ (IsTrue (in_above r k row column)
-    ⊎ IsTrue (in_box (record { first = k; end = until }) (slice_index r.firsts k) (slice_index r.ends k) row column))
-next_box r k until row column after onward within same =
-    let all = above_told r until row column in
-    let before = above_told r k row column in
-    let box = box_told (record { first = k; end = until }) (slice_index r.firsts k) (slice_index r.ends k) row column in (
-      (λ on.
-          let h = all.0 on in
-          elim (cases_lt row k) [
-            | inl less ↦ inl (before.1 (less, h.1))
-            | inr most ↦
-                let alike = same row most h.0 in
-                inr (box.1 ((most, h.0), (omega (arith, alike.0, h.1.2.0), omega (arith, alike.1, h.1.2.1))))
-          ]),
-      (λ either. elim either [
-        | inl on ↦ let h = before.0 on in all.1 (omega (arith, h.0, onward), h.1)
-        | inr on ↦
-            let h = box.0 on in
-            let alike = same row h.0.0 h.0.1 in
-            all.1 (
-              h.0.1,
-              (
-                omega (arith, after, h.0.0),
-                omega (arith, within, h.0.1),
-                (omega (arith, alike.0, h.1.0), omega (arith, alike.1, h.1.1)),
-              ),
-            )
-      ]),
     )
 
 -- a band of rows that all have the same run

@@ -16,7 +16,7 @@ use Rattle.cam_tiles.specs.Machinery.Swaths.{IsInSwath, IsRowOfTiles, PaintsSwat
 use Rattle.cam_tiles.specs.Machinery.Swaths.{place_in, tiles_in}
 use Rattle.cam_tiles.specs.Picture.{accepts, middle}
 use Rattle.cam_tiles.specs.Tables.{Tile}
-use Rattle.cam_tiles.specs.Tiles.{across, centre_in, grid_of, left}
+use Rattle.cam_tiles.specs.Tiles.{across, centre_in, grid_of, first_column}
 use Rattle.cam_tiles.proofs.GridLemmas.{further, top_within}
 use Rattle.cam_tiles.proofs.TilesInOrder.{middle_length}
 use Rattle.cam_tiles.proofs.WindowLemmas.{accepted}
@@ -37,7 +37,7 @@ module _ (w : Window) (first : ℕ) (tiles : List Tile) (row_of : IsRowOfTiles w
     row_is =
         ap (λ n. n / across w) (sym whole) ∙ div-mul-add (first / across w) (across w) (first % across w + tile) fits
 
-    left_is : left w (first + tile) ≡ left w first + 64 * tile
+    left_is : first_column w (first + tile) ≡ first_column w first + 64 * tile
     left_is = omega (arith, column_is)
 
     centre_is : (column row : ℕ)
@@ -45,10 +45,10 @@ module _ (w : Window) (first : ℕ) (tiles : List Tile) (row_of : IsRowOfTiles w
     centre_is column row =
         let spot : ℤ → ℤ → Spot = λ x y. record { x = x; y = y } in
         let y_of : ℕ → ℤ = λ n. middle w.y w.pitch (w.height - 1 - 64 * n) -ℤ pos row *ℤ (pos 2 *ℤ w.pitch) in
-        let there : left w (first + tile) + column ≡ left w first + (64 * tile + column) = omega (arith, left_is) in
+        let there : first_column w (first + tile) + column ≡ first_column w first + (64 * tile + column) = omega (arith, left_is) in
         ap (λ x. spot x (y_of ((first + tile) / across w)))
-        (further w.x w.pitch (left w (first + tile)) column ∙ ap (middle w.x w.pitch) there
-        ∙ sym (further w.x w.pitch (left w first) (64 * tile + column)))
+        (further w.x w.pitch (first_column w (first + tile)) column ∙ ap (middle w.x w.pitch) there
+        ∙ sym (further w.x w.pitch (first_column w first) (64 * tile + column)))
         ∙ ap (λ n. spot ((grid_of w first).x +ℤ pos (64 * tile + column) *ℤ (pos 2 *ℤ w.pitch)) (y_of n)) row_is
 
     pixel_is : (column row : ℕ) → column < 64 → IsIn (grid_of w (first + tile)) column row

@@ -9,7 +9,7 @@ use Rattle.cam_shapes.specs.Bar.{IsInBar, IsInCapsule}
 use Rattle.cam_shapes.specs.Disc.{IsInDisc}
 use Rattle.cam_shapes.specs.declared.arc.Arc.{Arc}
 use Rattle.cam_shapes.specs.declared.capsule.Capsule.{Capsule}
-use Rattle.cam_rows.specs.ArcRuns.{IsBeyond, IsHollow, IsOuter, start_of as first_of, end_of as last_of}
+use Rattle.cam_rows.specs.ArcRuns.{IsBeyond, IsHollow, IsOuter, start_disc as first_of, end_disc as last_of}
 use Rattle.cam_rows.proofs.ArcRuns.{arc_is_its_runs}
 use Rattle.cam_rows.proofs.CapsuleParts.{bar_of, end_of, in_capsule, start_of}
 use Rattle.cam_tiles.specs.declared.grid.Grid.{Grid}

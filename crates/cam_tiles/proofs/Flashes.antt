@@ -6,8 +6,8 @@ use Rattle.cam_units.specs.declared.length.Nm.{Nm}
 use Rattle.cam_units.specs.declared.point.Spot.{Spot}
 use Rattle.cam_shapes.specs.Disc.{IsInHole, IsSoundDisc}
 use Rattle.cam_shapes.specs.declared.disc.Disc.{Disc}
-use Rattle.cam_apertures.specs.Cover.{disc, origin}
-use Rattle.cam_apertures.specs.Soundness.{IsSide}
+use Rattle.cam_apertures.specs.Cover.{disc, flash_point}
+use Rattle.cam_apertures.specs.Soundness.{IsSideLength}
 use Rattle.cam_objects.specs.declared.canvas.Figure.{Figure}
 use Rattle.cam_objects.specs.Canvases.{shape_of}
 use Rattle.cam_objects.specs.Image.{Covers}
@@ -17,16 +17,16 @@ use Rattle.cam_tiles.specs.Machinery.Figures.{IsInFigure, IsPlacedFor, IsSoundRu
 use Rattle.cam_tiles.proofs.Joined.{seen_itself}
 
 -- the sides are sizes, whichever way the shape is turned
-pub sized : (quarter : Bool) (w h : Nm) → IsSide w.0 → IsSide h.0 → IsSize (if quarter then h else w).0
+pub sized : (quarter : Bool) (w h : Nm) → IsSideLength w.0 → IsSideLength h.0 → IsSize (if quarter then h else w).0
 sized true w h wide high = (omega (arith, ints, high.0), omega (arith, ints, high.1))
 sized false w h wide high = (omega (arith, ints, wide.0), omega (arith, ints, wide.1))
 
 -- the flash point is on the board
-pub origin_board : IsOnBoard origin
+pub origin_board : IsOnBoard flash_point
 origin_board = record { x = lit< tt; y = lit< tt }
 
 -- a figure that stands where it is drawn
-pub as_drawn : (f : Figure) (r : RunFigure) (p : Placed) → p ≡ record { figure = r; at = origin } → IsSoundRunFigure r
+pub as_drawn : (f : Figure) (r : RunFigure) (p : Placed) → p ≡ record { figure = r; at = flash_point } → IsSoundRunFigure r
     → ((s : Spot) → Covers (shape_of f) s ↔ IsInFigure r s) → IsPlacedFor f p
 as_drawn f r p is sound same =
     subst (IsPlacedFor f) (sym is) (record {

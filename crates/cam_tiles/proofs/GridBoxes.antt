@@ -2,7 +2,7 @@
 use Rattle.std.proofs.Common.{◌≡◌, ℕ, ◌*◌, ◌-◌, ◌<◌, ◌≤◌, ℤ, pos, negsuc, ◌+ℤ◌, ◌-ℤ◌, ◌*ℤ◌, ◌≤ℤ◌, arith}
 use Rattle.std.proofs.lemmas.Int.{ints}
 use Rattle.std.proofs.lemmas.Nat.{mul-le}
-use Rattle.cam_units.specs.Boxes.{IsBetween}
+use Rattle.cam_units.specs.Boxes.{IsInBox}
 use Rattle.cam_tiles.specs.declared.grid.Grid.{Grid}
 use Rattle.cam_tiles.specs.Tiles.{IsGrid, centre_in}
 
@@ -24,7 +24,7 @@ module _ (g : Grid) (column row : ℕ) (grid : IsGrid g) (inside : column < g.co
 
   pub between_ends : (left bottom right top : ℤ) → left ≡ g.x → top ≡ g.y
       → right ≡ g.x +ℤ pos (g.cols - 1) *ℤ g.step → bottom ≡ g.y -ℤ pos (g.rows - 1) *ℤ g.step
-      → IsBetween (record { x = left; y = bottom }) (record { x = right; y = top }) (centre_in g column row)
+      → IsInBox (record { x = left; y = bottom }) (record { x = right; y = top }) (centre_in g column row)
   between_ends left bottom right top is_left is_top is_right is_bottom =
       let some_across = steps_on column g.step grid.step in
       let some_down = steps_on row g.step grid.step in

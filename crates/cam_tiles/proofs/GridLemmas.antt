@@ -12,7 +12,7 @@ use Rattle.cam_units.proofs.Ring.Polynomial.{Atom, Sum, Difference, Product}
 use Rattle.cam_tiles.specs.declared.grid.Grid.{Grid}
 use Rattle.cam_tiles.specs.declared.window.Window.{Window}
 use Rattle.cam_tiles.specs.Picture.{accepts, centre_of, coarsest_pitch, middle}
-use Rattle.cam_tiles.specs.Tiles.{IsGrid, across, centre_in, columns, down, grid_of, left, rows, tiles_of, top}
+use Rattle.cam_tiles.specs.Tiles.{IsGrid, across, centre_in, columns, tiles_down, grid_of, first_column, rows, tiles_of, top}
 use Rattle.cam_tiles.proofs.WindowLemmas.{accepted}
 
 -- middles that stand so many pitches further on, and so many back
@@ -36,24 +36,24 @@ back edge pitch n steps =
 
 -- the centres of a tile's grid are the centres of its pixels
 pub centre_in_grid : (w : Window) (k column row : ℕ) → top w k + row < w.height
-    → centre_in (grid_of w k) column row ≡ centre_of w (left w k + column) (top w k + row)
+    → centre_in (grid_of w k) column row ≡ centre_of w (first_column w k + column) (top w k + row)
 centre_in_grid w k column row below =
     let low = w.height - 1 - (top w k + row) in
     let up : w.height - 1 - top w k ≡ low + row = omega arith in
     let spot : ℤ → ℤ → Spot = λ x y. record { x = x; y = y } in
-    let first : ℤ = middle w.x w.pitch (left w k) +ℤ pos column *ℤ (pos 2 *ℤ w.pitch) in
+    let first : ℤ = middle w.x w.pitch (first_column w k) +ℤ pos column *ℤ (pos 2 *ℤ w.pitch) in
     ap (λ n. spot first (middle w.y w.pitch n -ℤ pos row *ℤ (pos 2 *ℤ w.pitch))) up
     ∙ ap (λ x. spot x (middle w.y w.pitch (low + row) -ℤ pos row *ℤ (pos 2 *ℤ w.pitch)))
-    (further w.x w.pitch (left w k) column)
-    ∙ ap (spot (middle w.x w.pitch (left w k + column))) (back w.y w.pitch low row)
+    (further w.x w.pitch (first_column w k) column)
+    ∙ ap (spot (middle w.x w.pitch (first_column w k + column))) (back w.y w.pitch low row)
 
 -- each tile begins within the window
-pub left_within : (w : Window) (k : ℕ) → 1 ≤ w.width → left w k < w.width
+pub left_within : (w : Window) (k : ℕ) → 1 ≤ w.width → first_column w k < w.width
 left_within w k some = let within : k % across w < across w = mod-lt k (omega arith) in omega arith
 
 pub top_within : (w : Window) (k : ℕ) → 1 ≤ w.width → k < tiles_of w → top w k < w.height
 top_within w k some there =
-    let within : k / across w < down w = div_below k (across w) (down w) (omega arith) (omega (arith, there)) in
+    let within : k / across w < tiles_down w = div_below k (across w) (tiles_down w) (omega arith) (omega (arith, there)) in
     omega arith
 
 -- the grid of a tile lies on the board
@@ -67,7 +67,7 @@ on_board w k h there =
       columns = (omega arith, omega arith);
       rows = (omega arith, omega arith);
       centres = λ column row c r. subst IsPlace (sym (centre_in_grid w k column row (omega (arith, r))))
-          (limits.centres (left w k + column) (top w k + row) (omega arith) (omega arith));
+          (limits.centres (first_column w k + column) (top w k + row) (omega arith) (omega arith));
     }
 
 -- a number as code of 64 bits keeps it
@@ -96,14 +96,14 @@ grid_kept w k a b first columns_there rows_there place h wide wide_too is_first 
     is_columns ∙ ap (λ n. min (w.width - 64 * (k % n)) 64) wide ∙ omega arith in
     let of_rows : rows_there ≡ rows w k =
     is_rows ∙ ap (λ n. min (w.height - 64 * (k / n)) 64) wide_too ∙ omega arith in
-    let corner : first ≡ centre_of w (left w k) (top w k) =
+    let corner : first ≡ centre_of w (first_column w k) (top w k) =
     is_first ∙ ap (λ n. centre_of w (64 * (k % n)) (64 * (k / b))) wide
-    ∙ ap (λ n. centre_of w (left w k) (64 * (k / n))) wide_too in
+    ∙ ap (λ n. centre_of w (first_column w k) (64 * (k / n))) wide_too in
     let x_kept : long first.x ≡ first.x = omega (arith, ints, place.x) in
     let y_kept : long first.y ≡ first.y = omega (arith, ints, place.y) in
     ap (λ x. grid (record { x = x; y = long first.y }) (long (pos 2 *ℤ long w.pitch)) columns_there rows_there) x_kept
     ∙ ap (λ y. grid (record { x = first.x; y = y }) (long (pos 2 *ℤ long w.pitch)) columns_there rows_there) y_kept
     ∙ ap (λ f. grid f (long (pos 2 *ℤ long w.pitch)) columns_there rows_there) corner
-    ∙ ap (λ s. grid (centre_of w (left w k) (top w k)) s columns_there rows_there) step
-    ∙ ap (λ c. grid (centre_of w (left w k) (top w k)) (pos 2 *ℤ w.pitch) c rows_there) of_columns
-    ∙ ap (λ r. grid (centre_of w (left w k) (top w k)) (pos 2 *ℤ w.pitch) (columns w k) r) of_rows
+    ∙ ap (λ s. grid (centre_of w (first_column w k) (top w k)) s columns_there rows_there) step
+    ∙ ap (λ c. grid (centre_of w (first_column w k) (top w k)) (pos 2 *ℤ w.pitch) c rows_there) of_columns
+    ∙ ap (λ r. grid (centre_of w (first_column w k) (top w k)) (pos 2 *ℤ w.pitch) (columns w k) r) of_rows

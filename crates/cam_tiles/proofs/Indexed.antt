@@ -8,7 +8,7 @@ use Rattle.std.proofs.lemmas.Bool.{cases_Bool, false≢true}
 use Rattle.std.proofs.lemmas.Int.{ints}
 use Rattle.std.proofs.lemmas.List.{drop_more, length-drop, length_push, reverse-append}
 use Rattle.std.proofs.lemmas.List.Elements.{All-cons, All-nil, All-push}
-use Rattle.cam_units.specs.Boxes.{HaveCommonPlace, Holds, IsBetween}
+use Rattle.cam_units.specs.Boxes.{HaveCommonPlace, Holds, IsInBox}
 use Rattle.cam_units.specs.declared.bounds.Bounds.{Bounds}
 use Rattle.cam_units.specs.declared.bounds.Bounds.TheVariants.{Empty, Closed}
 use Rattle.cam_units.specs.declared.point.Spot.{Spot}
@@ -23,7 +23,7 @@ use Rattle.cam_tiles.specs.declared.window.Window.{Window}
 use Rattle.cam_tiles.specs.Machinery.Indexes.{AreSeenFrom, IsBoxOf, IsBoxed, IsSeen, PaintAlike, all_from, last_leaves}
 use Rattle.cam_tiles.specs.Machinery.Indexes.{numbered_leaves, row_leaves}
 use Rattle.cam_tiles.specs.Machinery.RowLists.{no_box, numbers_from, reaches}
-use Rattle.cam_tiles.specs.Tiles.{down}
+use Rattle.cam_tiles.specs.Tiles.{tiles_down}
 
 -- the leaves at a place of a list of lists
 abbrev pub at : List (List Leaf) → ℕ → List Leaf
@@ -106,10 +106,10 @@ module _ (lists : List (List Leaf)) (w : Window) (within : Bounds) where
           each = All-push (IsBoxed lists) boxed b so_far.each
               (record {
                 within = omega (arith, place, so_far.few);
-                corners = subst (λ k. (s : Spot) → Holds (bounds_of (at lists k)) s → IsBetween b.low b.high s) (sym place)
+                corners = subst (λ k. (s : Spot) → Holds (bounds_of (at lists k)) s → IsInBox b.low b.high s) (sym place)
                     box.corners;
               });
-          ends = All-push (λ (b : Boxed). b.rows.end ≤ down w) boxed b so_far.ends box.ends;
+          ends = All-push (λ (b : Boxed). b.rows.end ≤ tiles_down w) boxed b so_far.ends box.ends;
           enough = λ row. elim (cases_Bool (reaches row b)) [
             | inl reached ↦ entered row b place reached
             | inr missed ↦
@@ -168,7 +168,7 @@ pub corners_held : (b box : Bounds) (low high : Spot) → box ≡ Closed low hig
     → (s : Spot) → Holds box s → Holds b s
 corners_held Empty box low high is least greatest s held = absurd least
 corners_held (Closed first last) box low high is least greatest s held =
-    let between : IsBetween low high s = subst (λ c. Holds c s) is held in
+    let between : IsInBox low high s = subst (λ c. Holds c s) is held in
     record {
       left = omega (arith, ints, least.left, between.left);
       right = omega (arith, ints, greatest.right, between.right);

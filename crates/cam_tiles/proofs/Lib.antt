@@ -16,7 +16,6 @@ pub mod InkWords
 pub mod Joined
 pub mod JoinedCentres
 pub mod JoinedWords
-pub mod LastFound
 pub mod Lattices
 pub mod LentInks
 pub mod LevelRows

@@ -3,7 +3,7 @@ use Rattle.std.proofs.Common.{◌≡◌, ◌↔◌, ℕ, ◌+◌, ◌^◌, ◌<�
 use Rattle.std.specs.Int.{IsBitSet, bit_at}
 use Rattle.std.proofs.lemmas.Bool.{cases_lt}
 use Rattle.std.proofs.lemmas.Nat.Bits.{bit_at-lt, bit_at_above, bit_at_and, same_from_bits}
-use Rattle.cam_units.specs.Boxes.{IsBetween}
+use Rattle.cam_units.specs.Boxes.{IsInBox}
 use Rattle.cam_units.specs.declared.point.Spot.{Spot}
 use Rattle.cam_rows.specs.Runs.{IsInRun}
 use Rattle.cam_rows.proofs.SetBits.{set_is_one}
@@ -15,7 +15,7 @@ use Rattle.cam_tiles.proofs.PaintedMasks.{dark_if_marked, marked_if_dark}
 
 abbrev pub AllMarked : Spot → Spot → Marking → Type 0
 AllMarked low high m =
-    (column row : ℕ) → IsIn m.grid column row → IsBetween low high (centre_in m.grid column row) → ink_of m column row ≡ true
+    (column row : ℕ) → IsIn m.grid column row → IsInBox low high (centre_in m.grid column row) → ink_of m column row ≡ true
 
 least_one : (x y : ℕ) → x < 2 → y < 2 → (y ≡ 1 → x ≡ 1) → min x y ≡ y
 least_one x zero few small one = omega arith

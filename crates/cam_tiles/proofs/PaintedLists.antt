@@ -11,11 +11,10 @@ use Rattle.cam_units.specs.declared.bounds.Bounds.{Bounds}
 use Rattle.cam_units.specs.declared.bounds.Bounds.TheVariants.{Closed}
 use Rattle.cam_units.specs.declared.point.Spot.{Spot}
 use Rattle.cam_objects.specs.Bounds.{bounds_of}
-use Rattle.cam_objects.specs.Canvases.{IsDecidedIn}
 use Rattle.cam_objects.specs.Leaves.{Leaf}
 use Rattle.cam_objects.specs.Tests.{last_ink}
-use Rattle.cam_objects.proofs.Canvases.{paints_beneath, paints_decided, paints_last, paints_next, paints_off}
-use Rattle.cam_objects.proofs.CoveredBoxes.{inside_box, outside_box}
+use Rattle.cam_objects.proofs.Canvases.{paints_beneath, paints_last, paints_next, paints_off}
+use Rattle.cam_objects.proofs.CoveredBoxes.{outside_box}
 use Rattle.cam_objects.proofs.LastInks.{or_decided}
 use Rattle.cam_tiles.specs.declared.index.Boxed.{Boxed}
 use Rattle.cam_tiles.specs.declared.levels.Levels.{Levels}
@@ -96,13 +95,6 @@ module _ (lists : List (List Leaf)) (b : Boxed) (left right : ℤ) (old now : Sw
       let corners = boxes.corners (place_in old column row)
       (subst (λ (s : Spot). Holds (bounds_of (at lists b.place)) s) place found) in
       apart (omega (arith, ints, corners.left, inside.1), omega (arith, ints, corners.right, inside.0))))
-
--- and an item of whose box all is decided
-pub decided_painted : (lists : List (List Leaf)) (b : Boxed) (now : Swathed) → IsBoxed lists b
-    → IsDecidedIn IsInSwath place_in ink_in now (Closed b.low b.high) → PaintsSwath now (at lists b.place) now
-decided_painted lists b now boxes decided =
-    paints_decided IsInSwath place_in ink_in now (at lists b.place) (Closed b.low b.high)
-    (λ s any. boxes.corners s (inside_box (at lists b.place) s any)) decided
 
 -- ---- the items that have some numbers
 

@@ -19,9 +19,9 @@ use Rattle.cam_tiles.specs.Picture.{centre_of, pixels_of, plot_of}
 use Rattle.cam_tiles.specs.Tables.{IsTable, Table, Tile, blank, dirty_count, is_pixel_black}
 use Rattle.cam_tiles.specs.Tables.{pbm_of, pixel_of, redrawn, tile_in}
 use Rattle.cam_tiles.specs.TileLaws.{AgreeOutside, IsPictured, PictureLaw}
-use Rattle.cam_tiles.specs.Tiles.{across, centre_in, columns, down, grid_of, is_black_in, left, rows}
+use Rattle.cam_tiles.specs.Tiles.{across, centre_in, columns, tiles_down, grid_of, is_black_in, first_column, rows}
 use Rattle.cam_tiles.specs.Tiles.{tile_of, tile_rows, tiles_of, top, word}
-use Rattle.cam_tiles.specs.Touched.{holds, touched, touched_by, touches}
+use Rattle.cam_tiles.specs.Touched.{holds, box_touched, touched_by, touches}
 use Rattle.cam_tiles.proofs.GridLemmas.{centre_in_grid}
 use Rattle.cam_tiles.proofs.SameFiles.{same_map, same_pbm, same_under}
 use Rattle.cam_tiles.proofs.TableFacts.{black_in_tile, clean_tile, no_tile_in_blank}
@@ -54,11 +54,11 @@ none_in_range test a (suc n) (suc i) none within =
 
 -- no pixel of a tile that a box does not touch has its centre there
 centre_outside : (w : Window) (box : Bounds) (k column row : ℕ) → touches w box k ≡ false
-    → column < columns w k → row < rows w k → holds box (centre_of w (left w k + column) (top w k + row)) ≡ false
+    → column < columns w k → row < rows w k → holds box (centre_of w (first_column w k + column) (top w k + row)) ≡ false
 unfolding touches
 centre_outside w box k column row none within below =
-    none_in_range (λ c. holds box (centre_of w c (top w k + row))) (left w k) (columns w k) column
-    (none_in_range (λ r. list_any (λ c. holds box (centre_of w c r)) (range_with_len (left w k) (columns w k)))
+    none_in_range (λ c. holds box (centre_of w c (top w k + row))) (first_column w k) (columns w k) column
+    (none_in_range (λ r. list_any (λ c. holds box (centre_of w c r)) (range_with_len (first_column w k) (columns w k)))
     (top w k) (rows w k) row none below)
     within
 
@@ -87,7 +87,7 @@ untouched_by : (boxes : List Bounds) (t : Table) (k : ℕ) (lines : List ℕ) �
     → All (λ box. touches t.window box k ≡ false) boxes × (tile_in t k ≡ Some lines)
 untouched_by [] t k lines is = (All-nil (λ box. touches t.window box k ≡ false), is)
 untouched_by (box ∷ boxes) t k lines is =
-    let later = untouched_by boxes (touched box t) k lines is in
+    let later = untouched_by boxes (box_touched box t) k lines is in
     let first = untouched box t k lines later.1 in
     (All-cons (λ box. touches t.window box k ≡ false) box boxes first.0 later.0, first.1)
 
@@ -105,7 +105,7 @@ pictured_touched image other boxes t agree shown k lines is =
     ∙ ap (λ v. tile_rows other (grid_of v k)) (sym (touched_window boxes t))
 
 -- the place of a pixel in its tile
-left_of_tile : (w : Window) (column row : ℕ) → column < w.width → left w (tile_of w column row) + column % 64 ≡ column
+left_of_tile : (w : Window) (column row : ℕ) → column < w.width → first_column w (tile_of w column row) + column % 64 ≡ column
 left_of_tile w column row within =
     let inside : column / 64 < across w = omega arith in
     let place : tile_of w column row % across w ≡ column / 64 =
@@ -126,7 +126,7 @@ unfolding tile_rows
 bit_shown image w column row within below =
     let k : ℕ = tile_of w column row in
     let g : Grid = grid_of w k in
-    let across_at : left w k + column % 64 ≡ column = left_of_tile w column row within in
+    let across_at : first_column w k + column % 64 ≡ column = left_of_tile w column row within in
     let down_at : top w k + row % 64 ≡ row = top_of_tile w column row within in
     let in_rows : row % 64 < rows w k = omega arith in
     let in_columns : column % 64 < columns w k = omega arith in
@@ -172,7 +172,7 @@ black_shown : (image : Spot → Bool) (t : Table) (column row : ℕ) → IsTable
 black_shown image t column row table shown clean within below =
     let w = t.window in
     let k : ℕ = tile_of w column row in
-    let there : k < tiles_of w = mul-add-lt (row / 64) (across w) (column / 64) (down w) (omega arith) (omega arith) in
+    let there : k < tiles_of w = mul-add-lt (row / 64) (across w) (column / 64) (tiles_down w) (omega arith) (omega arith) in
     let tile = clean_tile t.tiles k clean (omega (arith, there, table.full)) in
     black_in_tile t (Some tile.0) column row within below tile.1
     ∙ ap (bit_in column row) (shown k tile.0 tile.1) ∙ bit_shown image w column row within below

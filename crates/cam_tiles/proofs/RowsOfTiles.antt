@@ -4,7 +4,7 @@ use Rattle.std.proofs.Common.{sym, ap, subst, ◌∙◌, arith}
 use Rattle.std.proofs.lemmas.Bool.{and_from}
 use Rattle.std.proofs.lemmas.Bool.Decides.{nat_tests}
 use Rattle.std.proofs.lemmas.Int.{ints}
-use Rattle.cam_units.specs.Boxes.{Holds, IsBetween}
+use Rattle.cam_units.specs.Boxes.{Holds, IsInBox}
 use Rattle.cam_units.specs.declared.bounds.Bounds.{Bounds}
 use Rattle.cam_units.specs.declared.bounds.Bounds.TheVariants.{Closed}
 use Rattle.cam_units.specs.declared.point.Spot.{Spot}
@@ -43,5 +43,5 @@ no_row rows row none reached = grind (arith, nat_tests)
 pub row_seen : (w : Window) (within : Bounds) (low high : Spot) (rows : Span) → within ≡ Closed low high
     → AreRows w low high rows → (row : ℕ) (s : Spot) → IsSeen w within row s → is_in_span rows row ≡ true
 row_seen w within low high rows is are row s seen =
-    let between : IsBetween low high s = subst (λ b. Holds b s) is seen.0 in
+    let between : IsInBox low high s = subst (λ b. Holds b s) is seen.0 in
     row_reached w low high rows are row s seen.1 between.below between.above

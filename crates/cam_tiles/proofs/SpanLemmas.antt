@@ -14,7 +14,7 @@ use Rattle.cam_tiles.specs.declared.window.Window.{Window}
 use Rattle.cam_tiles.specs.Machinery.Lattices.{IsLattice, place_at}
 use Rattle.cam_tiles.specs.Machinery.Levels.{AreLevels, IsOnRow, height}
 use Rattle.cam_tiles.specs.Machinery.Spans.{HasPixelOf, has_pixel, is_between, is_in_span}
-use Rattle.cam_tiles.specs.Picture.{IsAccepted, centre_of, middle}
+use Rattle.cam_tiles.specs.Picture.{IsAcceptedWindow, centre_of, middle}
 use Rattle.cam_tiles.proofs.GridLemmas.{back, further}
 use Rattle.cam_tiles.proofs.WindowLemmas.{le_of, from_le}
 
@@ -69,7 +69,7 @@ tiles_between place low high span tiles pixels tile few between are =
 
 -- ---- pixels of a window
 
-module _ (w : Window) (limits : IsAccepted w) (step : ℤ) (is_step : step ≡ pos 2 *ℤ w.pitch) where
+module _ (w : Window) (limits : IsAcceptedWindow w) (step : ℤ) (is_step : step ≡ pos 2 *ℤ w.pitch) where
   steps : pos 1 ≤ℤ step
   steps = rw is_step (omega (arith, ints, limits.pitch))
 

@@ -5,7 +5,7 @@ use Rattle.std.proofs.lemmas.Bool.{cases_Bool, false≢true}
 use Rattle.cam_units.specs.declared.point.Spot.{Spot}
 use Rattle.cam_units.specs.declared.turn.Turn.{Turn}
 use Rattle.cam_macros.specs.declared.primitive.MacroPrimitive.{MacroPrimitive}
-use Rattle.cam_apertures.specs.Cover.{IsInShape, IsPainted}
+use Rattle.cam_apertures.specs.Cover.{IsInShape, IsExposed}
 use Rattle.cam_apertures.specs.Tests.{is_in_shape}
 use Rattle.cam_apertures.specs.Turned.{turned_prim, turned_shape}
 use Rattle.cam_apertures.proofs.CoverLaws.{in_shape}
@@ -29,9 +29,9 @@ inked_where false Was Held Now known decides passes =
 -- a primitive is added to what those before it paint, or cleared from it
 pub painted_more : (t : Turn) (prims : List MacroPrimitive) (place : ℕ) (p : MacroPrimitive) (s : Spot)
     → place < length prims → p ≡ get_or prims place p
-    → joined (inked p.paint) (IsPainted (map (turned_prim t) (take place prims)) s)
+    → joined (inked p.paint) (IsExposed (map (turned_prim t) (take place prims)) s)
     (IsInShape (turned_shape t p.shape) s)
-    ↔ IsPainted (map (turned_prim t) (take (place + 1) prims)) s
+    ↔ IsExposed (map (turned_prim t) (take (place + 1) prims)) s
 painted_more t prims place p s within e =
     inked_where p.paint _ _ _ (held_or_not (turned_prim t p) s) (decides_at t prims place (place + 1) p s refl within e)
     (passes_at t prims place (place + 1) p s refl within e)

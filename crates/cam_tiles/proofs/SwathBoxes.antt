@@ -2,7 +2,7 @@
 use Rattle.std.proofs.Common.{◌≡◌, ℕ, ◌-◌, ◌<◌, ℤ, pos, ◌+ℤ◌, ◌-ℤ◌, ◌*ℤ◌, subst, FitsSigned, w64, arith}
 use Rattle.std.specs.Int.RustNames.{unsigned_abs}
 use Rattle.std.proofs.lemmas.Int.{ints}
-use Rattle.cam_units.specs.Boxes.{IsBetween}
+use Rattle.cam_units.specs.Boxes.{IsInBox}
 use Rattle.cam_tiles.specs.declared.grid.Grid.{Grid}
 use Rattle.cam_tiles.specs.Machinery.Runs.{IsWideGrid}
 use Rattle.cam_tiles.specs.Tiles.{centre_in}
@@ -40,7 +40,7 @@ module _ (g : Grid) (columns : ℕ) (wide : IsWideGrid g columns) where
   -- each centre lies between the corners
   pub between_corners : (column row : ℕ) → column < columns → row < g.rows → (left bottom right top : ℤ) → left ≡ g.x
       → top ≡ g.y → right ≡ g.x +ℤ pos (columns - 1) *ℤ g.step → bottom ≡ g.y -ℤ pos (g.rows - 1) *ℤ g.step
-      → IsBetween (record { x = left; y = bottom }) (record { x = right; y = top }) (centre_in g column row)
+      → IsInBox (record { x = left; y = bottom }) (record { x = right; y = top }) (centre_in g column row)
   between_corners column row near below left bottom right top is_left is_top is_right is_bottom =
       let step = wide.grid.step in
       let some_across = steps_on column g.step step in

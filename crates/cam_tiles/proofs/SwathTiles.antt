@@ -20,7 +20,7 @@ use Rattle.cam_tiles.specs.Machinery.Swaths.{IsInSwath, IsRowOfTiles, Swathed, c
 use Rattle.cam_tiles.specs.Pbm.{bit_of}
 use Rattle.cam_tiles.specs.Picture.{accepts}
 use Rattle.cam_tiles.specs.Tables.{Tile}
-use Rattle.cam_tiles.specs.Tiles.{centre_in, grid_of, is_black_in, left, tile_rows, top, word}
+use Rattle.cam_tiles.specs.Tiles.{centre_in, grid_of, is_black_in, first_column, tile_rows, top, word}
 use Rattle.cam_tiles.proofs.GridLemmas.{centre_in_grid, on_board, left_within}
 use Rattle.cam_tiles.proofs.SwathInks.{IsClearPast}
 use Rattle.cam_tiles.proofs.TileRowLemmas.{clear_past, get_or-tile_rows, length-tile_rows, shown_within}
@@ -40,7 +40,7 @@ row_is_wide w first columns tiles h row are =
       grid = grid;
       count = (omega (arith, are, from, row.some), omega (arith, are, limits.width));
       centres = λ column k near below. subst IsPlace (sym (centre_in_grid w first column k (omega (arith, below))))
-          (limits.centres (left w first + column) (top w first + k) (omega (arith, near, are)) (omega (arith, below)));
+          (limits.centres (first_column w first + column) (top w first + k) (omega (arith, near, are)) (omega (arith, below)));
     }
 
 -- they are as many as the columns take up

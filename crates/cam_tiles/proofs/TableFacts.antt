@@ -10,7 +10,7 @@ use Rattle.cam_units.specs.declared.bounds.Bounds.{Bounds}
 use Rattle.cam_tiles.specs.declared.window.Window.{Window}
 use Rattle.cam_tiles.specs.Tables.{Table, Tile, blank, drawn_from, is_pixel_black, tile_in}
 use Rattle.cam_tiles.specs.Tiles.{across, tile_of, tiles_of}
-use Rattle.cam_tiles.specs.Touched.{touched, touched_by, touches, wiped_from}
+use Rattle.cam_tiles.specs.Touched.{box_touched, touched_by, touches, wiped_from}
 use Rattle.cam_tiles.proofs.TablePixels.{bit_in}
 
 abbrev tile_at : List Tile → ℕ → Tile
@@ -101,7 +101,7 @@ clean_tile (None ∷ tiles) k none within = absurd (omega (arith, count_more Non
 -- boxes keep the window
 pub touched_window : (boxes : List Bounds) (t : Table) → (touched_by boxes t).window ≡ t.window
 touched_window [] t = refl
-touched_window (box ∷ boxes) t = touched_window boxes (touched box t)
+touched_window (box ∷ boxes) t = touched_window boxes (box_touched box t)
 
 kept_tile : (b : Bool) (tile : Tile) (rows : List ℕ) → cond b None tile ≡ Some rows → (b ≡ false) × (tile ≡ Some rows)
 kept_tile true tile rows is = absurd (cc)
@@ -109,14 +109,14 @@ kept_tile false tile rows is = (refl, is)
 
 -- a tile after one box
 pub touched_tile : (t : Table) (box : Bounds) (k : ℕ)
-    → tile_in (touched box t) k ≡ cond (touches t.window box k) None (tile_in t k)
+    → tile_in (box_touched box t) k ≡ cond (touches t.window box k) None (tile_in t k)
 touched_tile t box k =
     let first : 0 + k ≡ k = omega arith in
     tile_at_wiped (touches t.window box) 0 t.tiles k
     ∙ ap (λ n. cond (touches t.window box n) None (tile_in t k)) first
 
 -- one that is clean after a box was not touched, and is as before
-pub untouched : (box : Bounds) (t : Table) (k : ℕ) (rows : List ℕ) → tile_in (touched box t) k ≡ Some rows
+pub untouched : (box : Bounds) (t : Table) (k : ℕ) (rows : List ℕ) → tile_in (box_touched box t) k ≡ Some rows
     → (touches t.window box k ≡ false) × (tile_in t k ≡ Some rows)
 untouched box t k rows is =
     kept_tile (touches t.window box k) (tile_in t k) rows (sym (touched_tile t box k) ∙ is)

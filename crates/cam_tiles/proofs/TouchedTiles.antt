@@ -8,7 +8,7 @@ use Rattle.cam_tiles.specs.declared.window.Window.{Window}
 use Rattle.cam_tiles.specs.Tables.{Table, Tile, pixel_of, tile_in}
 use Rattle.cam_tiles.specs.TileLaws.{TouchLaw}
 use Rattle.cam_tiles.specs.Tiles.{tile_of}
-use Rattle.cam_tiles.specs.Touched.{is_touched, touched, touched_by, touches}
+use Rattle.cam_tiles.specs.Touched.{is_touched, box_touched, touched_by, touches}
 use Rattle.cam_tiles.proofs.TableFacts.{touched_tile, touched_window}
 
 either : (a b : Bool) (tile : Tile) → cond b None (cond a None tile) ≡ cond (a || b) None tile
@@ -21,7 +21,7 @@ pub touched_tiles : (t : Table) (boxes : List Bounds) (k : ℕ)
     → tile_in (touched_by boxes t) k ≡ cond (is_touched t.window boxes k) None (tile_in t k)
 touched_tiles t [] k = refl
 touched_tiles t (box ∷ boxes) k =
-    touched_tiles (touched box t) boxes k
+    touched_tiles (box_touched box t) boxes k
     ∙ ap (λ tile. cond (is_touched t.window boxes k) None tile) (touched_tile t box k)
     ∙ either (touches t.window box k) (is_touched t.window boxes k) (tile_in t k)
 

@@ -16,7 +16,7 @@ use Rattle.cam_shapes.specs.Edge.{crosses_ray, edge, is_above}
 use Rattle.cam_shapes.specs.Sides.{changes_side, differ}
 use Rattle.cam_tiles.specs.Machinery.Marks.{AreSpread, TurnsRows, is_set, is_turned, turns_past}
 use Rattle.cam_rows.specs.declared.centres.Centres.{Centres}
-use Rattle.cam_rows.specs.Rows.{first_of, row_below}
+use Rattle.cam_rows.specs.Rows.{first_centre, row_below}
 use Rattle.cam_rows.specs.Runs.{AreEnds, AreRuns, IsInRun}
 use Rattle.cam_tiles.proofs.MarkedColumns.{none_odd}
 use Rattle.cam_tiles.specs.declared.grid.Grid.{Grid}
@@ -148,9 +148,9 @@ module _ (g : Grid) (columns : ℕ) where
       → ((first ≤ row) × (row < end)) ↔ (is_above p s ≢ is_above q s))
       → (n : ℕ) → n ≡ end - first → (k : ℕ) → k < n
       → (let top : Centres = record { x = x; y = y; step = step; n = columns } in
-      is_above p (first_of (row_below top k)) ≢ is_above q (first_of (row_below top k)))
+      is_above p (first_centre (row_below top k)) ≢ is_above q (first_centre (row_below top k)))
   top_crossed first end p q x y step is_y is_step low rows n size k few =
-      rw (is_y, is_step) ((rows (first + k) (first_of (row_below (top_of g columns first) k))
+      rw (is_y, is_step) ((rows (first + k) (first_centre (row_below (top_of g columns first) k))
       (omega (arith, few, size, low), further_down g.y g.step first k)).0
       (omega arith, omega (arith, few, size)))
 

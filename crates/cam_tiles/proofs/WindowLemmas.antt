@@ -9,7 +9,7 @@ use Rattle.std.proofs.lemmas.Nat.{mul-le}
 use Rattle.cam_units.specs.Board.{IsPlace, place_limit}
 use Rattle.cam_units.specs.declared.point.Spot.{Spot}
 use Rattle.cam_tiles.specs.declared.window.Window.{Window}
-use Rattle.cam_tiles.specs.Picture.{IsAccepted, AcceptLaw, accepts, middle, centre_of}
+use Rattle.cam_tiles.specs.Picture.{IsAcceptedWindow, AcceptLaw, accepts, middle, centre_of}
 use Rattle.cam_tiles.specs.Picture.{is_side, is_pitch, are_near, longest_side}
 
 -- a coordinate of a place of the board
@@ -46,7 +46,7 @@ near e p n m some within h =
     let both = and_parts _ _ h in
     middle_between e p n (m - 1) some (omega arith) (ltb-true _ _ both.0) (ltb-true _ _ both.1)
 
-pub accepted : (w : Window) → accepts w ≡ true → IsAccepted w
+pub accepted : (w : Window) → accepts w ≡ true → IsAcceptedWindow w
 unfolding accepts
 accepted w h =
     let one = and_parts _ _ h in
@@ -65,7 +65,7 @@ accepted w h =
       };
     }
 
-from_accepted : (w : Window) → IsAccepted w → accepts w ≡ true
+from_accepted : (w : Window) → IsAcceptedWindow w → accepts w ≡ true
 unfolding accepts
 from_accepted w h =
     let wide : 0 < w.width = h.width.0 in

@@ -16,8 +16,8 @@ use Rattle.cam_tiles.specs.declared.window.Window.{Window}
 use Rattle.cam_tiles.specs.Picture.{accepts, middle}
 use Rattle.cam_tiles.specs.Machinery.Spans.{has_pixel, is_between, is_in_span}
 use Rattle.cam_tiles.specs.Tables.{IsTable, Table, Tile}
-use Rattle.cam_tiles.specs.Tiles.{across, columns, down, left, rows, tiles_of, top}
-use Rattle.cam_tiles.specs.Touched.{touched, touches, wiped_from}
+use Rattle.cam_tiles.specs.Tiles.{across, columns, tiles_down, first_column, rows, tiles_of, top}
+use Rattle.cam_tiles.specs.Touched.{box_touched, touches, wiped_from}
 use Rattle.cam_tiles.proofs.DrawnTiles.{clean_before, dirty}
 use Rattle.cam_tiles.proofs.TileCounts.{some_across}
 
@@ -79,8 +79,8 @@ none_passes p none (n ∷ numbers) = or_from (p n) (list_any p numbers) (none n)
 touches_none : (w : Window) (k : ℕ) → touches w Empty k ≡ false
 unfolding touches
 touches_none w k =
-    none_passes (λ row. list_any (λ column. false) (range_with_len (left w k) (columns w k)))
-    (λ row. none_passes (λ column. false) (λ column. refl) (range_with_len (left w k) (columns w k)))
+    none_passes (λ row. list_any (λ column. false) (range_with_len (first_column w k) (columns w k)))
+    (λ row. none_passes (λ column. false) (λ column. refl) (range_with_len (first_column w k) (columns w k)))
     (range_with_len (top w k) (rows w k))
 
 none_wiped : (is_wiped : ℕ → Bool) → ((k : ℕ) → is_wiped k ≡ false) → (first : ℕ) (tiles : List Tile)
@@ -90,7 +90,7 @@ none_wiped is_wiped none first (tile ∷ tiles) =
     ap (λ b. cond b None tile ∷ wiped_from is_wiped (first + 1) tiles) (none first)
     ∙ ap (λ rest. tile ∷ rest) (none_wiped is_wiped none (first + 1) tiles)
 
-pub touched_empty : (t : Table) → touched Empty t ≡ t
+pub touched_empty : (t : Table) → box_touched Empty t ≡ t
 touched_empty t =
     ap (λ tiles. record { window = t.window; tiles = tiles })
     (none_wiped (touches t.window Empty) (touches_none t.window) 0 t.tiles)
@@ -128,7 +128,7 @@ AreColumns w low high s = (tile : ℕ) → tile < across w
     → is_in_span s tile ≡ has_pixel (λ column. is_between low.x high.x (middle w.x w.pitch column)) w.width tile
 
 abbrev pub AreRows : Window → Spot → Spot → Span → Type 0
-AreRows w low high s = (tile : ℕ) → tile < down w → is_in_span s tile
+AreRows w low high s = (tile : ℕ) → tile < tiles_down w → is_in_span s tile
     ≡ has_pixel (λ row. is_between low.y high.y (middle w.y w.pitch (w.height - 1 - row))) w.height tile
 
 touches_spans : (w : Window) (low high : Spot) (in_columns in_rows : Span) (k : ℕ) → accepts w ≡ true → k < tiles_of w
@@ -138,10 +138,10 @@ unfolding touches has_pixel
 touches_spans w low high in_columns in_rows k sound within by_column by_row =
     let some = some_across w sound in
     let column : k % across w < across w = mod-lt k some in
-    let row : k / across w < down w = div_below k (across w) (down w) some (omega (arith, within)) in
+    let row : k / across w < tiles_down w = div_below k (across w) (tiles_down w) some (omega (arith, within)) in
     any_column_and_row (λ column. is_between low.x high.x (middle w.x w.pitch column))
     (λ row. is_between low.y high.y (middle w.y w.pitch (w.height - 1 - row)))
-    (range_with_len (left w k) (columns w k)) (range_with_len (top w k) (rows w k))
+    (range_with_len (first_column w k) (columns w k)) (range_with_len (top w k) (rows w k))
     ∙ ap (λ b. b && list_any (λ row. is_between low.y high.y (middle w.y w.pitch (w.height - 1 - row)))
     (range_with_len (top w k) (rows w k))) (sym (by_column (k % across w) column))
     ∙ ap (λ b. is_in_span in_columns (k % across w) && b) (sym (by_row (k / across w) row))
@@ -152,7 +152,7 @@ pub touched_spans : (t : Table) (low high : Spot) (in_columns in_rows : Span) (w
     → length wiped ≡ length t.tiles
     → ((k : ℕ) → get_or wiped k None
     ≡ cond (is_in_span in_columns (k % wide) && is_in_span in_rows (k / wide)) None (get_or t.tiles k None))
-    → ◌≡◌ {A = Table} (record { window = t.window; tiles = wiped }) (touched (Closed low high) t)
+    → ◌≡◌ {A = Table} (record { window = t.window; tiles = wiped }) (box_touched (Closed low high) t)
 touched_spans t low high in_columns in_rows wide wiped sound by_column by_row same full each =
     let w = t.window in
     let here : ℕ → ℕ → Bool = λ n k. is_in_span in_columns (k % n) && is_in_span in_rows (k / n) in

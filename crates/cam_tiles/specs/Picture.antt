@@ -24,7 +24,7 @@ abbrev pub coarsest_pitch : ℕ
 coarsest_pitch = 100000000
 
 -- a window within its limits: its centres are places of the board
-pub record IsAccepted (w : Window) : Type 0 where
+pub record IsAcceptedWindow (w : Window) : Type 0 where
   pub width : (1 ≤ w.width) × (w.width ≤ longest_side)
   pub height : (1 ≤ w.height) × (w.height ≤ longest_side)
   pub pitch : (pos 1 ≤ℤ w.pitch) × (w.pitch ≤ℤ pos coarsest_pitch)
@@ -73,7 +73,7 @@ pub record Shows (file : List ℕ) (w : Window) (image : Spot → Bool) : Type 0
 
 -- the test is true of the windows within their limits
 abbrev pub AcceptLaw : Type 0
-AcceptLaw = (w : Window) → (accepts w ≡ true) ↔ IsAccepted w
+AcceptLaw = (w : Window) → (accepts w ≡ true) ↔ IsAcceptedWindow w
 
 -- the plot of an accepted window shows the image
 abbrev pub PlotLaw : Type 0

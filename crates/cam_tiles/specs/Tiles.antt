@@ -13,27 +13,27 @@ use Rattle.cam_tiles.specs.Picture.{centre_of}
 abbrev pub across : Window → ℕ
 across w = (w.width + 63) / 64
 
-abbrev pub down : Window → ℕ
-down w = (w.height + 63) / 64
+abbrev pub tiles_down : Window → ℕ
+tiles_down w = (w.height + 63) / 64
 
 -- how many tiles a window has
 abbrev pub tiles_of : Window → ℕ
-tiles_of w = across w * down w
+tiles_of w = across w * tiles_down w
 
 -- the tile of a pixel
 abbrev pub tile_of : Window → ℕ → ℕ → ℕ
 tile_of w column row = (row / 64) * across w + column / 64
 
 -- the first column and the first row of a tile
-abbrev pub left : Window → ℕ → ℕ
-left w k = 64 * (k % across w)
+abbrev pub first_column : Window → ℕ → ℕ
+first_column w k = 64 * (k % across w)
 
 abbrev pub top : Window → ℕ → ℕ
 top w k = 64 * (k / across w)
 
 -- its sides in pixels
 abbrev pub columns : Window → ℕ → ℕ
-columns w k = min 64 (w.width - left w k)
+columns w k = min 64 (w.width - first_column w k)
 
 abbrev pub rows : Window → ℕ → ℕ
 rows w k = min 64 (w.height - top w k)
@@ -41,8 +41,8 @@ rows w k = min 64 (w.height - top w k)
 -- the centres of its pixels
 abbrev pub grid_of : Window → ℕ → Grid
 grid_of w k = record {
-  x = (centre_of w (left w k) (top w k)).x;
-  y = (centre_of w (left w k) (top w k)).y;
+  x = (centre_of w (first_column w k) (top w k)).x;
+  y = (centre_of w (first_column w k) (top w k)).y;
   step = pos 2 *ℤ w.pitch;
   cols = columns w k;
   rows = rows w k;

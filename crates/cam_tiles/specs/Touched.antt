@@ -8,7 +8,7 @@ use Rattle.cam_units.specs.declared.point.Spot.{Spot}
 use Rattle.cam_tiles.specs.declared.window.Window.{Window}
 use Rattle.cam_tiles.specs.Picture.{centre_of}
 use Rattle.cam_tiles.specs.Tables.{Table, Tile}
-use Rattle.cam_tiles.specs.Tiles.{columns, left, rows, top}
+use Rattle.cam_tiles.specs.Tiles.{columns, first_column, rows, top}
 
 -- whether the place lies in the box or on its edge
 abbrev pub holds : Bounds → Spot → Bool
@@ -19,7 +19,7 @@ holds (Closed low high) s =
 -- whether the centre of some pixel of the tile lies there
 unfoldable pub touches : Window → Bounds → ℕ → Bool
 touches w box k =
-    list_any (λ row. list_any (λ column. holds box (centre_of w column row)) (range_with_len (left w k) (columns w k)))
+    list_any (λ row. list_any (λ column. holds box (centre_of w column row)) (range_with_len (first_column w k) (columns w k)))
     (range_with_len (top w k) (rows w k))
 
 -- the tiles from number k on, without those that a test names
@@ -29,12 +29,12 @@ wiped_from is_wiped k (tile ∷ tiles) =
     (if is_wiped k then None else tile) ∷ wiped_from is_wiped (k + 1) tiles
 
 -- the tiles that the box touches are dirty
-abbrev pub touched : Bounds → Table → Table
-touched box t = record { window = t.window; tiles = wiped_from (touches t.window box) 0 t.tiles }
+abbrev pub box_touched : Bounds → Table → Table
+box_touched box t = record { window = t.window; tiles = wiped_from (touches t.window box) 0 t.tiles }
 
 -- and so are those that several boxes touch
 abbrev pub touched_by : List Bounds → Table → Table
-touched_by boxes t = fold (λ before box. touched box before) t boxes
+touched_by boxes t = fold (λ before box. box_touched box before) t boxes
 
 -- whether one of the boxes touches the tile
 abbrev pub is_touched : Window → List Bounds → ℕ → Bool

@@ -3,7 +3,7 @@
 ghost use Rattle.std.specs.Prelude.{◌≡◌, ◌⊎◌, ℕ, ◌+◌, ◌-◌, ◌%◌, ◌<◌, ◌≤◌, None, OnOk, false, count_by, is_none, length, slice_index_or, true};
 ghost use Rattle.cam_objects.specs.Tests.{is_black};
 ghost use Rattle.cam_tiles.specs.Machinery.Drawn.{IsPartlyDrawn};
-ghost use Rattle.cam_tiles.specs.Machinery.Indexes.{AreItemsOf};
+ghost use Rattle.cam_tiles.specs.Machinery.Indexes.{IsIndexOf};
 ghost use Rattle.cam_tiles.specs.Machinery.Masks.{HoldsCentres};
 ghost use Rattle.cam_tiles.specs.Machinery.Shown.{IsReady, leaves_by_item, leaves_of};
 ghost use Rattle.cam_tiles.specs.Machinery.Swaths.{IsRowOfTiles};
@@ -11,7 +11,7 @@ ghost use Rattle.cam_tiles.specs.Picture.{accepts};
 ghost use Rattle.cam_tiles.specs.Tables.{all_drawn_from};
 ghost use Rattle.cam_tiles.specs.Tiles.{across, grid_of, tile_rows, tiles_of};
 
-use crate::index::items::Items;
+use crate::index::Index;
 use crate::masks::swath::Swath;
 use crate::painter::Tile;
 use crate::plain::tile_of;
@@ -20,9 +20,6 @@ use crate::span::Span;
 use crate::window::Window;
 use cam_units::Bounds;
 use std::alloc::{AllocError, Global};
-
-/// Of how many dirty tiles at most the items are looked for as they are needed.
-const FEW_TILES: usize = 16;
 
 /// Draws the dirty ones of the tiles of a window from a number on: row by row of them where there is an allocator, and
 /// tile by tile what is left then.
@@ -69,8 +66,8 @@ fn draw_quickly(
     let _ = draw_seen(alloc, shown, window, first, tiles);
 }
 
-/// Draws the dirty ones of tiles from the left end of a row on, by the items that may be seen there; where memory is
-/// refused, some of them.
+/// Draws the dirty ones of tiles from the left end of a row on, by an index of the items that may be seen there; where
+/// memory is refused, some of them.
 fn draw_seen(
     alloc: Global,
     shown: &Shown<'_>,
@@ -86,10 +83,9 @@ fn draw_seen(
         tiles.old tiles.new }
 {
     let within = box_of_dirty(window, first, tiles);
-    let is_few = dirty_in(tiles) <= FEW_TILES;
-    let mut items = Items::of(alloc, shown, window, within, is_few)?;
+    let mut index = Index::of(alloc, shown, window, within)?;
     let mut swath = Swath::new(alloc);
-    draw_rows(&mut items, &mut swath, shown, window, first, tiles)
+    draw_rows(&mut index, &mut swath, shown, window, first, tiles)
 }
 
 /// The box of the centres of the dirty ones of the tiles of a window from a number on, in half nm.
@@ -111,7 +107,7 @@ fn box_of_dirty(window: &Window, first: u32, tiles: &[Tile]) -> Bounds
 /// Draws the dirty ones of tiles from the left end of a row on, row by row of them. Where memory is refused, some of
 /// them.
 fn draw_rows(
-    items: &mut Items,
+    index: &mut Index,
     swath: &mut Swath,
     shown: &Shown<'_>,
     window: &Window,
@@ -119,7 +115,7 @@ fn draw_rows(
     tiles: &mut [Tile],
 ) -> Result<(), AllocError>
     requires ready { IsReady shown.now }
-    requires items { AreItemsOf (leaves_by_item shown.now) window.now items.old }
+    requires index { IsIndexOf (leaves_by_item shown.now) window.now index.old }
     requires accepted { accepts window.now ≡ true }
     requires left { first % across window.now ≡ 0 }
     requires within { first + length tiles.old ≤ tiles_of window.now }
@@ -131,7 +127,7 @@ fn draw_rows(
         let start = row * across;
         let end = (start + across).min(tiles.len());
         let part = &mut tiles[start..end];
-        draw_row(items, swath, shown, window, first + start as u32, part)?;
+        draw_row(index, swath, shown, window, first + start as u32, part)?;
     }
     Ok(())
 }
@@ -139,7 +135,7 @@ fn draw_rows(
 /// Draws the dirty ones of tiles of a row of them, all at once; none where memory is refused. The first of them has a
 /// number.
 fn draw_row(
-    items: &mut Items,
+    index: &mut Index,
     swath: &mut Swath,
     shown: &Shown<'_>,
     window: &Window,
@@ -147,10 +143,10 @@ fn draw_row(
     tiles: &mut [Tile],
 ) -> Result<(), AllocError>
     requires ready { IsReady shown.now }
-    requires items { AreItemsOf (leaves_by_item shown.now) window.now items.old }
+    requires index { IsIndexOf (leaves_by_item shown.now) window.now index.old }
     requires accepted { accepts window.now ≡ true }
     requires row { IsRowOfTiles window.now first tiles.old }
-    ensures items { OnOk result (AreItemsOf (leaves_by_item shown.now) window.now items.new) }
+    ensures index { OnOk result (IsIndexOf (leaves_by_item shown.now) window.now index.new) }
     ensures tiles { IsPartlyDrawn (λ k. tile_rows (is_black (leaves_of shown.now)) (grid_of window.now k)) first
         tiles.old tiles.new }
 {
@@ -159,7 +155,7 @@ fn draw_row(
         return Ok(());
     }
     let part = &mut tiles[dirty.first as usize..dirty.end as usize];
-    draw_swath(items, swath, shown, window, first + dirty.first, part)
+    draw_swath(index, swath, shown, window, first + dirty.first, part)
 }
 
 /// Those of some tiles between which all dirty ones lie.
@@ -187,7 +183,7 @@ fn dirty_among(tiles: &[Tile]) -> Span
 
 /// Draws the dirty ones of tiles side by side, all at once; none where memory is refused. The first of them has a number.
 fn draw_swath(
-    items: &mut Items,
+    index: &mut Index,
     swath: &mut Swath,
     shown: &Shown<'_>,
     window: &Window,
@@ -195,15 +191,15 @@ fn draw_swath(
     tiles: &mut [Tile],
 ) -> Result<(), AllocError>
     requires ready { IsReady shown.now }
-    requires items { AreItemsOf (leaves_by_item shown.now) window.now items.old }
+    requires index { IsIndexOf (leaves_by_item shown.now) window.now index.old }
     requires accepted { accepts window.now ≡ true }
     requires row { IsRowOfTiles window.now first tiles.old }
-    ensures items { OnOk result (AreItemsOf (leaves_by_item shown.now) window.now items.new) }
+    ensures index { OnOk result (IsIndexOf (leaves_by_item shown.now) window.now index.new) }
     ensures tiles { IsPartlyDrawn (λ k. tile_rows (is_black (leaves_of shown.now)) (grid_of window.now k)) first
         tiles.old tiles.new }
 {
     swath.turn_to(window, first, tiles)?;
-    items.paint(shown, window, first, swath)?;
+    index.paint(shown, window, first, swath)?;
     swath.put(tiles);
     Ok(())
 }

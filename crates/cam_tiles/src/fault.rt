@@ -2,7 +2,7 @@
 
 ghost use Rattle.std.specs.Prelude.{◌≡◌};
 ghost use Rattle.cam_refusals.specs.Refusals.{number_of};
-ghost use Rattle.cam_tiles.specs.Faults.{refusal_of};
+ghost use Rattle.cam_tiles.specs.Faults.{raster_refusal};
 ghost use Rattle.cam_tiles.specs.declared.fault.RasterFault.TheVariants.{Memory};
 
 use cam_refusals::Refusal;
@@ -26,7 +26,7 @@ pub enum RasterFault {
 impl RasterFault {
     /// The refusal that it is told as.
     pub fn refusal(self) -> Refusal
-        ensures { result ≡ refusal_of self }
+        ensures { result ≡ raster_refusal self }
     {
         match self {
             RasterFault::WindowRefused => Refusal::OutOfLimits,
@@ -37,7 +37,7 @@ impl RasterFault {
 
     /// The number by which it is told: 50, 51 or 30.
     pub fn number(self) -> u8
-        ensures { result ≡ number_of (refusal_of self) }
+        ensures { result ≡ number_of (raster_refusal self) }
     {
         self.refusal().number()
     }

@@ -1,17 +1,16 @@
 //! What of a layer a redraw may show: the items that may be seen in a box, and which of them reach each row of tiles.
 
 pub(crate) mod contour_parts;
-pub(crate) mod items;
 mod row_lists;
-pub(crate) mod seen;
+mod seen;
 
 ghost use Rattle.std.specs.Prelude.{◌≡◌, ◌↔◌, ◌+◌, ◌<◌, ◌≤◌, ◌≤ℤ◌, ◌∷◌, ℕ, [], All, IfNone, IfOk, IfSome, IsTrue, OnOk, length, map, slice_index_or, true};
 ghost use Rattle.cam_units.specs.Boxes.{Holds};
 ghost use Rattle.cam_units.specs.declared.point.Spot.{Spot};
 ghost use Rattle.cam_objects.specs.Leaves.{Filled, leaf};
-ghost use Rattle.cam_tiles.specs.Machinery.Indexes.{AreSeenBy, IsBoxed, IsBoxOf, IsIndexOf, IsSeen, numbered_leaves};
+ghost use Rattle.cam_tiles.specs.Machinery.Indexes.{IsBoxed, IsBoxOf, IsIndexOf, IsSeen, numbered_leaves};
 ghost use Rattle.cam_tiles.specs.Machinery.Parts.{IsParted, IsPartsOf, bare};
-ghost use Rattle.cam_tiles.specs.Machinery.RowLists.{AreListed, reaches};
+ghost use Rattle.cam_tiles.specs.Machinery.RowLists.{AreListed};
 ghost use Rattle.cam_tiles.specs.Machinery.Shown.{IsReady, leaves_by_item, leaves_of};
 ghost use Rattle.cam_tiles.specs.Machinery.Swaths.{HasRowOf, IsInSwath, PaintsSwath, place_in};
 ghost use Rattle.cam_tiles.specs.Picture.{accepts};
@@ -90,14 +89,6 @@ impl Boxed {
         })
     }
 
-    /// Whether it reaches a row of tiles.
-    #[inline]
-    fn is_in_row(&self, row: u32) -> bool
-        ensures { result ≡ reaches row self.now }
-    {
-        self.rows.first <= row && row < self.rows.end
-    }
-
     /// Whether its box has a place from the first column of a tile to the last.
     #[inline]
     fn reaches(&self, first: i64, last: i64) -> bool
@@ -108,19 +99,19 @@ impl Boxed {
 }
 
 impl Index {
-    /// An index of the items that may be seen, once all items were looked at.
+    /// An index of the items that may be seen in a box.
     pub(crate) fn of(
         alloc: Global,
         shown: &Shown<'_>,
         window: &Window,
-        seen: Seen,
+        within: Bounds,
     ) -> Result<Index, AllocError>
         requires ready { IsReady shown.now }
         requires accepted { accepts window.now ≡ true }
-        requires seen { AreSeenBy (leaves_by_item shown.now) window.now seen }
-        requires all { seen.left ≡ 0 }
         ensures { IfOk result (λ index. IsIndexOf (leaves_by_item shown.now) window.now index) }
     {
+        let mut seen = Seen::new(alloc, shown, within);
+        seen.look(shown, window)?;
         let Seen {
             within,
             mut boxed,

@@ -16,7 +16,7 @@ ghost use Rattle.cam_tiles.specs.Tables.{
   window_fault,
 };
 ghost use Rattle.cam_tiles.specs.Tiles.{grid_of, tile_rows, tiles_of};
-ghost use Rattle.cam_tiles.specs.Touched.{touched};
+ghost use Rattle.cam_tiles.specs.Touched.{box_touched};
 
 use crate::fault::RasterFault;
 use crate::painter::{Painter, Tile};
@@ -113,7 +113,7 @@ impl Raster {
     /// Makes dirty the tiles that hold a pixel centre in the box, or on its edge.
     #[tactic(auto, using(crate::proofs::TileCounts::some_across, crate::proofs::TileCounts::few_tiles))]
     pub fn touch(&mut self, bounds: Bounds)
-        ensures { self.new ≡ touched bounds self.old }
+        ensures { self.new ≡ box_touched bounds self.old }
     {
         let Bounds::Closed { low, high } = bounds else {
             return;

@@ -15,6 +15,9 @@ impl Span {
     /// None.
     pub(crate) const NONE: Span = Span { first: 0, end: 0 };
 
+    /// The columns or rows of a tile.
+    pub(crate) const WHOLE: Span = Span { first: 0, end: 64 };
+
     /// As bits: bit k for number k.
     pub(crate) fn bits(self) -> u64
         requires some { self.first < self.end }

@@ -5,7 +5,7 @@ ghost use Rattle.std.specs.Prelude.{◌&&◌, nat_le, nat_lt, if◌then◌else�
 ghost use Rattle.std.specs.Prelude.{None, count_by, is_none, length, slice_index_or};
 ghost use Rattle.cam_tiles.specs.Picture.{accepts, middle};
 ghost use Rattle.cam_tiles.specs.Machinery.Spans.{has_pixel, is_between, is_in_span};
-ghost use Rattle.cam_tiles.specs.Tiles.{across, down};
+ghost use Rattle.cam_tiles.specs.Tiles.{across, tiles_down};
 
 use crate::lattice::Lattice;
 use crate::levels::Levels;
@@ -36,12 +36,12 @@ impl Window {
     /// The rows of tiles with a pixel centre that is neither above nor below the box between two corners.
     pub(crate) fn rows_between(&self, low: &Spot, high: &Spot) -> Span
         requires { accepts self.now ≡ true }
-        ensures each { (tile : ℕ) → tile < down self.now → is_in_span result tile
+        ensures each { (tile : ℕ) → tile < tiles_down self.now → is_in_span result tile
             ≡ has_pixel
             (λ row. is_between low.now.y high.now.y (middle self.now.y self.now.pitch (self.now.height - 1 - row)))
             self.now.height tile }
         ensures ordered { result.first ≤ result.end }
-        ensures few { result.end ≤ down self.now }
+        ensures few { result.end ≤ tiles_down self.now }
     {
         let levels = Levels {
             top: self.centre(0, 0).y,

@@ -11,8 +11,8 @@ use Rattle.cam_apertures.specs.declared.aperture.Aperture.{Aperture}
 use Rattle.cam_apertures.specs.declared.aperture.Aperture.TheVariants.{Prims}
 use Rattle.cam_apertures.specs.declared.fault.AdFault.{AdFault}
 use Rattle.cam_apertures.specs.declared.fault.AdFault.TheVariants.{UnknownForm, BadNumber, TemplateRefused, SizeRefused}
-use Rattle.cam_apertures.specs.Faults.{of_macro, refusal_of}
-use Rattle.cam_apertures.specs.Definition.{by_macro, by_name, circle, has_sizes, named, obround, rect, values_of, Definition}
+use Rattle.cam_apertures.specs.Faults.{of_macro, aperture_refusal}
+use Rattle.cam_apertures.specs.Definition.{by_macro, by_template_name, circle, has_sizes, named, obround, rect, values_of, Definition}
 use Rattle.cam_numbers.specs.Numbers.{defined_number}
 
 unfoldable pub standard_outcome : ℕ → ℕ → Aperture → Result Aperture AdFault
@@ -32,7 +32,7 @@ named_outcome name macros unit values =
 
 unfoldable pub template_outcome : List ℕ → List Macro → FileUnit → List ℤ → Result Aperture AdFault
 template_outcome name macros unit values =
-    by_name name macros
+    by_template_name name macros
     (standard_outcome 1 (length values) (circle unit values))
     (standard_outcome 2 (length values) (rect unit values))
     (standard_outcome 2 (length values) (obround unit values))
@@ -58,4 +58,4 @@ outcome (Some d) macros unit =
 
 -- the outcome is this fault, or memory ran out
 abbrev pub IsErr : {A : Type 0} → AdFault → Result A AdFault → Type 0
-IsErr fault meant = UnlessMemory (refusal_of fault) (meant ≡ Err fault)
+IsErr fault meant = UnlessMemory (aperture_refusal fault) (meant ≡ Err fault)

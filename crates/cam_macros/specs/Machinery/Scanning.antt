@@ -11,12 +11,12 @@ use Rattle.cam_macros.specs.declared.parsing.mark.Mark.TheVariants.{Other}
 use Rattle.cam_macros.specs.declared.parsing.scanner.Level.{Level}
 use Rattle.cam_macros.specs.declared.fault.MacroFault.{MacroFault}
 use Rattle.cam_macros.specs.Answers.{IsMalformed}
-use Rattle.cam_macros.specs.Scanning.{Scan, Status, Wanted, Behind, charged, is_numeric, number_of, opened, scan}
-use Rattle.cam_macros.specs.Scanning.{variable_of, with_minus, with_step}
+use Rattle.cam_macros.specs.Scanning.{Scan, Status, Wanted, Behind, charged, is_run_byte, number_of_run, group_opened, scan}
+use Rattle.cam_macros.specs.Scanning.{variable_of, with_minus, step_scanned}
 
 -- a sign or an opening parenthesis
 abbrev pub prefixed : Mark → Scan → Option Scan
-prefixed Open s = opened s
+prefixed Open s = group_opened s
 prefixed Plus s = charged s
 prefixed Minus s = option_map with_minus (charged s)
 prefixed Numeral s = None
@@ -38,12 +38,12 @@ scan_wanted (Some s) rest = scan Wanted s rest
 -- a number or a variable with which the text begins, and what is to come
 abbrev pub number_then : Scan → List ℕ → Option (List Step)
 number_then s text =
-    scan_behind (option_map (λ n. with_step (Push n) s) (number_of (take (prefix_len is_numeric text) text)))
-    (drop (prefix_len is_numeric text) text)
+    scan_behind (option_map (λ n. step_scanned (Push n) s) (number_of_run (take (prefix_len is_run_byte text) text)))
+    (drop (prefix_len is_run_byte text) text)
 
 abbrev pub variable_then : Scan → List ℕ → Option (List Step)
 variable_then s text =
-    scan_behind (option_map (λ n. with_step (Read n) s) (variable_of (take (prefix_len is_ascii_digit text) text)))
+    scan_behind (option_map (λ n. step_scanned (Read n) s) (variable_of (take (prefix_len is_ascii_digit text) text)))
     (drop (prefix_len is_ascii_digit text) text)
 
 -- the status before an operand, and behind one

@@ -6,7 +6,7 @@ use Rattle.cam_macros.specs.declared.expression.Step.{Step}
 use Rattle.cam_macros.specs.declared.expression.Step.TheVariants.{Push, Read, Negate, Apply}
 use Rattle.cam_macros.specs.declared.fault.MacroFault.{MacroFault}
 use Rattle.cam_macros.specs.declared.fault.MacroFault.TheVariants.{Malformed}
-use Rattle.cam_macros.specs.Arithmetic.{Values, within, applied}
+use Rattle.cam_macros.specs.Arithmetic.{Values, within, operator_applied}
 use Rattle.cam_macros.specs.Machinery.Values.{numbers}
 
 abbrev pub stack_of : List Fixed → List ℤ
@@ -24,7 +24,7 @@ stepped values Negate [] = None
 stepped values Negate (a ∷ stack) = put stack (within (neg_ℤ a))
 stepped values (Apply o) [] = None
 stepped values (Apply o) (b ∷ []) = None
-stepped values (Apply o) (b ∷ a ∷ stack) = put stack (option_and_then within (applied o a b))
+stepped values (Apply o) (b ∷ a ∷ stack) = put stack (option_and_then within (operator_applied o a b))
 
 abbrev pub run : Values → List Step → List ℤ → Option (List ℤ)
 run values [] stack = Some stack

@@ -2,7 +2,7 @@
 
 ghost use Rattle.std.specs.Prelude.{◌≡◌, ◌<◌, ◌≤◌, ◌^◌, ◌*ℤ◌, pos, neg_ℤ, option_map, unsigned_abs};
 ghost use Rattle.cam_units.specs.Nearest.{nearest_of};
-ghost use Rattle.cam_macros.specs.Arithmetic.{within, applied, quotient};
+ghost use Rattle.cam_macros.specs.Arithmetic.{within, operator_applied, quotient};
 ghost use Rattle.cam_macros.specs.Numbers.{billion};
 
 use crate::expression::Operator;
@@ -78,7 +78,7 @@ impl Operands {
     /// The answer, products and quotients rounded to nearest; `None` where the divisor is 0.
     pub(crate) fn applied(self, operator: Operator) -> Option<Wide>
         ensures { option_map (λ value. value.billionths) result
-            ≡ applied operator self.left.billionths self.right.billionths }
+            ≡ operator_applied operator self.left.billionths self.right.billionths }
     {
         let left = i128::from(self.left.billionths);
         let right = i128::from(self.right.billionths);

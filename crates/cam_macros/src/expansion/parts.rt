@@ -2,7 +2,7 @@
 
 ghost use Rattle.std.specs.Prelude.{◌≡◌, ℕ, Ok, OnOk, IfOk, IfErr};
 ghost use Rattle.cam_macros.specs.Answers.{IsUnlessMemory};
-ghost use Rattle.cam_macros.specs.Expansion.{primitive_of, shape_of};
+ghost use Rattle.cam_macros.specs.Expansion.{primitive_of, primitive_made};
 ghost use Rattle.cam_macros.specs.Expansion.{expansion_of, outcome, values_after, with_prims};
 ghost use Rattle.cam_macros.specs.Machinery.Variables.{looked_up};
 
@@ -24,9 +24,9 @@ fn primitive(
     unit: Unit,
 ) -> Result<MacroPrimitive, MacroFault>
     ensures ok { IfOk result (λ prim.
-        primitive_of (shape_of code) unit (looked_up variables.now) fields.now ≡ Ok prim) }
+        primitive_of (primitive_made code) unit (looked_up variables.now) fields.now ≡ Ok prim) }
     ensures fault { IfErr result (λ fault.
-        IsUnlessMemory fault (primitive_of (shape_of code) unit (looked_up variables.now) fields.now)) }
+        IsUnlessMemory fault (primitive_of (primitive_made code) unit (looked_up variables.now) fields.now)) }
 {
     if !matches!(code, 1 | 2 | 4 | 20 | 21) {
         return Err(MacroFault::PrimitiveRefused);

@@ -3,9 +3,9 @@
 ghost use Rattle.std.specs.Prelude.{◌≡◌, ◌≤◌, length, unsigned_abs, IfOk, IfErr};
 ghost use Rattle.cam_refusals.specs.Limits.{size_limit};
 ghost use Rattle.cam_macros.specs.Answers.{IsUnlessMemory};
-ghost use Rattle.cam_macros.specs.Expansion.{paint_of, rotation, coordinate_of, turn_of, size_of, point_of};
-ghost use Rattle.cam_macros.specs.Expansion.{points_of, disc_of, bar_of, rect_of, count_of, outline_through};
-ghost use Rattle.cam_macros.specs.Expansion.{outline_of, rect_turned};
+ghost use Rattle.cam_macros.specs.Expansion.{paint_of, rotation, coordinate_of, rotation_field, size_of, point_of};
+ghost use Rattle.cam_macros.specs.Expansion.{outline_points, disc_of, bar_of, rect_of, count_of, outline_through};
+ghost use Rattle.cam_macros.specs.Expansion.{outline_made, rect_turned};
 ghost use Rattle.cam_macros.specs.Machinery.Values.{numbers};
 
 use crate::expansion::arithmetic::{BILLION, Fixed};
@@ -111,7 +111,7 @@ impl Place {
 /// The rotation, which may be left out.
 #[tactic(auto, using(crate::proofs::FieldLemmas::turn_short))]
 fn turn(fields: &[Fixed]) -> Result<Turn, MacroFault>
-    ensures { result ≡ turn_of (numbers fields.now) }
+    ensures { result ≡ rotation_field (numbers fields.now) }
 {
     match fields {
         [] => Ok(Turn::R0),
@@ -197,8 +197,8 @@ pub(crate) fn outline(
     unit: Unit,
     fields: &[Fixed],
 ) -> Result<MacroPrimitive, MacroFault>
-    ensures ok { IfOk result (λ prim. outline_of unit (numbers fields.now) ≡ Ok prim) }
-    ensures fault { IfErr result (λ fault. IsUnlessMemory fault (outline_of unit (numbers fields.now))) }
+    ensures ok { IfOk result (λ prim. outline_made unit (numbers fields.now) ≡ Ok prim) }
+    ensures fault { IfErr result (λ fault. IsUnlessMemory fault (outline_made unit (numbers fields.now))) }
 {
     let [exposure, count, more @ ..] = fields else {
         return Err(MacroFault::Malformed);
@@ -242,8 +242,8 @@ fn outline_through(
 
 /// The points whose coordinates follow one another.
 fn points(alloc: Global, unit: Unit, turn: Turn, fields: &[Fixed]) -> Result<Points, MacroFault>
-    ensures ok { IfOk result (λ points. points_of unit turn (numbers fields.now) ≡ Ok points) }
-    ensures fault { IfErr result (λ fault. IsUnlessMemory fault (points_of unit turn (numbers fields.now))) }
+    ensures ok { IfOk result (λ points. outline_points unit turn (numbers fields.now) ≡ Ok points) }
+    ensures fault { IfErr result (λ fault. IsUnlessMemory fault (outline_points unit turn (numbers fields.now))) }
 {
     let mut points = Vec::new(alloc);
     let mut rest = fields;

@@ -3,9 +3,9 @@
 ghost use Rattle.std.specs.Prelude.{◌≡◌, ◌∷◌, ℕ, IfOk, IfErr};
 ghost use Rattle.cam_words.specs.Bytes.{star};
 ghost use Rattle.cam_macros.specs.Answers.{IsMalformed, Nothing};
-ghost use Rattle.cam_macros.specs.Bytes.{comma, dollar};
+ghost use Rattle.cam_macros.specs.Bytes.{comma_sign, dollar};
 ghost use Rattle.cam_macros.specs.Reading.{AreExpressions, AreParts, IsAssignment, IsPart, IsPrimitive};
-ghost use Rattle.cam_macros.specs.Reading.{is_silent, pieces_between, spoken};
+ghost use Rattle.cam_macros.specs.Reading.{is_silent, pieces_between, parts_spoken};
 
 use crate::expression::Expression;
 use crate::fault::MacroFault;
@@ -17,9 +17,9 @@ use std::alloc::Global;
 
 /// The expressions of the texts between commas; `Malformed` where one is outside the grammar.
 fn fields_of(alloc: Global, texts: Option<&[u8]>) -> Result<Fields, MacroFault>
-    ensures ok { IfOk result (AreExpressions (pieces_between comma texts.entry)) }
+    ensures ok { IfOk result (AreExpressions (pieces_between comma_sign texts.entry)) }
     ensures fault { IfErr result (λ fault.
-        IsMalformed fault (Nothing (AreExpressions (pieces_between comma texts.entry)))) }
+        IsMalformed fault (Nothing (AreExpressions (pieces_between comma_sign texts.entry)))) }
 {
     let mut fields = Fields::new(alloc);
     let mut rest = texts;
@@ -84,9 +84,9 @@ impl Part {
 
 /// The parts of the texts between stars, of which empty ones and comments are none.
 pub(crate) fn parts_of(alloc: Global, texts: Option<&[u8]>) -> Result<Parts, MacroFault>
-    ensures ok { IfOk result (AreParts (spoken (pieces_between star texts.entry))) }
+    ensures ok { IfOk result (AreParts (parts_spoken (pieces_between star texts.entry))) }
     ensures fault { IfErr result (λ fault.
-        IsMalformed fault (Nothing (AreParts (spoken (pieces_between star texts.entry))))) }
+        IsMalformed fault (Nothing (AreParts (parts_spoken (pieces_between star texts.entry))))) }
 {
     let mut items = Vec::new(alloc);
     let mut rest = texts;

@@ -5,8 +5,8 @@ ghost use Rattle.std.specs.Prelude.{Some, length, replicate, option_map};
 ghost use Rattle.std.specs.List.{prefix_len};
 ghost use Rattle.std.specs.Char.{is_ascii_digit};
 ghost use Rattle.cam_macros.specs.declared.expression.Step.TheVariants.{Negate};
-ghost use Rattle.cam_macros.specs.Scanning.{Behind, charged, closed, finished, is_numeric, opened, operator_at, scan};
-ghost use Rattle.cam_macros.specs.Scanning.{scanned, start, waiting, Wanted, with_minus, with_operand, with_step};
+ghost use Rattle.cam_macros.specs.Scanning.{Behind, charged, closed, finished, is_run_byte, group_opened, operator_at, scan};
+ghost use Rattle.cam_macros.specs.Scanning.{scanned, start, waiting, Wanted, with_minus, with_operand, step_scanned};
 ghost use Rattle.cam_macros.specs.Scanning.{with_sum, with_term};
 ghost use Rattle.cam_macros.specs.Machinery.Scanning.{IsFaultOf, IsStep, number_then, prefixed, status_of};
 ghost use Rattle.cam_macros.specs.Machinery.Scanning.{variable_then};
@@ -101,7 +101,7 @@ impl Scanner {
 
     /// Writes a number or a variable.
     fn leaf(&mut self, step: Step) -> Result<(), AllocError>
-        ensures { OnOk result (self.new ≡ with_step step self.old) }
+        ensures { OnOk result (self.new ≡ step_scanned step self.old) }
     {
         self.steps.push(step)?;
         self.end_operand()
@@ -166,7 +166,7 @@ impl Scanner {
     /// Opens a pair of parentheses; a fault where they would be too deep.
     #[tactic(auto, using(crate::proofs::ScannerLemmas::reverse_push, crate::proofs::ScannerLemmas::counts_push))]
     fn open(&mut self) -> Result<(), MacroFault>
-        ensures { IsStep result (opened self.old) self.new }
+        ensures { IsStep result (group_opened self.old) self.new }
     {
         if self.room == 0 {
             return Err(MacroFault::Malformed);
@@ -197,7 +197,7 @@ impl Scanner {
         ensures ok { IfOk result (λ rest.
             number_then self.old text.now ≡ scan (status_of rest.wanted) self.new rest.text.now) }
         ensures shorter { IfOk result (λ rest.
-            length rest.text.now + prefix_len is_numeric text.now ≡ length text.now) }
+            length rest.text.now + prefix_len is_run_byte text.now ≡ length text.now) }
         ensures fault { IfErr result (λ fault. IsFaultOf fault (number_then self.old text.now)) }
     {
         let (run, text) = text.split_at(numeric_len(text));
@@ -352,7 +352,7 @@ fn push_waiting(steps: &mut Vec<Step>, operator: Option<Operator>) -> Result<(),
 
 /// How many digits and points stand first.
 fn numeric_len(text: &[u8]) -> usize
-    ensures value { result ≡ prefix_len is_numeric text.now }
+    ensures value { result ≡ prefix_len is_run_byte text.now }
     ensures within { result ≤ length text.now }
 {
     for (place, byte) in text.iter().enumerate() {

@@ -1,13 +1,8 @@
 -- The cells of many items, side by side.
-use Rattle.std.specs.Prelude.{◌≡◌, ℕ, ◌≤◌, ℤ, pos, ◌≤ℤ◌, ◌<ℤ◌, length, slice_index}
+use Rattle.std.specs.Prelude.{◌≡◌, ℕ, ◌≤◌, length, slice_index}
 use Rattle.cam_objects.specs.Cells.{Reaches}
 use Rattle.cam_objects.specs.declared.cells.reach.Reach.{Reach}
 use Rattle.cam_objects.specs.declared.cells.sides.Sides.{Sides}
-
--- a side that lies so far from the outer edge of the first cells lies in one of them or on its edge
-pub record IsAmongCells (side : ℤ) : Type 0 where
-  pub from : pos 0 ≤ℤ side
-  pub until : side <ℤ pos 4294967296
 
 -- so many items have all four
 pub record HasSides (sides : Sides) (count : ℕ) : Type 0 where

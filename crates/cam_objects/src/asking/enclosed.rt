@@ -1,7 +1,7 @@
 //! Items whose boxes lie in a box.
 
 ghost use Rattle.std.specs.Prelude.{◌≡◌, ◌↔◌, IsTrue, map};
-ghost use Rattle.cam_units.specs.Boxes.{IsBetween};
+ghost use Rattle.cam_units.specs.Boxes.{IsInBox};
 ghost use Rattle.cam_objects.specs.Bounds.{bounds_of};
 ghost use Rattle.cam_objects.specs.Enclosed.{FindsEnclosed, IsEnclosed};
 
@@ -10,13 +10,13 @@ use cam_units::{Bounds, Spot};
 
 /// Whether a place lies between two corners or on the edge.
 fn is_between(low: Spot, high: Spot, spot: Spot) -> bool
-    ensures { IsTrue result ↔ IsBetween low high spot }
+    ensures { IsTrue result ↔ IsInBox low high spot }
 {
     (low.x <= spot.x) & (spot.x <= high.x) & (low.y <= spot.y) & (spot.y <= high.y)
 }
 
 /// Whether a box holds a place and lies in another one, their edges in common or not.
-fn is_enclosed(inner: Bounds, outer: Bounds) -> bool
+pub fn is_enclosed(inner: Bounds, outer: Bounds) -> bool
     ensures { IsTrue result ↔ IsEnclosed inner outer }
 {
     match (inner, outer) {

@@ -15,12 +15,11 @@ ghost use Rattle.cam_objects.specs.declared.item.Item.{Item};
 
 use crate::boxes::extent::Extent;
 use crate::boxes::first_copies::FirstCopies;
-use crate::boxes::last_frame::LastFrame;
 use crate::cells::reach::{Measure, Reach};
 use crate::item::Item;
 use crate::layer::Layer;
 use crate::object::Object;
-use cam_units::{Bounds, Turn};
+use cam_units::Bounds;
 use std::marker::Model;
 
 /// Reads the boxes of the items of a layer: an aperture that the item read before named is not looked up again, and the
@@ -30,7 +29,6 @@ pub struct ItemBoxes<'a> {
     layer: &'a Layer,
     copies: Option<&'a FirstCopies>,
     last: Extent,
-    frame: LastFrame,
 }
 
 impl<'a> Model for ItemBoxes<'a> {
@@ -65,7 +63,6 @@ impl Layer {
             layer: self,
             copies,
             last: Extent::none(&self.apertures),
-            frame: LastFrame::of(&self.apertures, 0, Turn::R0),
         }
     }
 }
@@ -136,9 +133,8 @@ impl<'a> ItemBoxes<'a> {
             .line_misses(&layer.apertures, *aperture, from, to, *turn, within)
     }
 
-    /// The cells that it reaches and its leaves, of an item that is no flash and no draw.
-    #[inline(never)]
-    fn other_measure(&mut self, place: usize) -> Measure
+    /// The cells that the box of the item at a place of the list reaches, and how many leaves it has. Takes no memory.
+    pub(crate) fn measure(&mut self, place: usize) -> Measure
         requires { place < length self.old.items.items }
         ensures value { (item : Item) → slice_get self.old.items.items place ≡ Some item
             → IsMeasureOf self.old.apertures item result }
@@ -149,23 +145,5 @@ impl<'a> ItemBoxes<'a> {
             reach: Reach::of(self.read(place)),
             leaves: layer.item_leaf_count(&layer.items[place]),
         }
-    }
-
-    /// The cells that the box of the item at a place of the list reaches, and how many leaves it has. Takes no memory.
-    // Of most items nothing is written to memory but the cells.
-    #[inline(always)]
-    pub(crate) fn measure(&mut self, place: usize) -> Measure
-        requires { place < length self.old.items.items }
-        ensures value { (item : Item) → slice_get self.old.items.items place ≡ Some item
-            → IsMeasureOf self.old.apertures item result }
-        ensures layer { self.new ≡ self.old }
-    {
-        let layer = self.layer;
-        if let Item::One(object) = &layer.items[place] {
-            if let Some(measure) = self.frame.measure(&layer.apertures, object) {
-                return measure;
-            }
-        }
-        self.other_measure(place)
     }
 }

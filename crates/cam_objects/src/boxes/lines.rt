@@ -3,7 +3,7 @@
 ghost use Rattle.std.specs.Prelude.{◌≡◌, ◌^◌, ◌<◌, ◌*ℤ◌, ◌-ℤ◌, ◌≤ℤ◌, IsTrue, ℤ, pos};
 ghost use Rattle.std.specs.Int.RustNames.{unsigned_abs};
 ghost use Rattle.cam_units.specs.Board.{IsInReach, IsOnBoard, IsPlace, IsSize, place_limit};
-ghost use Rattle.cam_units.specs.Boxes.{Holds, IsBetween};
+ghost use Rattle.cam_units.specs.Boxes.{Holds, IsInBox};
 ghost use Rattle.cam_units.specs.declared.point.Point.{Point};
 ghost use Rattle.cam_units.specs.declared.point.Spot.{Spot};
 ghost use Rattle.cam_shapes.specs.Plane.{seen_from, way};
@@ -14,6 +14,7 @@ ghost use Rattle.cam_objects.specs.Machinery.Boxes.{IsSizedTip};
 ghost use Rattle.cam_objects.specs.Machinery.Lines.{IsLeft, crossed, reach_of};
 
 use crate::boxes::shapes::place;
+use crate::checks::inside::is_place;
 use crate::image::relative;
 use crate::tip::Tip;
 use cam_units::{Bounds, Nm, Point, Spot};
@@ -67,7 +68,7 @@ fn rightmost(way: Spot, low: Spot, high: Spot) -> Spot
     requires low { IsPlace low }
     requires high { IsPlace high }
     ensures place { IsPlace result }
-    ensures least { (p : Point) (s : Spot) → IsBetween low high s
+    ensures least { (p : Point) (s : Spot) → IsInBox low high s
         → crossed way (relative_to p result) ≤ℤ crossed way (relative_to p s) }
 {
     Spot {
@@ -84,7 +85,7 @@ fn lies_left(low: Spot, high: Spot, from: Point, to: Point, width: Nm, height: N
     requires to { IsOnBoard to }
     requires width { IsSize width.0 }
     requires height { IsSize height.0 }
-    ensures { IsTrue result → (s : Spot) → IsBetween low high s → IsLeft from to width.0 height.0 s }
+    ensures { IsTrue result → (s : Spot) → IsInBox low high s → IsLeft from to width.0 height.0 s }
 {
     let way = relative(from, place(&to));
     let nearest = relative(from, rightmost(way, low, high));
@@ -100,17 +101,10 @@ fn lies_beyond(low: Spot, high: Spot, from: Point, to: Point, width: Nm, height:
     requires to { IsOnBoard to }
     requires width { IsSize width.0 }
     requires height { IsSize height.0 }
-    ensures { IsTrue result → (s : Spot) → IsBetween low high s
+    ensures { IsTrue result → (s : Spot) → IsInBox low high s
         → ¬ IsNearWay (way from to) (seen_from from s) width.0 height.0 }
 {
     lies_left(low, high, from, to, width, height) || lies_left(low, high, to, from, width, height)
-}
-
-/// Whether it is a place of the board.
-fn is_place(spot: Spot) -> bool
-    ensures { IsTrue result → IsPlace spot }
-{
-    spot.x.unsigned_abs() < 2_000_000_000 && spot.y.unsigned_abs() < 2_000_000_000
 }
 
 /// Whether one sees by its line alone that a draw covers no place of a box, in half nm: all of the box lies beyond it, on one

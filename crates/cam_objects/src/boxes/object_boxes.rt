@@ -10,14 +10,12 @@ ghost use Rattle.cam_objects.specs.declared.item.Item.TheVariants.{One};
 ghost use Rattle.cam_objects.specs.declared.object.Object.{Object};
 
 use crate::boxes::extent::Extent;
-use crate::boxes::last_frame::LastFrame;
 use crate::cells::kept::ItemCells;
 use crate::cells::reach::{Measure, Reach};
 use crate::checks::facts::leaf_count;
 use crate::dictionary::Dictionary;
 use crate::entry::Entry;
 use crate::object::Object;
-use cam_units::Turn;
 use std::alloc::Global;
 use std::marker::Model;
 
@@ -27,7 +25,6 @@ pub(crate) struct ObjectBoxes<'a> {
     entries: &'a Dictionary,
     objects: &'a [Object],
     last: Extent,
-    frame: LastFrame,
 }
 
 impl<'a> Model for ObjectBoxes<'a> {
@@ -37,13 +34,13 @@ impl<'a> Model for ObjectBoxes<'a> {
 
     ghost Value = { List (ℕ × Entry) × List Object };
 
-    ghost use Rattle.cam_objects.specs.Machinery.Extents.{IsExtentIn, IsLastFrameIn};
+    ghost use Rattle.cam_objects.specs.Machinery.Extents.{IsExtentIn};
     ghost use Rattle.cam_objects.specs.Machinery.ObjectCells.{AreMeasurable};
 
     ghost view = { λ r. (r.entries.now, r.objects.now) };
 
     ghost invariant = { λ r. AreMeasurable r.entries.now r.objects.now
-        × (IsExtentIn r.entries.now r.last × IsLastFrameIn r.entries.now r.frame) };
+        × IsExtentIn r.entries.now r.last };
 }
 
 impl<'a> ObjectBoxes<'a> {
@@ -56,7 +53,6 @@ impl<'a> ObjectBoxes<'a> {
             entries,
             objects,
             last: Extent::none(entries),
-            frame: LastFrame::of(entries, 0, Turn::R0),
         }
     }
 
@@ -75,9 +71,8 @@ impl<'a> ObjectBoxes<'a> {
         leaf_count(self.entries, self.objects)
     }
 
-    /// The cells that it reaches and its leaves, of an object that is no flash and no draw.
-    #[inline(never)]
-    fn other_measure(&mut self, place: usize) -> Measure
+    /// The cells that the box of the object at a place reaches, counted from 0, and how many leaves it has.
+    pub(crate) fn measure(&mut self, place: usize) -> Measure
         requires { place < length self.old.1 }
         ensures value { (object : Object) → slice_get self.old.1 place ≡ Some object
             → IsMeasureOf self.old.0 (One object) result }
@@ -89,22 +84,6 @@ impl<'a> ObjectBoxes<'a> {
             reach: Reach::of(self.last.object_bounds(entries, object)),
             leaves: entries.leaf_count(object),
         }
-    }
-
-    /// The cells that the box of the object at a place reaches, counted from 0, and how many leaves it has.
-    #[inline(always)]
-    pub(crate) fn measure(&mut self, place: usize) -> Measure
-        requires { place < length self.old.1 }
-        ensures value { (object : Object) → slice_get self.old.1 place ≡ Some object
-            → IsMeasureOf self.old.0 (One object) result }
-        ensures list { self.new ≡ self.old }
-    {
-        let entries = self.entries;
-        let objects = self.objects;
-        if let Some(measure) = self.frame.measure(entries, &objects[place]) {
-            return measure;
-        }
-        self.other_measure(place)
     }
 }
 

@@ -110,7 +110,7 @@ fn distance(from: i64, to: i64) -> u128
 }
 
 /// The square of the way from one point to another, in half nm.
-fn squared_length(from: &Point, to: &Point) -> u128
+pub fn squared_length(from: &Point, to: &Point) -> u128
     requires from { IsOnBoard from.now }
     requires to { IsOnBoard to.now }
     ensures value { result ≡ unsigned_abs (dot (way from.now to.now) (way from.now to.now)) }

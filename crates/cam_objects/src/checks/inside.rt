@@ -188,12 +188,13 @@ pub(crate) fn fits_box(bounds: &Bounds) -> bool
 {
     match bounds {
         Bounds::Empty => true,
-        Bounds::Closed { low, high } => fits_place(low) && fits_place(high),
+        Bounds::Closed { low, high } => is_place(*low) && is_place(*high),
     }
 }
 
-fn fits_place(spot: &Spot) -> bool
-    ensures { IsTrue result ↔ IsPlace spot.now }
+/// Whether a spot is a place of the board.
+pub fn is_place(spot: Spot) -> bool
+    ensures { IsTrue result ↔ IsPlace spot }
 {
     spot.x.unsigned_abs() < PLACE_LIMIT && spot.y.unsigned_abs() < PLACE_LIMIT
 }

@@ -1,7 +1,7 @@
 //! The checks of a layer: whether an item or an entry may join it.
 
 ghost use Rattle.std.specs.Prelude.{◌≡◌, ◌++◌, ◌∷◌, ◌<◌, ◌↔◌, [], IsTrue, length, slice_set, sum_by};
-ghost use Rattle.cam_refusals.specs.Checks.{answer_of, first};
+ghost use Rattle.cam_refusals.specs.Checks.{answer_of, first_holding};
 ghost use Rattle.cam_objects.specs.Soundness.{
   HasSoundItems,
   IsSoundBlock,
@@ -18,8 +18,8 @@ use crate::checks::demands::{are_drawable, are_formed, are_known, has_number, ha
 use crate::checks::facts::{depth, leaf_count};
 use crate::checks::inside::{is_object_inside, is_repeat_inside};
 use crate::checks::room::{
-    fits_object, fits_repeat, has_room, has_room_at, has_room_at_beside, has_room_beside,
-    item_leaf_count, items_leaf_count,
+    fits_object, fits_repeat, has_room, has_room_at_beside, has_room_beside, item_leaf_count,
+    items_leaf_count,
 };
 use crate::dictionary::Dictionary;
 use crate::entry::Entry;
@@ -34,7 +34,7 @@ use cam_refusals::limits::{COUNT_LIMIT, DEPTH_LIMIT, LEAF_LIMIT};
 impl Layer {
     /// Whether the item is sound beside the layer's dictionary, or the first of its faults.
     pub fn check_item(&self, item: &Item) -> Result<(), ItemFault>
-        ensures { result ≡ answer_of (first (item_checks self.now.apertures item.now)) }
+        ensures { result ≡ answer_of (first_holding (item_checks self.now.apertures item.now)) }
     {
         match item {
             Item::One(object) => self.apertures.check_object(object),
@@ -51,16 +51,6 @@ impl Layer {
         ensures { IsTrue result ↔ KeepsLimits self.now.apertures (self.now.items.items ++ item.now ∷ []) }
     {
         has_room(&self.apertures, &self.items, item)
-    }
-
-    /// Whether the layer keeps its limits with the item in place of the one that stands at a place, counted from 0.
-    /// Goes through all items only where the item has more leaves than that one.
-    pub fn has_room_at(&self, place: usize, item: &Item) -> bool
-        requires sound { HasSoundItems self.now }
-        requires within { place < length self.now.items.items }
-        ensures { IsTrue result ↔ KeepsLimits self.now.apertures (slice_set self.now.items.items place item.now) }
-    {
-        has_room_at(&self.apertures, &self.items, place, item)
     }
 
     /// How many leaves the layer has. Goes through all items.
@@ -87,7 +77,8 @@ impl Layer {
         has_room_beside(&self.apertures, &self.items, leaves, item)
     }
 
-    /// What `has_room_at` answers, where it is known how many leaves the layer has: goes through no other item.
+    /// Whether the layer, of which it is known how many leaves it has, keeps its limits with the item in place of the one
+    /// that stands at a place, counted from 0. Goes through no other item.
     pub fn has_room_at_beside(&self, leaves: u64, place: usize, item: &Item) -> bool
         requires sound { HasSoundItems self.now }
         requires within { place < length self.now.items.items }
@@ -117,7 +108,7 @@ impl Dictionary {
     /// Whether the object is sound as an item beside these entries, or the first of its faults.
     #[tactic(auto, unfolding(crate::specs::Soundness::item_checks))]
     pub fn check_object(&self, object: &Object) -> Result<(), ItemFault>
-        ensures { result ≡ answer_of (first (item_checks self.now (One object.now))) }
+        ensures { result ≡ answer_of (first_holding (item_checks self.now (One object.now))) }
     {
         let objects = std::slice::from_ref(object);
         if !are_formed(objects) {
@@ -146,7 +137,7 @@ impl Dictionary {
 #[tactic(auto, unfolding(crate::specs::Soundness::item_checks, crate::specs::Soundness::is_within_limits))]
 fn check_repeat(entries: &Dictionary, copies: &Copies, objects: &[Object]) -> Result<(), ItemFault>
     ensures { result
-        ≡ answer_of (first (item_checks entries.now
+        ≡ answer_of (first_holding (item_checks entries.now
         (Repeat copies.now.columns copies.now.rows copies.now.i copies.now.j objects.now))) }
 {
     if copies.count() <= 1 || objects.is_empty() || !are_formed(objects) {

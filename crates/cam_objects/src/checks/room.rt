@@ -150,7 +150,7 @@ pub(crate) fn items_leaf_count(entries: &Dictionary, items: &[Item]) -> u64
     LEAF_LIMIT - room_behind_items(entries, items).unwrap()
 }
 
-/// The same as `has_room`, of items that have so many leaves.
+/// Whether items with so many leaves, counted already, keep the limits with one more behind them.
 pub(crate) fn has_room_beside(
     entries: &Dictionary,
     items: &[Item],
@@ -177,24 +177,8 @@ pub(crate) fn item_leaf_count(entries: &Dictionary, item: &Item) -> u64
     LEAF_LIMIT - room_behind_item(entries, item, LEAF_LIMIT).unwrap()
 }
 
-/// Whether a layer of the items, which keeps the limits, keeps them with another item in the place of one.
-pub(crate) fn has_room_at(entries: &Dictionary, items: &[Item], place: usize, item: &Item) -> bool
-    requires limits { KeepsLimits entries.now items.now }
-    requires within { place < length items.now }
-    ensures { IsTrue result ↔ KeepsLimits entries.now (slice_set items.now place item.now) }
-{
-    let leaves = item_leaf_count(entries, &items[place]);
-    // Where the other item has no more leaves, those beside it need not be counted.
-    if room_behind_item(entries, item, leaves).is_some() {
-        return true;
-    }
-    match room_behind_items(entries, items) {
-        Some(room) => room_behind_item(entries, item, room + leaves).is_some(),
-        None => false,
-    }
-}
-
-/// The same as `has_room_at`, of items that have so many leaves.
+/// Whether a layer of the items, which has so many leaves and keeps the limits, keeps them with another item in the place
+/// of one.
 pub(crate) fn has_room_at_beside(
     entries: &Dictionary,
     items: &[Item],

@@ -43,7 +43,7 @@ impl DrillItem {
         }
     }
 
-    /// The same, empty where there is no such tool.
+    /// The box of what it paints with a tool of this diameter; empty where there is no such tool.
     #[inline]
     pub(crate) fn bounds_with(&self, diameter: Option<Nm>) -> Bounds
         requires points { All IsOnBoard (drill_points_of self.now) }

@@ -1,7 +1,7 @@
 //! The checks of a drill layer.
 
 ghost use Rattle.std.specs.Prelude.{◌≡◌, ◌+◌, ◌++◌, ◌∷◌, ◌↔◌, ◌≤◌, [], All, IsTrue, sum_by};
-ghost use Rattle.cam_refusals.specs.Checks.{answer_of, first};
+ghost use Rattle.cam_refusals.specs.Checks.{answer_of, first_holding};
 ghost use Rattle.cam_objects.specs.DrillSoundness.{IsSoundTool, KeepsDrillLimits, drill_count_of, drilling_checks};
 ghost use Rattle.cam_objects.specs.Soundness.{are_on_board};
 ghost use Rattle.cam_refusals.specs.Limits.{leaf_limit};
@@ -21,7 +21,7 @@ pub(crate) fn fits_tool(tool: u16, diameter: Nm) -> bool
 
 /// Whether an item of these points is sound, where its tool is known or not, or its first fault.
 pub(crate) fn check_drilling(known: bool, points: &[Point]) -> Result<(), ItemFault>
-    ensures { result ≡ answer_of (first (drilling_checks known points.now)) }
+    ensures { result ≡ answer_of (first_holding (drilling_checks known points.now)) }
 {
     if points.is_empty() {
         return Err(ItemFault::Malformed);
@@ -53,7 +53,7 @@ pub(crate) fn fits_limits(items: &[DrillItem], item: &DrillItem) -> bool
     fits_limits_beside(items, leaf_count(items), item)
 }
 
-/// The same of items that have so many leaves.
+/// Whether items with so many leaves, counted already, keep the limits with one more behind them.
 pub(crate) fn fits_limits_beside(items: &[DrillItem], leaves: u64, item: &DrillItem) -> bool
     requires limits { KeepsDrillLimits items.now }
     requires leaves { leaves ≡ sum_by drill_count_of items.now }

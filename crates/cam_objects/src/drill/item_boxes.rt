@@ -10,7 +10,6 @@ ghost use Rattle.cam_objects.specs.Machinery.Measures.{IsDrillMeasureOf};
 ghost use Rattle.cam_objects.specs.declared.drill_item.DrillItem.{DrillItem};
 
 use crate::cells::reach::{Measure, Reach};
-use crate::drill::last_hole::LastHole;
 use crate::drill_item::DrillItem;
 use crate::drill_layer::DrillLayer;
 use crate::tools::Tools;
@@ -45,7 +44,6 @@ impl LastTool {
 pub struct DrillItemBoxes<'a> {
     layer: &'a DrillLayer,
     last: LastTool,
-    hole: LastHole,
 }
 
 impl<'a> Model for DrillItemBoxes<'a> {
@@ -54,12 +52,12 @@ impl<'a> Model for DrillItemBoxes<'a> {
     ghost Value = { DrillLayer };
 
     ghost use Rattle.cam_objects.specs.DrillSoundness.{IsSoundDrillLayer};
-    ghost use Rattle.cam_objects.specs.Machinery.Extents.{IsLastHoleIn, IsLastToolIn};
+    ghost use Rattle.cam_objects.specs.Machinery.Extents.{IsLastToolIn};
 
     ghost view = { λ r. r.layer.now };
 
     ghost invariant = { λ r. IsSoundDrillLayer r.layer.now
-        × (IsLastToolIn r.layer.now.tools r.last × IsLastHoleIn r.layer.now.tools r.hole) };
+        × IsLastToolIn r.layer.now.tools r.last };
 }
 
 impl DrillLayer {
@@ -74,7 +72,6 @@ impl DrillLayer {
                 tool: 0,
                 diameter: self.tools.get(0),
             },
-            hole: LastHole::of(self, 0),
         }
     }
 }
@@ -116,9 +113,9 @@ impl<'a> DrillItemBoxes<'a> {
         item.bounds_with(self.last.diameter_in(&layer.tools, item.tool()))
     }
 
-    /// The cells that it reaches and its holes and slots, of a rout.
-    #[inline(never)]
-    fn rout_measure(&mut self, place: usize) -> Measure
+    /// The cells that the box of the item at a place of the list reaches, and how many holes and slots it has. Takes no
+    /// memory.
+    pub(crate) fn measure(&mut self, place: usize) -> Measure
         requires { place < length self.old.items.items }
         ensures value { (item : DrillItem) → slice_get self.old.items.items place ≡ Some item
             → IsDrillMeasureOf self.old.tools item result }
@@ -129,22 +126,5 @@ impl<'a> DrillItemBoxes<'a> {
             reach: Reach::of(self.read(place)),
             leaves: layer.items[place].leaf_count() as u64,
         }
-    }
-
-    /// The cells that the box of the item at a place of the list reaches, and how many holes and slots it has. Takes no
-    /// memory.
-    #[inline(always)]
-    pub(crate) fn measure(&mut self, place: usize) -> Measure
-        requires { place < length self.old.items.items }
-        ensures value { (item : DrillItem) → slice_get self.old.items.items place ≡ Some item
-            → IsDrillMeasureOf self.old.tools item result }
-        ensures layer { self.new ≡ self.old }
-    {
-        let layer = self.layer;
-        if let DrillItem::Hit { tool, at } = &layer.items[place] {
-            let reach = self.hole.hit(layer, *tool, *at);
-            return Measure { reach, leaves: 1 };
-        }
-        self.rout_measure(place)
     }
 }

@@ -1,8 +1,8 @@
 -- Indexes of many lists of leaves: which of the lists paint the places in each row of tiles of a box.
 use Rattle.std.specs.Prelude.{◌≡◌, ℕ, ◌+◌, ◌-◌, ◌*◌, ◌<◌, ◌≤◌, min, pos, ◌*ℤ◌, true, List, [], length, filter, All}
-use Rattle.std.specs.Prelude.{drop, reverse, take}
+use Rattle.std.specs.Prelude.{drop, reverse}
 use Rattle.std.specs.List.{flat_map, slice_index_or}
-use Rattle.cam_units.specs.Boxes.{Holds, IsBetween}
+use Rattle.cam_units.specs.Boxes.{Holds, IsInBox}
 use Rattle.cam_units.specs.declared.bounds.Bounds.{Bounds}
 use Rattle.cam_units.specs.declared.point.Spot.{Spot}
 use Rattle.cam_objects.specs.Bounds.{bounds_of}
@@ -10,8 +10,6 @@ use Rattle.cam_objects.specs.Leaves.{Leaf}
 use Rattle.cam_objects.specs.Tests.{last_ink}
 use Rattle.cam_tiles.specs.declared.index.Boxed.{Boxed}
 use Rattle.cam_tiles.specs.declared.index.Index.{Index}
-use Rattle.cam_tiles.specs.declared.index.items.Items.{Items}
-use Rattle.cam_tiles.specs.declared.index.items.Items.TheVariants.{AsNeeded, Indexed}
 use Rattle.cam_tiles.specs.declared.index.seen.Seen.{Seen}
 use Rattle.cam_tiles.specs.declared.levels.Levels.{Levels}
 use Rattle.cam_tiles.specs.declared.window.Window.{Window}
@@ -19,7 +17,7 @@ use Rattle.cam_tiles.specs.Machinery.Levels.{IsOnRow}
 use Rattle.cam_tiles.specs.Machinery.Parts.{IsPartsOf}
 use Rattle.cam_tiles.specs.Machinery.RowLists.{AreListed, no_box, reaches}
 use Rattle.cam_tiles.specs.Picture.{middle}
-use Rattle.cam_tiles.specs.Tiles.{down}
+use Rattle.cam_tiles.specs.Tiles.{tiles_down}
 
 -- leaves of which the last one that covers a place has the same polarity, at each place that is seen
 abbrev pub PaintAlike : (Spot → Type 0) → List Leaf → List Leaf → Type 0
@@ -43,14 +41,14 @@ IsSeen w within row s = Holds within s × IsOnLevels (row_levels w row) s
 
 -- the corners of a box, and the rows of tiles in which some place of it is seen
 pub record IsBoxOf (w : Window) (within box : Bounds) (b : Boxed) : Type 0 where
-  pub corners : (s : Spot) → Holds box s → IsBetween b.low b.high s
+  pub corners : (s : Spot) → Holds box s → IsInBox b.low b.high s
   pub rows : (row : ℕ) (s : Spot) → IsSeen w within row s → Holds box s → reaches row b ≡ true
-  pub ends : b.rows.end ≤ down w
+  pub ends : b.rows.end ≤ tiles_down w
 
 -- the leaves at a place of the lists lie between the corners
 pub record IsBoxed (lists : List (List Leaf)) (b : Boxed) : Type 0 where
   pub within : b.place < length lists
-  pub corners : (s : Spot) → Holds (bounds_of (slice_index_or lists b.place [])) s → IsBetween b.low b.high s
+  pub corners : (s : Spot) → Holds (bounds_of (slice_index_or lists b.place [])) s → IsInBox b.low b.high s
 
 -- the lists whose boxes reach a row, one after another
 abbrev pub row_leaves : List (List Leaf) → ℕ → List Boxed → List Leaf
@@ -76,17 +74,12 @@ last_leaves lists row boxed = row_leaves lists row (reverse boxed)
 pub record AreSeenFrom (lists : List (List Leaf)) (w : Window) (within : Bounds) (n : ℕ) (boxed : List Boxed)
     : Type 0 where
   pub each : All (IsBoxed lists) boxed
-  pub ends : All (λ b. b.rows.end ≤ down w) boxed
+  pub ends : All (λ b. b.rows.end ≤ tiles_down w) boxed
   pub enough : (row : ℕ) → PaintAlike (IsSeen w within row) (last_leaves lists row boxed) (all_from lists n)
   pub few : length boxed + n ≤ length lists
 
 abbrev pub AreSeenBy : List (List Leaf) → Window → Seen → Type 0
 AreSeenBy lists w s = AreSeenFrom lists w s.within s.left s.boxed.items
-
--- what was found before comes first
-pub record IsBegunBy (old new : Seen) : Type 0 where
-  pub within : new.within ≡ old.within
-  pub boxed : take (length old.boxed.items) new.boxed.items ≡ old.boxed.items
 
 -- ---- once all were looked at
 
@@ -96,11 +89,6 @@ pub record IsIndexOf (lists : List (List Leaf)) (w : Window) (i : Index) : Type 
   pub boxed : All (IsBoxed lists) i.boxed.items
   pub enough : (row : ℕ)
       → PaintAlike (IsSeen w i.within row) (row_leaves lists row i.boxed.items) (flat_map (λ those. those) lists)
-  pub rows : length i.rows.starts.items ≡ down w + 1
+  pub rows : length i.rows.starts.items ≡ tiles_down w + 1
   pub listed : AreListed i.boxed.items i.rows
   pub contours : All (IsPartsOf lists) i.contours.items
-
--- either of both
-abbrev pub AreItemsOf : List (List Leaf) → Window → Items → Type 0
-AreItemsOf lists w (AsNeeded seen) = AreSeenBy lists w seen
-AreItemsOf lists w (Indexed index) = IsIndexOf lists w index

@@ -17,11 +17,6 @@ abbrev pub AreAlike : Runs → ℕ → ℕ → Type 0
 AreAlike r row other =
     (slice_index r.firsts other ≡ slice_index r.firsts row) × (slice_index r.ends other ≡ slice_index r.ends row)
 
--- the rows of the band from one up to another have the same run
-pub record IsBoxUntil (r : Runs) (row until : ℕ) : Type 0 where
-  pub onward : row < r.band.end → (row < until) × (until ≤ r.band.end)
-  pub alike : (other : ℕ) → row ≤ other → other < until → AreAlike r row other
-
 -- the band is one of so many rows
 abbrev pub Fits : ℕ → Runs → Type 0
 Fits rows r = r.band.end ≤ rows

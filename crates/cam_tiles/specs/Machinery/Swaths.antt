@@ -15,7 +15,7 @@ use Rattle.cam_tiles.specs.Machinery.Levels.{levels_of}
 use Rattle.cam_tiles.specs.Machinery.Masks.{IsIn}
 use Rattle.cam_tiles.specs.Machinery.Runs.{IsWideGrid}
 use Rattle.cam_tiles.specs.Tables.{Tile}
-use Rattle.cam_tiles.specs.Tiles.{IsGrid, across, centre_in, grid_of, left, tiles_of}
+use Rattle.cam_tiles.specs.Tiles.{IsGrid, across, centre_in, grid_of, first_column, tiles_of}
 
 -- the rows of a grid, which go on to the right, in so many columns, and what is known of their pixels
 pub record Swathed : Type 0 where
@@ -59,7 +59,7 @@ pub record IsRowOfTiles (w : Window) (first : ℕ) (tiles : List Tile) : Type 0 
 
 -- how many columns they have
 abbrev pub columns_of : Window → ℕ → ℕ → ℕ
-columns_of w first count = min (w.width - left w first) (64 * count)
+columns_of w first count = min (w.width - first_column w first) (64 * count)
 
 -- the rows of a swath are those of a tile
 abbrev pub HasRowOf : Window → ℕ → Swathed → Type 0

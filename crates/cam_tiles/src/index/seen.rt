@@ -1,21 +1,16 @@
 //! The items of a layer that may be seen in a box, looked for from the last one on.
 
-ghost use Rattle.std.specs.Prelude.{◌≡◌, ℕ, ◌<◌, ◌≤◌, ◌⊎◌, [], IfNone, IfOk, IfSome, IsTrue, OnOk, Some, length, slice_get, slice_index_or, true};
+ghost use Rattle.std.specs.Prelude.{◌≡◌, ℕ, ◌<◌, ◌≤◌, [], OnOk, length, slice_index_or, true};
 ghost use Rattle.cam_units.specs.Boxes.{HaveCommonPlace};
 ghost use Rattle.cam_objects.specs.Bounds.{bounds_of};
-ghost use Rattle.cam_tiles.specs.Machinery.Indexes.{AreSeenBy, IsBegunBy};
-ghost use Rattle.cam_tiles.specs.Machinery.Shown.{IsReady, leaves_by_item, leaves_of, lists_of};
-ghost use Rattle.cam_tiles.specs.Machinery.Swaths.{HasRowOf, PaintsSwath};
+ghost use Rattle.cam_tiles.specs.Machinery.Indexes.{AreSeenBy};
+ghost use Rattle.cam_tiles.specs.Machinery.Shown.{IsReady, leaves_by_item, lists_of};
 ghost use Rattle.cam_tiles.specs.Picture.{accepts};
-ghost use Rattle.cam_tiles.specs.Tiles.{tiles_of};
 ghost use Rattle.cam_tiles.specs.declared.window.Window.{Window};
 
 use crate::index::Boxed;
-use crate::masks::swath::Swath;
 use crate::shown::{Boxes, Shown};
 use crate::window::Window;
-use cam_apertures::has_place;
-use cam_objects::Canvas;
 use cam_units::Bounds;
 use std::alloc::{AllocError, Global};
 
@@ -29,9 +24,6 @@ pub(crate) struct Seen {
     /// Whether what was looked at last is near and stands right before what was looked at before it.
     pub(super) is_crowd: bool,
 }
-
-/// How many more are looked for at a time.
-const STEP: usize = 64;
 
 impl Seen {
     /// No item was looked at yet.
@@ -75,7 +67,6 @@ impl Seen {
         requires lists { lists_of boxes.old ≡ leaves_by_item shown.now }
         requires some { 0 < self.old.left }
         ensures seen { OnOk result (AreSeenBy (leaves_by_item shown.now) window.now self.new) }
-        ensures begun { OnOk result (IsBegunBy self.old self.new) }
         ensures onward { OnOk result (self.new.left < self.old.left) }
         ensures lists { lists_of boxes.new ≡ leaves_by_item shown.now }
     {
@@ -99,93 +90,17 @@ impl Seen {
         Ok(())
     }
 
-    /// Looks at more items, until so many were found that may be seen, or all were looked at.
-    pub(crate) fn look(
-        &mut self,
-        shown: &Shown<'_>,
-        window: &Window,
-        enough: usize,
-    ) -> Result<(), AllocError>
+    /// Looks at all items that are left.
+    pub(super) fn look(&mut self, shown: &Shown<'_>, window: &Window) -> Result<(), AllocError>
         requires ready { IsReady shown.now }
         requires accepted { accepts window.now ≡ true }
         requires seen { AreSeenBy (leaves_by_item shown.now) window.now self.old }
         ensures seen { OnOk result (AreSeenBy (leaves_by_item shown.now) window.now self.new) }
-        ensures begun { OnOk result (IsBegunBy self.old self.new) }
-        ensures all { OnOk result (length (leaves_by_item shown.now) ≤ enough → self.new.left ≡ 0) }
-        ensures enough { OnOk result ((self.new.left ≡ 0) ⊎ (enough ≤ length self.new.boxed.items)) }
+        ensures all { OnOk result (self.new.left ≡ 0) }
     {
         let mut boxes = shown.boxes();
-        while self.left > 0 && self.boxed.len() < enough {
+        while self.left > 0 {
             self.look_at_next(shown, &mut boxes, window)?;
-        }
-        Ok(())
-    }
-
-    /// The item that may be seen of a number, from the last on, if there are so many: it is looked for where it was not
-    /// found yet.
-    fn numbered(
-        &mut self,
-        shown: &Shown<'_>,
-        window: &Window,
-        number: usize,
-    ) -> Result<Option<Boxed>, AllocError>
-        requires ready { IsReady shown.now }
-        requires accepted { accepts window.now ≡ true }
-        requires seen { AreSeenBy (leaves_by_item shown.now) window.now self.old }
-        requires few { number < 1000000 }
-        ensures seen { OnOk result (AreSeenBy (leaves_by_item shown.now) window.now self.new) }
-        ensures begun { OnOk result (IsBegunBy self.old self.new) }
-        ensures there { IfOk result (λ found. IfSome found (λ item. slice_get self.new.boxed.items number ≡ Some item)) }
-        ensures none { IfOk result (λ found. IfNone found
-            ((self.new.left ≡ 0) × (length self.new.boxed.items ≤ number))) }
-    {
-        if self.boxed.len() <= number {
-            self.look(shown, window, number + STEP)?;
-        }
-        Ok(self.boxed.get(number).copied())
-    }
-
-    /// Paints all items, from the last one on, on tiles of the row of tiles of a tile: those alone in whose box something may
-    /// be seen there that is not decided. They are looked for as they are needed, until all is decided.
-    pub(crate) fn paint(
-        &mut self,
-        shown: &Shown<'_>,
-        window: &Window,
-        tile: u32,
-        swath: &mut Swath,
-    ) -> Result<(), AllocError>
-        requires ready { IsReady shown.now }
-        requires accepted { accepts window.now ≡ true }
-        requires seen { AreSeenBy (leaves_by_item shown.now) window.now self.old }
-        requires tile { tile < tiles_of window.now }
-        requires rows { HasRowOf window.now tile swath.old }
-        ensures seen { OnOk result (AreSeenBy (leaves_by_item shown.now) window.now self.new) }
-        ensures painted { OnOk result (PaintsSwath swath.old (leaves_of shown.now) swath.new) }
-    {
-        let Bounds::Closed { low, high } = swath.bounds() else {
-            return Ok(());
-        };
-        if !has_place(self.within, low) || !has_place(self.within, high) {
-            shown.paint(swath);
-            return Ok(());
-        }
-        let row = tile / window.across();
-        for number in 0..shown.len() {
-            let Some(item) = self.numbered(shown, window, number)? else {
-                return Ok(());
-            };
-            // in a crowd most lie where all is decided: by its box such an item is passed over before it is looked up
-            let bounds = Bounds::Closed {
-                low: item.low,
-                high: item.high,
-            };
-            if !item.is_in_row(row) || swath.is_decided_in(bounds) {
-                continue;
-            }
-            shown.paint_item(item.place as usize, swath);
-            if swath.is_done() {
-                return Ok(());
-            }
         }
         Ok(())
     }

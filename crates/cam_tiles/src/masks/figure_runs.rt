@@ -193,16 +193,9 @@ impl FigureRuns {
             && self.beyond.band.end <= self.beyond.band.first
     }
 
-    /// Whether nothing is taken out of the body but the hollow, as it is of flashes with a hole.
-    pub(crate) fn leaves_nothing_out(&self) -> bool
-        ensures { IsTrue result → (row column : ℕ) → HasColumn self.now.beyond row column → ⊥ }
-    {
-        self.beyond.band.end <= self.beyond.band.first
-    }
-
     /// The columns of a row that its body has without the hollow: two runs, of which some may have none.
     #[inline]
-    pub(crate) fn halves(&self, row: u32) -> (Span, Span)
+    fn halves(&self, row: u32) -> (Span, Span)
         requires { row < 64 }
         ensures { (k : ℕ) → (IsInRun result.0.first result.0.end k ⊎ IsInRun result.1.first result.1.end k)
             ↔ (HasColumn self.now.body row k × (HasColumn self.now.hollow row k → ⊥)) }

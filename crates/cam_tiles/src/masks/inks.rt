@@ -16,7 +16,7 @@ use crate::span::Span;
 use cam_rows::run_row;
 use std::alloc::{AllocError, Global};
 use std::marker::Model;
-use taking::{take_halves, take_pieces, take_rows, take_words};
+use taking::{take_pieces, take_rows, take_words};
 
 /// For each pixel of tiles side by side whether it is decided, and whether it is dark then: each tile has 64 words of either
 /// kind, one for each of its rows from the top, and its columns are their bits.
@@ -134,7 +134,8 @@ impl Inks {
         tile
     }
 
-    /// The same, and those before it are passed over at once from then on.
+    /// The first tile from one on that is not decided all over, or the number of all where there is none. Those before it
+    /// are passed over at once from then on.
     pub(crate) fn first_open(&mut self, from: u32) -> u32
         requires { from ≤ self.old.tiles }
         ensures kept { self.new ≡ self.old }
@@ -227,17 +228,13 @@ impl Inks {
         take_rows(&mut self.decided, &mut self.dark, next, runs, dark);
     }
 
-    /// The same of the columns of a figure's body, without what is taken out of this.
+    /// Gives a polarity to what is not decided of a figure's body, without what is taken out of the body.
     pub(crate) fn take_body(&mut self, runs: &FigureRuns, dark: bool)
         requires { runs.now.body.band.end ≤ 64 }
         ensures { Takes 0 self.old.tiles (in_body runs.now) dark self.old self.new }
     {
         let next = &self.next[..self.tiles];
-        if runs.leaves_nothing_out() {
-            take_halves(&mut self.decided, &mut self.dark, next, runs, dark);
-        } else {
-            take_pieces(&mut self.decided, &mut self.dark, next, runs, dark);
-        }
+        take_pieces(&mut self.decided, &mut self.dark, next, runs, dark);
     }
 
     /// The rows of a tile from the top: bit i of each is set where column i is decided as dark.

@@ -11,7 +11,6 @@ ghost use Rattle.cam_apertures.specs.Cover.{IsInShape};
 ghost use Rattle.cam_apertures.specs.declared.aperture.Aperture.TheVariants.{Prims};
 ghost use Rattle.cam_apertures.specs.Primitives.{IsMacroPoint, IsSoundOutline, IsSoundPrim, box_of_point};
 ghost use Rattle.cam_apertures.specs.Turned.{turned_shape};
-ghost use Rattle.cam_apertures.specs.Views.{primitive_of, shape_of};
 ghost use Rattle.cam_objects.specs.Image.{relative};
 ghost use Rattle.cam_objects.specs.Leaves.{Stamp, origin};
 ghost use Rattle.cam_rows.specs.Runs.{most_columns};
@@ -30,7 +29,8 @@ use crate::masks::placed::turn_outline;
 use crate::masks::runs::Runs;
 use crate::masks::words::{join_wide, join_words};
 use crate::span::Span;
-use cam_apertures::{PrimitiveView, Primitives, ShapeView, turned_height, turned_width};
+use cam_apertures::{Primitives, turned_height, turned_width};
+use cam_macros::{Prim, PrimShape};
 use cam_shapes::{Bar, Disc, Rectangle};
 use cam_units::{Bounds, Point, Spot, Turn};
 
@@ -83,49 +83,58 @@ fn join_primitive(
     spare: &mut [u64],
     grid: &Grid,
     columns: u32,
-    primitive: PrimitiveView<'_>,
+    primitive: &Prim,
     turn: Turn,
     at: Point,
 )
     requires grid { IsWideGrid grid.now columns }
     requires wide { AreWide columns marks.old }
     requires spare { 64 * ((columns + 63) / 64) ≤ length spare.old }
-    requires primitive { IsSoundPrim (primitive_of primitive) }
+    requires primitive { IsSoundPrim primitive.now }
     requires at { IsOnBoard at }
-    ensures { JoinsCentres grid.now columns (inked primitive.entry.paint)
-        (λ s. IsInShape (turned_shape turn (shape_of primitive.entry.shape)) (relative at s)) marks.old marks.new }
+    ensures { JoinsCentres grid.now columns (inked primitive.now.paint)
+        (λ s. IsInShape (turned_shape turn primitive.now.shape) (relative at s)) marks.old marks.new }
 {
     let how = Join::inked(primitive.paint);
-    match primitive.shape {
-        ShapeView::Disc { centre, diameter } => {
+    match &primitive.shape {
+        PrimShape::Disc { centre, diameter } => {
             let disc = Disc {
-                centre: turn.apply(centre),
-                diameter,
+                centre: turn.apply(*centre),
+                diameter: *diameter,
             };
             join_shape(marks, grid, columns, &disc, at, how);
         }
-        ShapeView::Bar { from, to, width } => {
+        PrimShape::Bar { from, to, width } => {
             let bar = Bar {
-                from: turn.apply(from),
-                to: turn.apply(to),
-                width,
+                from: turn.apply(*from),
+                to: turn.apply(*to),
+                width: *width,
             };
             join_shape(marks, grid, columns, &bar, at, how);
         }
-        ShapeView::Rect {
+        PrimShape::Rect {
             centre,
             width,
             height,
         } => {
             let rectangle = Rectangle {
-                centre: turn.apply(centre),
-                width: turned_width(turn, width, height),
-                height: turned_height(turn, width, height),
+                centre: turn.apply(*centre),
+                width: turned_width(turn, *width, *height),
+                height: turned_height(turn, *width, *height),
             };
             join_shape(marks, grid, columns, &rectangle, at, how);
         }
-        ShapeView::Outline { points } => {
-            join_outline(marks, spare, grid, columns, points, turn, at, how);
+        PrimShape::Outline { points } => {
+            join_outline(
+                marks,
+                spare,
+                grid,
+                columns,
+                points.as_slice(),
+                turn,
+                at,
+                how,
+            );
         }
     }
 }

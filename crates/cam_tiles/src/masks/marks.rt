@@ -38,7 +38,8 @@ pub(crate) fn mark_ends(marks: &mut [u64], first: u32, ends: &[u32])
     }
 }
 
-/// The same where all of so many rows have one end, as of an edge that is steep: by words side by side.
+/// Turns over the columns before one end in each of so many rows, from one on, as of an edge that is steep: by words
+/// side by side.
 #[tactic(auto, using(crate::proofs::MarkedRows::next_turned, crate::proofs::MarkedRows::all_turned, crate::proofs::MarkedRows::none_turned))]
 pub(crate) fn mark_column(marks: &mut [u64], first: u32, rows: usize, end: u32)
     requires rows { first + rows ≤ 64 }

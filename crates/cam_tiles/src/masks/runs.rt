@@ -97,20 +97,18 @@ impl Runs {
         other.clear();
     }
 
-    /// The first row behind one that has another run, or the end of the band: the rows up to there are those of a box.
-    pub(crate) fn alike_until(&self, row: u32) -> u32
-        requires row { row < self.now.band.end }
-        requires few { self.now.band.end ≤ 64 }
-        ensures within { (row < result) × (result ≤ self.now.band.end) }
-        ensures alike { (other : ℕ) → row ≤ other → other < result → AreAlike self.now row other }
-        ensures apart { result < self.now.band.end → AreAlike self.now row result → ⊥ }
+    /// Whether all rows of the band have the same run, as those of a box have.
+    pub(crate) fn are_box(&self) -> bool
+        requires { self.now.band.end ≤ 64 }
+        ensures { IsTrue result ↔ ((row : ℕ) → self.now.band.first ≤ row → row < self.now.band.end
+            → AreAlike self.now self.now.band.first row) }
     {
-        for other in row + 1..self.band.end {
-            if !self.are_alike(row, other) {
-                return other;
+        for row in self.band.first..self.band.end {
+            if !self.are_alike(self.band.first, row) {
+                return false;
             }
         }
-        self.band.end
+        true
     }
 
     /// Whether two rows have the same run.
@@ -178,7 +176,7 @@ impl Runs {
         self.find_between(shape, shape.heights(), at, grid, columns);
     }
 
-    /// The same of what a shape holds between two heights, wherever else it may lie.
+    /// Turns to the runs of what a shape holds between two heights, wherever else it may lie.
     pub(crate) fn find_between<S: RunShape>(
         &mut self,
         shape: &S,

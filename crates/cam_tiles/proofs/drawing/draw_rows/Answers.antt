@@ -36,7 +36,7 @@ pub loop-row-preserved : goal.loop-row-preserved
 loop-row-preserved c = record {
   drawn = drawn_further _ c.args.first _ _ _ c.loop-row.invariant.drawn
       ((here (goal.at.loop-row-preserved c).After-min-end).drawn _ _ c.draw_row.ensures.tiles);
-  items = c.in_ok-draw_row.ensures.items;
+  index = c.in_ok-draw_row.ensures.index;
 }
 
 -- a row of tiles, even the last one, ends within the numbers

@@ -12,5 +12,5 @@ returns-in_err-parts-clause-fault c =
     rw (p.1, p.2)
     (refused c.in_err-parts.field-0.0 c.args.text.now c.cut.result.0.now (pieces_between star c.cut.result.1)
     (ap (slice_split (λ b. b == star)) (sym c.in_ok-text.ensures ∙ sym c.as_slice.ensures.value) ∙ c.cut.ensures.all)
-    (sym c.is_name.ensures ∙ c.if-not-is_name.false)
+    (sym c.is_macro_name.ensures ∙ c.if-not-is_macro_name.false)
     c.in_err-parts.ensures.fault)

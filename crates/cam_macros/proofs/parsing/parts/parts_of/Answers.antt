@@ -1,6 +1,6 @@
 use Rattle.std.proofs.Common.{ap, sym, ◌∙◌, subst}
 use Rattle.std.proofs.lemmas.Result.{err_from_is_err_and}
-use Rattle.cam_macros.specs.Reading.{pieces_between, spoken}
+use Rattle.cam_macros.specs.Reading.{pieces_between, parts_spoken}
 use Rattle.cam_macros.proofs.ReadingLemmas.{ArePartsBefore, parts_end, parts_fault}
 use Rattle.cam_words.specs.Bytes.{star}
 use Rattle.cam_macros.proofs.parsing.parts.parts_of.Goals as goal
@@ -13,7 +13,7 @@ returns-in_err-parse-clause-fault c =
     (parts_fault c.in_err-parse.field-0.0 c.cut.result.0.now (pieces_between star c.cut.result.1) all
     c.loop-rest.items.items
     (sym c.is_silent.ensures ∙ c.if-not-is_silent.true)
-    (subst (λ l. ArePartsBefore (spoken l) (spoken all) c.loop-rest.items.items)
+    (subst (λ l. ArePartsBefore (parts_spoken l) (parts_spoken all) c.loop-rest.items.items)
     (ap (pieces_between star) c.in-Some.is ∙ c.cut.ensures.all) c.loop-rest.invariant)
     c.in_err-parse.ensures.fault)
 
@@ -21,6 +21,6 @@ pub returns-clause-ok : goal.returns-clause-ok
 returns-clause-ok c =
     let all = pieces_between star c.args.texts in
     rw c.from_vec.ensures
-    (parts_end (spoken all) c.loop-rest.items.items
-    (subst (λ l. ArePartsBefore (spoken l) (spoken all) c.loop-rest.items.items)
+    (parts_end (parts_spoken all) c.loop-rest.items.items
+    (subst (λ l. ArePartsBefore (parts_spoken l) (parts_spoken all) c.loop-rest.items.items)
     (ap (pieces_between star) c.in_default.is) c.loop-rest.invariant))

@@ -8,18 +8,21 @@ use Rattle.cam_tiles.specs.Machinery.Indexes.{IsBoxed, IsSeen, PaintAlike, all_f
 use Rattle.cam_tiles.specs.Machinery.Parts.{bare}
 use Rattle.cam_tiles.specs.Machinery.RowLists.{AreListed}
 use Rattle.cam_tiles.specs.Machinery.Shown.{leaves_by_item}
-use Rattle.cam_tiles.specs.Tiles.{down}
+use Rattle.cam_tiles.specs.Tiles.{tiles_down}
 use Rattle.cam_tiles.proofs.BareBoxes.{all_back, kept_boxed, kept_leaves}
 use Rattle.cam_tiles.proofs.TileCounts.{few_down}
 use Rattle.cam_tiles.proofs.index.Index.of.Goals.{After-deref_mut}
 use Rattle.cam_tiles.proofs.index.Index.of.Goals as goal
 
 -- the boxes in order
-those_are : (c : After-deref_mut) → c.deref_mut.result.now ≡ reverse c.args.seen.boxed.items
+those_are : (c : After-deref_mut) → c.deref_mut.result.now ≡ reverse c.look.new.self.boxed.items
 those_are c = c.deref_mut.ensures.value ∙ c.reverse.ensures.items
 
-rows_are : (c : After-deref_mut) → c.div_ceil-count.result ≡ down c.args.window.now
+rows_are : (c : After-deref_mut) → c.div_ceil-count.result ≡ tiles_down c.args.window.now
 rows_are c = omega (arith, c.div_ceil-count.ensures)
+
+pub look-requires-clause-seen : goal.look-requires-clause-seen
+look-requires-clause-seen c = c.new-seen.ensures c.args.window.now
 
 pub parts_and_rows-requires-clause-rows : goal.parts_and_rows-requires-clause-rows
 parts_and_rows-requires-clause-rows c =
@@ -27,24 +30,24 @@ parts_and_rows-requires-clause-rows c =
 
 pub parts_and_rows-requires-clause-boxed : goal.parts_and_rows-requires-clause-boxed
 parts_and_rows-requires-clause-boxed c =
-    let each = all_back (IsBoxed (leaves_by_item c.args.shown.now)) c.args.seen.boxed.items c.requires.seen.each in
+    let each = all_back (IsBoxed (leaves_by_item c.args.shown.now)) c.look.new.self.boxed.items c.in_ok-look.ensures.seen.each in
     subst (All (IsBoxed (leaves_by_item c.args.shown.now)))
     (sym (those_are (goal.at.parts_and_rows-requires-clause-boxed c).After-deref_mut)) each
 
 pub parts_and_rows-requires-clause-within : goal.parts_and_rows-requires-clause-within
 parts_and_rows-requires-clause-within c =
     let at_hand = (goal.at.parts_and_rows-requires-clause-within c).After-deref_mut in
-    let ends = all_back (λ b. b.rows.end ≤ down c.args.window.now) c.args.seen.boxed.items c.requires.seen.ends in
+    let ends = all_back (λ b. b.rows.end ≤ tiles_down c.args.window.now) c.look.new.self.boxed.items c.in_ok-look.ensures.seen.ends in
     subst (All (λ b. b.rows.end ≤ c.div_ceil-count.result)) (sym (those_are at_hand))
-    (subst (λ n. All (λ b. b.rows.end ≤ n) (reverse c.args.seen.boxed.items)) (sym (rows_are at_hand)) ends)
+    (subst (λ n. All (λ b. b.rows.end ≤ n) (reverse c.look.new.self.boxed.items)) (sym (rows_are at_hand)) ends)
 
 pub returns : goal.returns
 returns c =
     let at_hand = (goal.at.returns c).After-deref_mut in
     let lists = leaves_by_item c.args.shown.now in
     let w = c.args.window.now in
-    let within = c.args.seen.within in
-    let boxed = c.args.seen.boxed.items in
+    let within = c.look.new.self.within in
+    let boxed = c.look.new.self.boxed.items in
     let new = c.parts_and_rows.new.boxed in
     let alike : map bare new ≡ map bare (reverse boxed) = c.parts_and_rows.ensures.kept ∙ ap (map bare) (those_are at_hand) in
     let same : new ≡ (with_items c.reverse.new.self new).items =
@@ -52,10 +55,10 @@ returns c =
     let found = c.in_ok-contours in
     record {
       boxed = subst (All (IsBoxed lists)) same
-          (kept_boxed new (reverse boxed) alike lists (all_back (IsBoxed lists) boxed c.requires.seen.each));
+          (kept_boxed new (reverse boxed) alike lists (all_back (IsBoxed lists) boxed c.in_ok-look.ensures.seen.each));
       enough = λ row.
           let enough = subst (λ n. PaintAlike (IsSeen w within row) (last_leaves lists row boxed) (all_from lists n))
-          c.requires.all (c.requires.seen.enough row) in
+          c.in_ok-look.ensures.all (c.in_ok-look.ensures.seen.enough row) in
           subst (λ (leaves : List Leaf). PaintAlike (IsSeen w within row) leaves (flat_map (λ l. l) lists))
           (kept_leaves new (reverse boxed) alike lists row ∙ ap (row_leaves lists row) same) enough;
       rows = omega (arith, found.ensures.rows, rows_are at_hand);

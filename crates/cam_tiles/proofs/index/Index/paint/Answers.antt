@@ -3,7 +3,7 @@ use Rattle.std.proofs.Common.{Global, Vec}
 use Rattle.std.specs.List.{All, flat_map}
 use Rattle.std.proofs.lemmas.Int.{to_z-of_z}
 use Rattle.std.proofs.lemmas.Nat.{div_below}
-use Rattle.cam_units.specs.Boxes.{Holds, IsBetween}
+use Rattle.cam_units.specs.Boxes.{Holds, IsInBox}
 use Rattle.cam_objects.specs.Leaves.{Leaf}
 use Rattle.cam_tiles.specs.declared.index.Boxed.{Boxed}
 use Rattle.cam_tiles.specs.declared.window.Window.{Window}
@@ -13,23 +13,23 @@ use Rattle.cam_tiles.specs.Machinery.RowLists.{AreListed, numbers_from}
 use Rattle.cam_tiles.specs.Machinery.Shown.{leaves_by_item, leaves_of}
 use Rattle.cam_tiles.specs.Machinery.Swaths.{PaintsSwath, place_in}
 use Rattle.cam_tiles.specs.Picture.{accepts}
-use Rattle.cam_tiles.specs.Tiles.{across, down, tiles_of}
+use Rattle.cam_tiles.specs.Tiles.{across, tiles_down, tiles_of}
 use Rattle.cam_tiles.proofs.Indexed.{numbered, numbers_below}
 use Rattle.cam_tiles.proofs.PaintedLists.{painted_alike, painted_nowhere, seen_there}
 use Rattle.cam_tiles.proofs.ShownItems.{leaves_are}
 use Rattle.cam_tiles.proofs.TileCounts.{some_across}
 use Rattle.cam_tiles.proofs.index.Index.paint.Goals as goal
 
-row_below : (w : Window) (tile wide : ℕ) → accepts w ≡ true → tile < tiles_of w → wide ≡ across w → tile / wide < down w
+row_below : (w : Window) (tile wide : ℕ) → accepts w ≡ true → tile < tiles_of w → wide ≡ across w → tile / wide < tiles_down w
 row_below w tile wide accepted there is =
-    subst (λ n. tile / n < down w) (sym is)
-    (div_below tile (across w) (down w) (some_across w accepted) (omega (arith, there)))
+    subst (λ n. tile / n < tiles_down w) (sym is)
+    (div_below tile (across w) (tiles_down w) (some_across w accepted) (omega (arith, there)))
 
 pub go_to-requires : goal.go_to-requires
 go_to-requires c =
     let i = c.args.self.now in
     let row : ℕ = c.args.tile / c.across.result in
-    let below : row < down c.args.window.now =
+    let below : row < tiles_down c.args.window.now =
     row_below c.args.window.now c.args.tile c.across.result c.requires.accepted c.requires.tile c.across.ensures in
     record {
       listed = subst (λ (those : List Boxed). AreListed those i.rows) (sym c.deref.ensures.value) c.requires.index.listed;
@@ -49,7 +49,7 @@ pub paint_all-requires-clause-sides : goal.paint_all-requires-clause-sides
 paint_all-requires-clause-sides c = λ column row there.
     let least : FitsSigned w64 c.in-Closed.low.x = search rules in
     let greatest : FitsSigned w64 c.in-Closed.high.x = search rules in
-    let between : IsBetween c.in-Closed.low c.in-Closed.high (place_in c.args.swath.now column row) =
+    let between : IsInBox c.in-Closed.low c.in-Closed.high (place_in c.args.swath.now column row) =
     subst (λ b. Holds b (place_in c.args.swath.now column row)) c.in-Closed.is (c.bounds.ensures column row there) in
     simp to_z-of_z (between.left, between.right)
 

@@ -2,7 +2,7 @@ use Rattle.std.proofs.Common.{◌≡◌, ◌↔◌, sym, subst}
 use Rattle.cam_shapes.specs.Box.{IsInObround}
 use Rattle.cam_shapes.specs.Disc.{IsInHole}
 use Rattle.cam_shapes.specs.declared.obround.Obround.{Obround}
-use Rattle.cam_apertures.specs.Cover.{disc, obround, origin}
+use Rattle.cam_apertures.specs.Cover.{disc, obround, flash_point}
 use Rattle.cam_apertures.specs.Turned.{exchanges_axes}
 use Rattle.cam_tiles.proofs.Flashes.{origin_board, outside_hole, sized, sound_hole}
 use Rattle.cam_tiles.proofs.masks.figures.flashed.Goals as goal
@@ -17,12 +17,12 @@ returns-in-Obround c =
     let quarter = exchanges_axes turn in
     let hole = c.hole-in-Obround.result.0 in
     let shape : Obround = record {
-      centre = origin;
+      centre = flash_point;
       width = c.turned_width-in-Obround.result;
       height = c.turned_height-in-Obround.result;
     } in
     let same : obround turn w.width w.height ≡ shape =
-    sym (λ i. record { centre = origin; width = wide i; height = high i }) in
+    sym (λ i. record { centre = flash_point; width = wide i; height = high i }) in
     record {
       sound = (
         record {

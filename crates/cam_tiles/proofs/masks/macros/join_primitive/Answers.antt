@@ -1,6 +1,5 @@
-use Rattle.std.proofs.Common.{ap, refl, subst}
+use Rattle.std.proofs.Common.{subst}
 use Rattle.cam_units.specs.declared.point.Spot.{Spot}
-use Rattle.cam_apertures.specs.Views.{shape_of}
 use Rattle.cam_apertures.proofs.Outlines.{outline_places}
 use Rattle.cam_objects.specs.Image.{relative}
 use Rattle.cam_tiles.specs.Machinery.Masks.{inked}
@@ -9,13 +8,12 @@ use Rattle.cam_tiles.proofs.masks.macros.join_primitive.Goals as goal
 
 pub returns-in-Outline : goal.returns-in-Outline
 returns-in-Outline c =
-    let primitive = c.args.primitive in
-    let points = c.in-Outline.points.now in
+    let primitive = c.args.primitive.now in
     subst
     (λ (P : Spot → Type 0). JoinsCentres c.args.grid.now c.args.columns (inked primitive.paint) P c.args.marks.now
     c.join_outline.new.marks)
-    (λ i s. outline_places c.args.turn (shape_of primitive.shape) points points (relative c.args.at s)
-    (ap shape_of c.in-Outline.is) refl i)
+    (λ i s. outline_places c.args.turn primitive.shape c.in-Outline.points c.as_slice.result.now (relative c.args.at s)
+    c.in-Outline.is c.as_slice.ensures i)
     (rw c.inked-how.ensures at c.join_outline.ensures)
 
 pub returns-in-Rect : goal.returns-in-Rect

@@ -1,6 +1,6 @@
 use Rattle.std.proofs.Common.{refl, rules, subst, sym, FitsSigned, w64, arith, ◌/◌, ◌≤ℤ◌}
 use Rattle.std.proofs.lemmas.Int.{to_z-of_z}
-use Rattle.cam_units.specs.Boxes.{Holds, IsBetween}
+use Rattle.cam_units.specs.Boxes.{Holds, IsInBox}
 use Rattle.cam_units.specs.declared.bounds.Bounds.{Bounds}
 use Rattle.cam_objects.specs.Image.{relative}
 use Rattle.cam_tiles.specs.Tiles.{centre_in}
@@ -15,7 +15,7 @@ returns-then-rows c =
     record {
       end = omega arith;
       each = λ column row near below held.
-          let between : IsBetween c.in-Closed.low c.in-Closed.high (relative c.args.at (centre_in g column row)) =
+          let between : IsInBox c.in-Closed.low c.in-Closed.high (relative c.args.at (centre_in g column row)) =
           subst (λ (b : Bounds). Holds b (relative c.args.at (centre_in g column row))) c.in-Closed.is held in
           let on = (rows row below).1 (between.below, between.above) in
           absurd (omega (arith, on.0, on.1, c.if-rows.true));
@@ -33,7 +33,7 @@ returns c =
     record {
       end = omega (arith, c.tiles.ensures.few, c.between.ensures.few, c.columns_from.ensures.count);
       each = λ column row near below held.
-          let between : IsBetween low high (relative at (centre_in g column row)) =
+          let between : IsInBox low high (relative at (centre_in g column row)) =
           subst (λ (b : Bounds). Holds b (relative at (centre_in g column row))) c.in-Closed.is held in
           let on = (told column (omega (arith, near, c.columns_from.ensures.count))).1
           (subst (λ x. (low.x ≤ℤ x) × (x ≤ℤ high.x)) (sym (c.columns_from.ensures.places column)) (between.left, between.right)) in

@@ -5,7 +5,7 @@ use Rattle.cam_units.specs.declared.bounds.Bounds.{Bounds}
 use Rattle.cam_units.specs.declared.bounds.Bounds.TheVariants.{Empty}
 use Rattle.cam_units.specs.Boxes.{Holds, join_of}
 use Rattle.cam_macros.specs.declared.primitive.PrimShape.TheVariants.{Outline}
-use Rattle.cam_apertures.specs.Primitives.{IsMacroPoint, box_of_point, box_of_shape}
+use Rattle.cam_apertures.specs.Primitives.{IsMacroPoint, box_of_point, primitive_box}
 use Rattle.cam_apertures.specs.Turned.{turned_point}
 use Rattle.cam_apertures.proofs.Corners.{one_more}
 use Rattle.cam_apertures.proofs.Outlines.{near_turned, outline_places}
@@ -29,7 +29,7 @@ returns c = λ s inside.
     let t = c.args.turn in
     let points = c.args.points.now in
     let all = take_all c.loop-point.point-index points c.loop-point-test.false in
-    let box : c.loop-point.bounds ≡ box_of_shape (Outline (map (turned_point t) points)) =
+    let box : c.loop-point.bounds ≡ primitive_box (Outline (map (turned_point t) points)) =
     rw all at c.loop-point.invariant
     ∙ sym (fold-map (λ box p. join_of box (box_of_point p)) (turned_point t) Empty points) in
     subst (λ (b : Bounds). Holds b s) (sym box)

@@ -4,7 +4,7 @@ use Rattle.std.proofs.lemmas.List.{with_items_is}
 use Rattle.std.proofs.lemmas.List.Sums.{count_by-le-length}
 use Rattle.cam_tiles.specs.Machinery.Kept.{table_of}
 use Rattle.cam_tiles.specs.Machinery.Spans.{is_in_span}
-use Rattle.cam_tiles.specs.Touched.{touched}
+use Rattle.cam_tiles.specs.Touched.{box_touched}
 use Rattle.cam_tiles.proofs.TileCounts.{few_tiles}
 use Rattle.cam_tiles.proofs.DrawnTiles.{dirty}
 use Rattle.cam_tiles.proofs.WipedTiles.{still_clean, touched_empty, touched_spans}
@@ -12,7 +12,7 @@ use Rattle.cam_tiles.proofs.raster.Raster.touch.Goals as goal
 
 pub returns-in_default : goal.returns-in_default
 returns-in_default c =
-    sym (touched_empty c.args.self.now) ∙ ap (λ box. touched box c.args.self.now) (sym c.in_default.is)
+    sym (touched_empty c.args.self.now) ∙ ap (λ box. box_touched box c.args.self.now) (sym c.in_default.is)
 
 pub overflow_add-self : goal.overflow_add-self
 overflow_add-self c =
@@ -67,5 +67,5 @@ returns c =
     c.wipe.new.tiles c.self.invariant.table columns.ensures.each rows.ensures.each c.self.invariant.wide
     (full ∙ ap length c.deref_mut.ensures.value)
     (λ k. c.wipe.ensures.each k ∙ ap (λ tiles. cond (here k) None (get_or tiles k None)) c.deref_mut.ensures.value)
-    ∙ ap (λ box. touched box (table_of kept)) (sym c.in-Closed.is)
-    ∙ ap (touched c.args.bounds) c.self.view_is
+    ∙ ap (λ box. box_touched box (table_of kept)) (sym c.in-Closed.is)
+    ∙ ap (box_touched c.args.bounds) c.self.view_is

@@ -7,8 +7,8 @@ pub returns : goal.returns
 returns c = λ ink inked.
     let n = length c.args.next.now in
     let of = c.args.row in
-    let first = c.args.first in
-    let end = c.args.end in
+    let first = c.args.columns.first in
+    let end = c.args.columns.end in
     let from = first / 64 in
     let last = (end - 1) / 64 in
     let right = (end - 1) % 64 + 1 in

@@ -14,8 +14,8 @@ pub loop-row-preserved : goal.loop-row-preserved
 loop-row-preserved c = λ tiles polarity inked.
     let rows = c.args.rows in
     let k = c.loop-row.row in
-    let first = 64 * c.args.tile + c.args.first in
-    let end = 64 * c.args.tile + c.args.end in
+    let first = 64 * c.args.tile + c.args.columns.first in
+    let end = 64 * c.args.tile + c.args.columns.end in
     takes_both polarity tiles (in_box_above rows k first end) (in_row k first end) (in_box_above rows (k + 1) first end)
     (words_of tiles c.args.decided.now c.args.dark.now) (words_of tiles c.loop-row.decided c.loop-row.dark) _
     (c.loop-row.invariant tiles polarity inked) (c.take_part.ensures tiles polarity inked)
@@ -25,8 +25,8 @@ pub returns : goal.returns
 returns c = λ tiles polarity inked.
     let rows = c.args.rows in
     let k = c.loop-row.row in
-    let first = 64 * c.args.tile + c.args.first in
-    let end = 64 * c.args.tile + c.args.end in
+    let first = 64 * c.args.tile + c.args.columns.first in
+    let end = 64 * c.args.tile + c.args.columns.end in
     takes_same polarity tiles (in_box_above rows k first end) (in_box rows first end)
     (words_of tiles c.args.decided.now c.args.dark.now) (words_of tiles c.loop-row.decided c.loop-row.dark)
     (c.loop-row.invariant tiles polarity inked) (λ row column low within.

@@ -6,5 +6,5 @@ use Rattle.cam_tiles.proofs.masks.inks.taking.take_part_of_rows.Given as goal
 abbrev pub invariant-loop-row : goal.invariant-loop-row
 invariant-loop-row l =
     (tiles : ℕ) (polarity : Bool) → IsInk polarity l.ink
-    → Takes 0 tiles (in_box_above l.fn.rows l.row (64 * l.tile + l.first) (64 * l.tile + l.end)) polarity
+    → Takes 0 tiles (in_box_above l.fn.rows l.row (64 * l.tile + l.columns.first) (64 * l.tile + l.columns.end)) polarity
     (words_of tiles l.fn.decided l.fn.dark) (words_of tiles l.decided l.dark)

@@ -13,15 +13,14 @@ loop-row-preserved c =
     (words_of n c.args.decided.now c.args.dark.now) (words_of n c.loop-row.decided c.loop-row.dark) _ c.loop-row.invariant
     c.take_run.ensures (λ row column low within. next_row runs k row column c.loop-row.auto.row c.loop-row-test.true)
 
-pub returns-then-until-end : goal.returns-then-until-end
-returns-then-until-end c =
+pub returns-then-are_box : goal.returns-then-are_box
+returns-then-are_box c =
     let n = length c.args.next.now in
     let runs = c.args.runs.now in
     let first = runs.band.first in
     takes_same c.args.ink n (in_box runs.band (slice_index runs.firsts first) (slice_index runs.ends first)) (in_runs runs) _ _
     (rw (c.columns.ensures.first, c.columns.ensures.end) at c.take_box.ensures)
-    (λ row column low within. box_runs runs row column
-    (λ k after before. c.alike_until-until.ensures.alike k after (omega (arith, before, c.if-until-end.true))))
+    (λ row column low within. box_runs runs row column (c.are_box.ensures.0 c.if-are_box.true))
 
 pub returns : goal.returns
 returns c =

@@ -7,8 +7,8 @@ pub returns-then-first-end : goal.returns-then-first-end
 returns-then-first-end c =
     let n = length c.args.next.now in
     let of = c.args.row in
-    let first = c.args.first in
-    let end = c.args.end in
+    let first = c.args.columns.first in
+    let end = c.args.columns.end in
     let until = c.min-end.result in
     let from = 64 * (first / 64) + first % 64 in
     let to = 64 * (first / 64) + ((until - 1) % 64 + 1) in
@@ -25,8 +25,8 @@ pub returns-else-first-end : goal.returns-else-first-end
 returns-else-first-end c =
     let n = length c.args.next.now in
     let of = c.args.row in
-    let first = c.args.first in
-    let end = c.args.end in
+    let first = c.args.columns.first in
+    let end = c.args.columns.end in
     let until = c.min-end.result in
     takes_same c.args.ink n (in_row of first until) (in_row of first end) (words_of n c.args.decided.now c.args.dark.now) _
     (c.take_long.ensures c.args.ink c.ink_word-ink.ensures) (λ row column low within.

@@ -11,7 +11,7 @@ loop-tile-init c = record {
   taken = λ polarity inked.
       takes_done polarity 0 (length c.args.next.now) _ (words_of (length c.args.next.now) c.args.decided.now c.args.dark.now)
       (λ row column low within on.
-      let h = (row_told c.args.row (64 * c.args.first) (64 * c.args.first) row column).0 on in absurd (omega (arith, h.1.0, h.1.1)));
+      let h = (row_told c.args.row (64 * c.args.tiles.first) (64 * c.args.tiles.first) row column).0 on in absurd (omega (arith, h.1.0, h.1.1)));
 }
 
 -- tiles that are passed over
@@ -19,7 +19,7 @@ pub loop-tile-preserved-then-open-tile : goal.loop-tile-preserved-then-open-tile
 loop-tile-preserved-then-open-tile c =
     let n = length c.args.next.now in
     let of = c.args.row in
-    let first = c.args.first in
+    let first = c.args.tiles.first in
     let tile = c.loop-tile.tile in
     let to = c.min-tile.result in
     let old : Inked = words_of n c.args.decided.now c.args.dark.now in
@@ -48,7 +48,7 @@ pub loop-tile-preserved : goal.loop-tile-preserved
 loop-tile-preserved c =
     let n = length c.args.next.now in
     let of = c.args.row in
-    let first = c.args.first in
+    let first = c.args.tiles.first in
     let tile = c.loop-tile.tile in
     let old : Inked = words_of n c.args.decided.now c.args.dark.now in
     let now : Inked = words_of n c.loop-tile.decided c.loop-tile.dark in
@@ -75,9 +75,9 @@ pub returns : goal.returns
 returns c = λ polarity inked.
     let n = length c.args.next.now in
     let of = c.args.row in
-    let first = c.args.first in
+    let first = c.args.tiles.first in
     let tile = c.loop-tile.tile in
-    let end = c.args.end in
+    let end = c.args.tiles.end in
     let so_far = c.loop-tile.invariant in
     let same : tile ≡ end = omega (arith, so_far.until, c.loop-tile-test.false) in
     rw same at so_far.taken polarity inked

@@ -2,9 +2,8 @@ use Rattle.std.proofs.Common.{◌≡◌, ◌*◌, length, drop, map, refl, sym, 
 use Rattle.std.proofs.lemmas.List.{places, take_all}
 use Rattle.std.proofs.lemmas.Option.{get_or_from_slice_get}
 use Rattle.cam_units.specs.declared.point.Spot.{Spot}
-use Rattle.cam_apertures.specs.Cover.{IsPainted}
+use Rattle.cam_apertures.specs.Cover.{IsExposed}
 use Rattle.cam_apertures.specs.Turned.{turned_prim}
-use Rattle.cam_apertures.specs.Views.{primitive_of}
 use Rattle.cam_apertures.proofs.Painting.{none_painted, through}
 use Rattle.cam_objects.specs.Image.{relative}
 use Rattle.cam_tiles.specs.Machinery.Masks.{inked}
@@ -33,7 +32,7 @@ pub loop-place-preserved : goal.loop-place-preserved
 loop-place-preserved c =
     let here = c.loop-place in
     let prims = c.args.self.now.prims.now in
-    let p = primitive_of c.at-primitive.result in
+    let p = c.at-primitive.result.now in
     record {
       wide = still_wide c.args.columns here.marks c.join_primitive.new.marks c.join_primitive.auto.marks here.invariant.wide;
       marked = λ column row near below.
@@ -51,6 +50,6 @@ returns c =
     let prims = c.args.self.now.prims.now in
     let all = take_all here.place prims (omega (arith, c.loop-place-test.false, c.len-place-end.ensures)) in
     let IsHeld : Spot → Type 0 =
-    λ s. IsPainted (map (turned_prim c.args.self.now.turn) prims) (relative c.args.self.now.at s) in
+    λ s. IsExposed (map (turned_prim c.args.self.now.turn) prims) (relative c.args.self.now.at s) in
     marks_kept c.args.grid.now c.args.columns IsHeld here.marks (drop (64 * c.div_ceil.result) c.args.marks.now)
     c.requires.grid.grid.rows.1 here.invariant.wide (rw all at here.invariant.marked)

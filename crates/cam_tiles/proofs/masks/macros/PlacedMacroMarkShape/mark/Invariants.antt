@@ -1,5 +1,5 @@
 use Rattle.std.proofs.Common.{map, take}
-use Rattle.cam_apertures.specs.Cover.{IsPainted}
+use Rattle.cam_apertures.specs.Cover.{IsExposed}
 use Rattle.cam_apertures.specs.Turned.{turned_prim}
 use Rattle.cam_objects.specs.Image.{relative}
 use Rattle.cam_tiles.specs.Machinery.Turning.{AreWide, MarksCentres}
@@ -10,5 +10,5 @@ abbrev pub invariant-loop-place : goal.invariant-loop-place
 invariant-loop-place l = record {
   wide : AreWide l.columns l.marks;
   marked : MarksCentres l.grid l.columns
-      (λ s. IsPainted (map (turned_prim l.self.turn) (take l.place l.self.prims.now)) (relative l.self.at s)) l.marks;
+      (λ s. IsExposed (map (turned_prim l.self.turn) (take l.place l.self.prims.now)) (relative l.self.at s)) l.marks;
 }

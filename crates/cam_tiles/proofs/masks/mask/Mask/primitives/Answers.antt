@@ -2,10 +2,9 @@ use Rattle.std.proofs.Common.{[], map, subst, sym, take, ◌∙◌, arith}
 use Rattle.std.proofs.lemmas.List.{take_all}
 use Rattle.std.proofs.lemmas.Option.{get_or_from_slice_get}
 use Rattle.cam_units.specs.declared.point.Spot.{Spot}
-use Rattle.cam_apertures.specs.Cover.{IsInShape, IsPainted}
+use Rattle.cam_apertures.specs.Cover.{IsInShape, IsExposed}
 use Rattle.cam_apertures.specs.Primitives.{IsSoundPrim}
 use Rattle.cam_apertures.specs.Turned.{turned_prim, turned_shape}
-use Rattle.cam_apertures.specs.Views.{primitive_of}
 use Rattle.cam_apertures.proofs.Painting.{none_painted}
 use Rattle.cam_objects.specs.Image.{relative}
 use Rattle.cam_tiles.specs.Machinery.Masks.{inked}
@@ -16,7 +15,7 @@ use Rattle.cam_tiles.proofs.masks.mask.Mask.primitives.Goals as goal
 pub loop-place-init : goal.loop-place-init
 loop-place-init c = record {
   grid = c.blank-own.ensures.grid ∙ c.grid.ensures.value;
-  shown = shows_like (λ s. ⊥) (λ s. IsPainted [] (relative c.args.at s)) c.blank-own.result
+  shown = shows_like (λ s. ⊥) (λ s. IsExposed [] (relative c.args.at s)) c.blank-own.result
       (λ s. (λ none. absurd none, none_painted (relative c.args.at s)))
       (shows_nothing c.blank-own.result c.blank-own.ensures.marks);
 }
@@ -26,8 +25,8 @@ loop-place-preserved c =
     let t = c.args.turn in
     let prims = c.args.prims.now in
     let n = c.loop-place.place in
-    let p = primitive_of c.at-primitive.result in
-    let before : Spot → Type 0 = λ s. IsPainted (map (turned_prim t) (take n prims)) (relative c.args.at s) in
+    let p = c.at-primitive.result.now in
+    let before : Spot → Type 0 = λ s. IsExposed (map (turned_prim t) (take n prims)) (relative c.args.at s) in
     let held : Spot → Type 0 = λ s. IsInShape (turned_shape t p.shape) (relative c.args.at s) in
     record {
       grid = c.primitive.ensures.grid ∙ c.loop-place.invariant.grid;
@@ -40,13 +39,13 @@ loop-place-preserved c =
 pub returns : goal.returns
 returns c =
     let all = take_all c.loop-place.place c.args.prims.now (omega (arith, c.loop-place-test.false, c.len-place-end.ensures)) in
-    merges_shown c.args.how (λ s. IsPainted (map (turned_prim c.args.turn) c.args.prims.now) (relative c.args.at s))
+    merges_shown c.args.how (λ s. IsExposed (map (turned_prim c.args.turn) c.args.prims.now) (relative c.args.at s))
     c.loop-place.own c.args.self.now c.merge.new.self c.loop-place.invariant.grid
     (rw all at c.loop-place.invariant.shown) c.merge.ensures
 
 pub primitive-requires-clause-primitive : goal.primitive-requires-clause-primitive
 primitive-requires-clause-primitive c =
     let n = c.loop-place.place in
-    let p = primitive_of c.at-primitive.result in
+    let p = c.at-primitive.result.now in
     subst IsSoundPrim (get_or_from_slice_get c.args.prims.now n p p c.at-primitive.ensures)
     (c.requires.prims n p (omega (arith, c.loop-place-test.true, c.len-place-end.ensures)))

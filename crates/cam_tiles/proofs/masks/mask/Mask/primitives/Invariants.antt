@@ -1,5 +1,5 @@
 use Rattle.std.proofs.Common.{◌≡◌, map, take}
-use Rattle.cam_apertures.specs.Cover.{IsPainted}
+use Rattle.cam_apertures.specs.Cover.{IsExposed}
 use Rattle.cam_apertures.specs.Turned.{turned_prim}
 use Rattle.cam_objects.specs.Image.{relative}
 use Rattle.cam_tiles.proofs.Joined.{Shows}
@@ -10,5 +10,5 @@ abbrev pub invariant-loop-place : goal.invariant-loop-place
 invariant-loop-place l = record {
   grid : l.own.grid ≡ l.self.grid;
   shown : Shows
-      (λ s. IsPainted (map (turned_prim l.turn) (take l.place l.prims)) (relative l.at s)) l.own;
+      (λ s. IsExposed (map (turned_prim l.turn) (take l.place l.prims)) (relative l.at s)) l.own;
 }

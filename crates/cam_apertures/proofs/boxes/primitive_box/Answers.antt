@@ -1,5 +1,5 @@
 use Rattle.cam_apertures.proofs.Corners.{small_joined}
-use Rattle.cam_apertures.proofs.boxes.box_of_shape.Goals as goal
+use Rattle.cam_apertures.proofs.boxes.primitive_box.Goals as goal
 
 pub returns-in-Bar-clause-small : goal.returns-in-Bar-clause-small
 returns-in-Bar-clause-small c =
