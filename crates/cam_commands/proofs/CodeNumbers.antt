@@ -4,7 +4,7 @@ use Rattle.std.specs.Prelude.{option_map, ◌==◌}
 use Rattle.std.proofs.lemmas.Bool.{lt-ltb, le-ltb}
 use Rattle.cam_commands.specs.Commands.{Command, Unknown}
 use Rattle.cam_numbers.specs.Numbers.{natural, value_limit}
-use Rattle.cam_commands.specs.WordCommands.{Parts, by_code, said_by, operation_of, by_operation_code, operation_code}
+use Rattle.cam_commands.specs.WordCommands.{OperationParts, by_code, parts_said_by, operation_of, by_operation_code, operation_code}
 use Rattle.cam_commands.specs.WordCommands.{selection, function, lone_function, mode_of, program_code}
 use Rattle.cam_numbers.proofs.Counting.{below_or}
 
@@ -35,10 +35,10 @@ pub settled_selection : IsSettled selection
 unfolding selection
 settled_selection = record { same = λ code past. rw (le-ltb code 10 (omega arith), lt-ltb 2147483647 code (omega arith)) refl }
 
-unselected : (p : Parts) (code : ℕ) → value_limit ≤ code → by_operation_code p code None ≡ by_operation_code p value_limit None
+unselected : (p : OperationParts) (code : ℕ) → value_limit ≤ code → by_operation_code p code None ≡ by_operation_code p value_limit None
 unselected p code past = rw (settled_selection.same code past) refl
 
-pub settled_operation : (p : Parts) → IsSettled (λ code. by_operation_code p code (operation_code code))
+pub settled_operation : (p : OperationParts) → IsSettled (λ code. by_operation_code p code (operation_code code))
 unfolding operation_code
 settled_operation p =
     record {
@@ -71,8 +71,8 @@ settled_function rest = record {
 pub ruleset capped = (code_absent, code_there, settled_program, settled_selection, settled_operation, settled_function)
 
 -- an operation by its D code
-pub said_there : (p : Parts) (run : List ℕ) (code : ℕ) → p.d ≡ Some run → Some code ≡ option_map (min value_limit) (natural run)
+pub said_there : (p : OperationParts) (run : List ℕ) (code : ℕ) → p.d ≡ Some run → Some code ≡ option_map (min value_limit) (natural run)
     → by_operation_code p code (operation_code code) ≡ operation_of p
 unfolding operation_of
 said_there p run code is e = code_there (natural run) code (λ n. by_operation_code p n (operation_code n)) (settled_operation p) e
-    ∙ ap (said_by p) (sym is)
+    ∙ ap (parts_said_by p) (sym is)

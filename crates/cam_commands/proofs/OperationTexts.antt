@@ -15,18 +15,18 @@ use Rattle.cam_numbers.specs.Numbers.{run_of, behind_run, is_numeric, natural}
 use Rattle.cam_commands.specs.Fields.{field}
 use Rattle.cam_commands.specs.Commands.{Command, SetUnit, RefusedOld, SetMode, SingleQuadrant, MultiQuadrant}
 use Rattle.cam_commands.specs.Commands.{BeginRegion, EndRegion, Nothing, Select, Operate, End, Unknown}
-use Rattle.cam_commands.specs.WordCommands.{Parts, mode_of, selection, operation, operation_of, prefixed_selection}
+use Rattle.cam_commands.specs.WordCommands.{OperationParts, mode_of, selection, operation, operation_of, prefixed_selection}
 use Rattle.cam_commands.specs.WordCommands.{lone_function, program_code, word_command, by_function, function, by_run}
 use Rattle.cam_commands.specs.WordCommands.{by_code, by_mode}
-use Rattle.cam_commands.specs.Laws.{IsRun, IsRunIfWritten, AreRuns, field_text, text_of, IsWrittenFrom, OperationsAreWritten}
+use Rattle.cam_commands.specs.Laws.{IsNumberRun, IsRunIfWritten, ArePartRuns, field_text, parts_text, IsWrittenFrom, OperationsAreWritten}
 
 one_more : (n : ℕ) → 1 + n ≡ suc n
 one_more n = omega arith
 
-run_is_numeric : (text : List ℕ) → IsRun (run_of text)
+run_is_numeric : (text : List ℕ) → IsNumberRun (run_of text)
 run_is_numeric [] = refl
 run_is_numeric (byte ∷ text) =
-    (elim (is_numeric byte) as (λ b. is_numeric byte ≡ b → IsRun (run_of (byte ∷ text))) [
+    (elim (is_numeric byte) as (λ b. is_numeric byte ≡ b → IsNumberRun (run_of (byte ∷ text))) [
       | true ↦ λ e. rw (e, one_more (prefix_len is_numeric text), e) (run_is_numeric text)
       | false ↦ λ e. rw e refl
     ]) refl
@@ -65,10 +65,10 @@ j_in text = field 74 (i_in text).1
 abbrev d_in : List ℕ → Option (List ℕ) × List ℕ
 d_in text = field 68 (j_in text).1
 
-abbrev parts_in : Option Mode → List ℕ → Parts
+abbrev parts_in : Option Mode → List ℕ → OperationParts
 parts_in mode text = record { mode = mode; x = (x_in text).0; y = (y_in text).0; i = (i_in text).0; j = (j_in text).0; d = (d_in text).0 }
 
-runs_in : (mode : Option Mode) (text : List ℕ) → AreRuns (parts_in mode text)
+runs_in : (mode : Option Mode) (text : List ℕ) → ArePartRuns (parts_in mode text)
 runs_in mode text = record {
   x = (is_read 88 text).run;
   y = (is_read 89 (x_in text).1).run;
@@ -81,7 +81,7 @@ nothing_more : (text : List ℕ) → text ++ [] ≡ text
 nothing_more [] = refl
 nothing_more (byte ∷ text) = ap (λ t. byte ∷ t) (nothing_more text)
 
-text_in : (mode : Option Mode) (text : List ℕ) → (length (d_in text).1 == 0) ≡ true → text ≡ text_of (parts_in mode text)
+text_in : (mode : Option Mode) (text : List ℕ) → (length (d_in text).1 == 0) ≡ true → text ≡ parts_text (parts_in mode text)
 text_in mode text e =
     let none : (d_in text).1 ≡ [] = nil_from_length (d_in text).1 (eqb-true (length (d_in text).1) 0 e) in
     let d : (j_in text).1 ≡ field_text 68 (d_in text).0 = (is_read 68 (j_in text).1).text_is
@@ -183,7 +183,7 @@ from_mode None rest otherwise o Goal h k e = k e
 from_mode (Some m) rest otherwise o Goal h k e = h m refl e
 
 abbrev IsWritten : List ℕ → Operation → Type 0
-IsWritten text o = (p : Parts) × (prefix : Option (List ℕ)) × IsWrittenFrom text p prefix × (operation_of p ≡ Operate o)
+IsWritten text o = (p : OperationParts) × (prefix : Option (List ℕ)) × IsWrittenFrom text p prefix × (operation_of p ≡ Operate o)
 
 -- an operation behind a prefix
 behind : (mode : Option Mode) (text rest : List ℕ) (prefix : Option (List ℕ)) (o : Operation) → IsRunIfWritten prefix

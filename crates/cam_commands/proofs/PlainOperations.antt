@@ -10,7 +10,7 @@ use Rattle.cam_commands.specs.declared.parts.OperationCode.TheVariants.{Plot, Mo
 use Rattle.cam_numbers.specs.Numbers.{integer, is_numeric, natural, value_of}
 use Rattle.cam_commands.specs.Commands.{Operate}
 use Rattle.cam_commands.specs.Fields.{field}
-use Rattle.cam_commands.specs.WordCommands.{Parts, by_function, operate, operation, operation_code, operation_of, said_by, slot}
+use Rattle.cam_commands.specs.WordCommands.{OperationParts, by_function, operate, operation, operation_code, operation_of, parts_said_by, slot}
 use Rattle.cam_commands.specs.WordCommands.{word_command}
 use Rattle.cam_commands.specs.Machinery.WordParts.{plain_text}
 
@@ -42,7 +42,7 @@ just_d Plot = refl
 just_d Move = refl
 just_d Flash = refl
 
-said : (p : Parts) (code : OperationCode) → said_by p (Some (digits code)) ≡ operate p (Some code)
+said : (p : OperationParts) (code : OperationCode) → parts_said_by p (Some (digits code)) ≡ operate p (Some code)
 unfolding natural value_of operation_code digits
 said p Plot = refl
 said p Move = refl

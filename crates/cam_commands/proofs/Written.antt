@@ -8,8 +8,8 @@ use Rattle.cam_commands.specs.declared.parts.Mode.{Mode}
 use Rattle.cam_numbers.specs.Numbers.{run_of, behind_run, is_numeric, natural}
 use Rattle.cam_commands.specs.Fields.{field}
 use Rattle.cam_commands.specs.Commands.{SetMode}
-use Rattle.cam_commands.specs.WordCommands.{Parts, mode_of, operation, operation_of, word_command, by_function, function}
-use Rattle.cam_commands.specs.Laws.{IsRun, IsRunIfWritten, AreRuns, field_text, text_of, WordsSayTheirParts}
+use Rattle.cam_commands.specs.WordCommands.{OperationParts, mode_of, operation, operation_of, word_command, by_function, function}
+use Rattle.cam_commands.specs.Laws.{IsNumberRun, IsRunIfWritten, ArePartRuns, field_text, parts_text, WordsSayTheirParts}
 
 -- the first byte, if there is one, passes
 abbrev FirstIs : (ℕ → Bool) → List ℕ → Type 0
@@ -23,14 +23,14 @@ record IsBare (p : ℕ → Bool) : Type 0 where
 one_more : (n : ℕ) → 1 + n ≡ suc n
 one_more n = omega arith
 
-run_front : (p : ℕ → Bool) (run rest : List ℕ) → IsBare p → FirstIs p rest → IsRun run → run_of (run ++ rest) ≡ run
+run_front : (p : ℕ → Bool) (run rest : List ℕ) → IsBare p → FirstIs p rest → IsNumberRun run → run_of (run ++ rest) ≡ run
 run_front p [] [] b f h = refl
 run_front p [] (byte ∷ rest) b f h = rw (b.bare byte f) refl
 run_front p (byte ∷ run) rest b f h =
     let both = and_parts (is_numeric byte) (list_all is_numeric run) h in
     rw (both.0, one_more (prefix_len is_numeric (run ++ rest))) (ap (λ r. byte ∷ r) (run_front p run rest b f both.1))
 
-run_behind : (p : ℕ → Bool) (run rest : List ℕ) → IsBare p → FirstIs p rest → IsRun run → behind_run (run ++ rest) ≡ rest
+run_behind : (p : ℕ → Bool) (run rest : List ℕ) → IsBare p → FirstIs p rest → IsNumberRun run → behind_run (run ++ rest) ≡ rest
 run_behind p [] [] b f h = refl
 run_behind p [] (byte ∷ rest) b f h = rw (b.bare byte f) refl
 run_behind p (byte ∷ run) rest b f h =
@@ -110,32 +110,32 @@ unfolding is_numeric
 bare_x = bare_more from_y 88 refl bare_y
 
 -- the texts behind X, Y, I and J
-abbrev behind_j : Parts → List ℕ
+abbrev behind_j : OperationParts → List ℕ
 behind_j p = field_text 68 p.d
 
-abbrev behind_i : Parts → List ℕ
+abbrev behind_i : OperationParts → List ℕ
 behind_i p = field_text 74 p.j ++ behind_j p
 
-abbrev behind_y : Parts → List ℕ
+abbrev behind_y : OperationParts → List ℕ
 behind_y p = field_text 73 p.i ++ behind_i p
 
-abbrev behind_x : Parts → List ℕ
+abbrev behind_x : OperationParts → List ℕ
 behind_x p = field_text 89 p.y ++ behind_y p
 
 first_d : (o : Option (List ℕ)) → FirstIs from_d (field_text 68 o)
 first_d None = tt
 first_d (Some run) = refl
 
-first_j : (p : Parts) → FirstIs from_j (behind_i p)
+first_j : (p : OperationParts) → FirstIs from_j (behind_i p)
 first_j p = first_of from_d 74 p.j (behind_j p) (first_d p.d)
 
-first_i : (p : Parts) → FirstIs from_i (behind_y p)
+first_i : (p : OperationParts) → FirstIs from_i (behind_y p)
 first_i p = first_of from_j 73 p.i (behind_i p) (first_j p)
 
-first_y : (p : Parts) → FirstIs from_y (behind_x p)
+first_y : (p : OperationParts) → FirstIs from_y (behind_x p)
 first_y p = first_of from_i 89 p.y (behind_y p) (first_i p)
 
-first_x : (p : Parts) → FirstIs from_x (text_of p)
+first_x : (p : OperationParts) → FirstIs from_x (parts_text p)
 first_x p = first_of from_y 88 p.x (behind_x p) (first_y p)
 
 nothing_more : (text : List ℕ) → text ++ [] ≡ text
@@ -145,7 +145,7 @@ nothing_more (byte ∷ text) = ap (λ t. byte ∷ t) (nothing_more text)
 read_d : (o : Option (List ℕ)) → IsRunIfWritten o → field 68 (field_text 68 o) ≡ (o, [])
 read_d o h = ap (field 68) (sym (nothing_more (field_text 68 o))) ∙ reads passes_none 68 o [] bare_none tt refl h
 
-pub operation_said : (p : Parts) → AreRuns p → operation p.mode (text_of p) ≡ operation_of p
+pub operation_said : (p : OperationParts) → ArePartRuns p → operation p.mode (parts_text p) ≡ operation_of p
 unfolding operation
 operation_said p h =
     let x = reads from_y 88 p.x (behind_x p) bare_y (first_y p) refl h.x in
@@ -158,28 +158,28 @@ operation_said p h =
 some_length : (text : List ℕ) → 0 < length text → (length text == 0) ≡ false
 some_length text h = ne_eqb (length text) 0 (λ e. absurd (omega (arith, e)))
 
-bare_said : (p : Parts) → AreRuns p → p.mode ≡ None → 0 < length (text_of p) → word_command (text_of p) ≡ operation_of p
+bare_said : (p : OperationParts) → ArePartRuns p → p.mode ≡ None → 0 < length (parts_text p) → word_command (parts_text p) ≡ operation_of p
 unfolding word_command by_function
 bare_said p h none some =
-    let m = absent from_x 77 (text_of p) (first_x p) refl in
-    let g = absent from_x 71 (text_of p) (first_x p) refl in
-    rw (m, some_length (text_of p) some, g) (ap (λ mode. operation mode (text_of p)) (sym none) ∙ operation_said p h)
+    let m = absent from_x 77 (parts_text p) (first_x p) refl in
+    let g = absent from_x 71 (parts_text p) (first_x p) refl in
+    rw (m, some_length (parts_text p) some, g) (ap (λ mode. operation mode (parts_text p)) (sym none) ∙ operation_said p h)
 
 no_m : (text : List ℕ) → field 77 (71 ∷ text) ≡ (None, 71 ∷ text)
 unfolding field
 no_m text = refl
 
-behind_said : (p : Parts) (run : List ℕ) (code : ℕ) (mode : Mode) → AreRuns p → IsRun run → natural run ≡ Some code
+behind_said : (p : OperationParts) (run : List ℕ) (code : ℕ) (mode : Mode) → ArePartRuns p → IsNumberRun run → natural run ≡ Some code
     → mode_of code ≡ Some mode → p.mode ≡ Some mode
-    → 0 < length (text_of p) → word_command (71 ∷ run ++ text_of p) ≡ operation_of p
+    → 0 < length (parts_text p) → word_command (71 ∷ run ++ parts_text p) ≡ operation_of p
 unfolding word_command by_function function
 behind_said p run code mode h is n m same some =
-    let some_byte : (length (71 ∷ run ++ text_of p) == 0) ≡ false = some_length (71 ∷ run ++ text_of p) (omega arith) in
-    let g = reads from_x 71 (Some run) (text_of p) bare_x (first_x p) refl is in
-    rw (no_m (run ++ text_of p), some_byte, g, n, m, some_length (text_of p) some)
-    (ap (λ mode. operation mode (text_of p)) (sym same) ∙ operation_said p h)
+    let some_byte : (length (71 ∷ run ++ parts_text p) == 0) ≡ false = some_length (71 ∷ run ++ parts_text p) (omega arith) in
+    let g = reads from_x 71 (Some run) (parts_text p) bare_x (first_x p) refl is in
+    rw (no_m (run ++ parts_text p), some_byte, g, n, m, some_length (parts_text p) some)
+    (ap (λ mode. operation mode (parts_text p)) (sym same) ∙ operation_said p h)
 
-alone_said : (run : List ℕ) (code : ℕ) (mode : Mode) → IsRun run → natural run ≡ Some code → mode_of code ≡ Some mode
+alone_said : (run : List ℕ) (code : ℕ) (mode : Mode) → IsNumberRun run → natural run ≡ Some code → mode_of code ≡ Some mode
     → word_command (71 ∷ run) ≡ SetMode mode
 unfolding word_command by_function function
 alone_said run code mode is n m =

@@ -10,18 +10,18 @@ use Rattle.cam_commands.specs.declared.names.Name.{Name}
 use Rattle.cam_commands.specs.declared.names.Name.TheVariants.{ApertureMacro}
 use Rattle.cam_numbers.specs.Numbers.{is_numeric, natural}
 use Rattle.cam_commands.specs.Commands.{SetMode, Operate, Unknown}
-use Rattle.cam_commands.specs.WordCommands.{Parts, mode_of, operation_of, word_command}
+use Rattle.cam_commands.specs.WordCommands.{OperationParts, mode_of, operation_of, word_command}
 use Rattle.cam_commands.specs.ExtendedCommands.{letters_of, named_command, extended_command}
 
 -- digits, signs and points alone
-abbrev pub IsRun : List ℕ → Type 0
-IsRun run = list_all is_numeric run ≡ true
+abbrev pub IsNumberRun : List ℕ → Type 0
+IsNumberRun run = list_all is_numeric run ≡ true
 
 abbrev pub IsRunIfWritten : Option (List ℕ) → Type 0
 IsRunIfWritten None = Unit {0}
-IsRunIfWritten (Some run) = IsRun run
+IsRunIfWritten (Some run) = IsNumberRun run
 
-pub record AreRuns (p : Parts) : Type 0 where
+pub record ArePartRuns (p : OperationParts) : Type 0 where
   pub x : IsRunIfWritten p.x
   pub y : IsRunIfWritten p.y
   pub i : IsRunIfWritten p.i
@@ -34,30 +34,30 @@ field_text letter None = []
 field_text letter (Some run) = letter ∷ run
 
 -- X (88), Y (89), I (73), J (74) and D (68), each with its run
-abbrev pub text_of : Parts → List ℕ
-text_of p = field_text 88 p.x ++ (field_text 89 p.y ++ (field_text 73 p.i ++ (field_text 74 p.j ++ field_text 68 p.d)))
+abbrev pub parts_text : OperationParts → List ℕ
+parts_text p = field_text 88 p.x ++ (field_text 89 p.y ++ (field_text 73 p.i ++ (field_text 74 p.j ++ field_text 68 p.d)))
 
 -- a word that is written from parts says their operation, also behind the G code (71) of a mode, which may stand alone
 pub record WordsSayTheirParts : Type 0 where
-  pub bare : (p : Parts) → AreRuns p → p.mode ≡ None → 0 < length (text_of p) → word_command (text_of p) ≡ operation_of p
-  pub behind_mode : (p : Parts) (run : List ℕ) (code : ℕ) (mode : Mode) → AreRuns p → IsRun run → natural run ≡ Some code
+  pub bare : (p : OperationParts) → ArePartRuns p → p.mode ≡ None → 0 < length (parts_text p) → word_command (parts_text p) ≡ operation_of p
+  pub behind_mode : (p : OperationParts) (run : List ℕ) (code : ℕ) (mode : Mode) → ArePartRuns p → IsNumberRun run → natural run ≡ Some code
       → mode_of code ≡ Some mode → p.mode ≡ Some mode
-      → 0 < length (text_of p) → word_command (71 ∷ run ++ text_of p) ≡ operation_of p
-  pub mode_alone : (run : List ℕ) (code : ℕ) (mode : Mode) → IsRun run → natural run ≡ Some code → mode_of code ≡ Some mode
+      → 0 < length (parts_text p) → word_command (71 ∷ run ++ parts_text p) ≡ operation_of p
+  pub mode_alone : (run : List ℕ) (code : ℕ) (mode : Mode) → IsNumberRun run → natural run ≡ Some code → mode_of code ≡ Some mode
       → word_command (71 ∷ run) ≡ SetMode mode
 
 -- the text is written from the parts of an operation, behind the G code of its mode or without one
-pub record IsWrittenFrom (text : List ℕ) (p : Parts) (prefix : Option (List ℕ)) : Type 0 where
-  pub runs : AreRuns p
+pub record IsWrittenFrom (text : List ℕ) (p : OperationParts) (prefix : Option (List ℕ)) : Type 0 where
+  pub runs : ArePartRuns p
   pub prefix_run : IsRunIfWritten prefix
   pub mode_is : p.mode ≡ option_and_then (λ run. option_and_then mode_of (natural run)) prefix
-  pub text_is : text ≡ field_text 71 prefix ++ text_of p
+  pub text_is : text ≡ field_text 71 prefix ++ parts_text p
 
 -- a word that says an operation is written from parts that say it
 abbrev pub OperationsAreWritten : Type 0
 OperationsAreWritten =
     (text : List ℕ) (operation : Operation) → word_command text ≡ Operate operation
-    → (p : Parts) × (prefix : Option (List ℕ)) × IsWrittenFrom text p prefix × (operation_of p ≡ Operate operation)
+    → (p : OperationParts) × (prefix : Option (List ℕ)) × IsWrittenFrom text p prefix × (operation_of p ≡ Operate operation)
 
 -- the two letters of an extended command decide what it says of its data
 pub record NamesDecide : Type 0 where

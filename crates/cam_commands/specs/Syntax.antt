@@ -23,5 +23,5 @@ place_by Extended at = at - 1
 place_by Plain at = at
 place_by Comment at = at
 
-abbrev pub place_of : FoundWord → ℕ
-place_of word = place_by word.kind word.at
+abbrev pub start_of : FoundWord → ℕ
+start_of word = place_by word.kind word.at

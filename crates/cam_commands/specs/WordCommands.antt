@@ -46,7 +46,7 @@ unfoldable pub selection : ℕ → Command
 selection code = if nat_lt code 10 then Unknown else Select (within_numbers code)
 
 -- the runs behind the letters of an operation, and its mode
-pub record Parts : Type 0 where
+pub record OperationParts : Type 0 where
   pub mode : Option Mode
   pub x : Option (List ℕ)
   pub y : Option (List ℕ)
@@ -54,25 +54,25 @@ pub record Parts : Type 0 where
   pub j : Option (List ℕ)
   pub d : Option (List ℕ)
 
-abbrev pub has_coordinate : Parts → Bool
+abbrev pub has_coordinate : OperationParts → Bool
 has_coordinate p = is_some p.x || is_some p.y || is_some p.i || is_some p.j
 
-abbrev pub operate : Parts → Option OperationCode → Command
+abbrev pub operate : OperationParts → Option OperationCode → Command
 operate p code =
     Operate (record { mode = p.mode; x = slot integer p.x; y = slot integer p.y; i = slot integer p.i; j = slot integer p.j; code = code })
 
 -- an operation by its D code; another code selects, where it stands alone
-abbrev pub by_operation_code : Parts → ℕ → Option OperationCode → Command
+abbrev pub by_operation_code : OperationParts → ℕ → Option OperationCode → Command
 by_operation_code p code (Some named) = operate p (Some named)
 by_operation_code p code None = if is_some p.mode || has_coordinate p then Unknown else selection code
 
 -- an operation by its parts; coordinates may stand alone. "Operations (D01/D02/D03)"
-abbrev pub said_by : Parts → Option (List ℕ) → Command
-said_by p None = if has_coordinate p then operate p None else Unknown
-said_by p (Some run) = by_code (natural run) (λ code. by_operation_code p code (operation_code code))
+abbrev pub parts_said_by : OperationParts → Option (List ℕ) → Command
+parts_said_by p None = if has_coordinate p then operate p None else Unknown
+parts_said_by p (Some run) = by_code (natural run) (λ code. by_operation_code p code (operation_code code))
 
-unfoldable pub operation_of : Parts → Command
-operation_of p = said_by p p.d
+unfoldable pub operation_of : OperationParts → Command
+operation_of p = parts_said_by p p.d
 
 -- X (88), Y (89), I (73), J (74) and D (68) in this order
 unfoldable pub operation : Option Mode → List ℕ → Command

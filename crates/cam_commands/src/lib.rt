@@ -1,11 +1,19 @@
 //! What the words of a Gerber file say (Ucamco's "Gerber Layer Format Specification").
 //!
-//! ```text
-//! let mut words = Words::new(b"%MOMM*%X10Y-20D03*");
-//! // SetUnit { unit: Mm, style: Extended }, then Operate(Operation { x: Written(10), y: Written(-20), .. })
-//! while let Some(answer) = words.next() {
-//!     let command = command_of(answer?);
-//! }
+//! ```rust
+//! use cam_commands::{Command, OperationCode, Slot, command_of};
+//! use cam_words::Words;
+//!
+//! let mut words = Words::new(b"X10Y-20D03*");
+//! let Some(Ok(word)) = words.next() else {
+//!     return Err(Fail::new("it is a word"));
+//! };
+//! let Command::Operate(operation) = command_of(word) else {
+//!     return Err(Fail::new("it is an operation"));
+//! };
+//! assert!(rt; operation.code == Some(OperationCode::Flash));
+//! assert!(rt; operation.x == Slot::Written(10) && operation.y == Slot::Written(-20));
+//! assert!(rt; operation.i == Slot::Omitted);
 //! ```
 //!
 //! A command borrows its texts from the word and takes no memory. What a word says stands in `specs/`:
@@ -32,4 +40,4 @@ pub use command::Command;
 pub use laws::{names_decide, operations_are_written, words_say_their_parts};
 pub use names::FreeText;
 pub use parts::{Format, Mirror, Mode, Operation, OperationCode, Polarity, Repeat, Slot, Style};
-pub use syntax::{command_of, place_of};
+pub use syntax::{command_of, start_of};

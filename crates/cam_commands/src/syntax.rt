@@ -4,7 +4,7 @@ ghost use Rattle.std.specs.Prelude.{◌≡◌, ◌&&◌, not};
 ghost use Rattle.std.specs.List.{list_any};
 ghost use Rattle.cam_words.specs.Bytes.{is_star};
 ghost use Rattle.cam_commands.specs.ExtendedCommands.{may_hold_star, named_command, extended_command};
-ghost use Rattle.cam_commands.specs.Syntax.{command_of, place_of};
+ghost use Rattle.cam_commands.specs.Syntax.{command_of, start_of};
 ghost use Rattle.cam_commands.specs.Borrowed.{shown, found};
 
 use crate::command::Command;
@@ -95,8 +95,8 @@ pub fn command_of(word: Word<'_>) -> Command<'_>
 }
 
 /// The place of the first byte of the command, of an extended one its `%`.
-pub fn place_of(word: Word<'_>) -> usize
-    ensures { result ≡ place_of (found word.entry) }
+pub fn start_of(word: Word<'_>) -> usize
+    ensures { result ≡ start_of (found word.entry) }
 {
     match word.kind {
         Kind::Plain | Kind::Comment => word.at,

@@ -10,7 +10,7 @@ ghost use Rattle.cam_commands.specs.declared.parts.Style.TheVariants.{Word};
 ghost use Rattle.cam_commands.specs.Fields.{field};
 ghost use Rattle.cam_commands.specs.Borrowed.{shown};
 ghost use Rattle.cam_commands.specs.Machinery.WordParts.{AreOf, plain_text};
-ghost use Rattle.cam_commands.specs.WordCommands.{Parts as WordParts};
+ghost use Rattle.cam_commands.specs.WordCommands.{OperationParts as WordParts};
 
 use crate::command::Command;
 use crate::coordinates::{is_there, read_coordinate};

@@ -17,7 +17,7 @@ use Rattle.cam_words.specs.Bytes.{is_control, is_forbidden_in_code, is_skipped, 
 use Rattle.cam_words.specs.Cutting.{Command, WordCommand, ExtendedCommand, FoundWord, IsCommand}
 use Rattle.cam_words.specs.Cutting.{word_of}
 use Rattle.cam_words.specs.Heads.{behind_kept, is_comment, is_forbidden_in_extended, is_free_text, packed}
-use Rattle.cam_words.specs.Reading.{Answer, reading}
+use Rattle.cam_words.specs.Reading.{WordAnswer, reading}
 use Rattle.cam_objects.specs.Attributes.{AreAttributes, AreFields, IsAttribute, attribute_of, is_attribute_byte, with_attribute}
 use Rattle.cam_objects.proofs.EditedAttributes.{attribute_edits}
 use Rattle.cam_commands.specs.declared.names.FreeText.{FreeText}
@@ -29,9 +29,9 @@ use Rattle.cam_commands.specs.ExtendedCommands.{letters_of, name_of as named_by,
 use Rattle.cam_commands.specs.Syntax.{command_of}
 use Rattle.cam_gerber.specs.Statements.{Statement, Says, NamesMacro, Uncut}
 use Rattle.cam_gerber.specs.State.{Past}
-use Rattle.cam_gerber.specs.Attributes.{attributes_in, fields_of, is_comma, name_of, names_in}
+use Rattle.cam_gerber.specs.Attributes.{attributes_in, attribute_fields, is_comma, attribute_name, names_in}
 use Rattle.cam_gerber.specs.Faults.{faults}
-use Rattle.cam_gerber.specs.Computing.{statement_of, told_of}
+use Rattle.cam_gerber.specs.Computing.{statement_said, told_of}
 use Rattle.cam_gerber.proofs.FileAttributes.{names_counted, sets_its_attribute}
 use Rattle.cam_gerber.proofs.OpenNumbers.{IsNamed, Keeps, kept_text}
 use Rattle.cam_gerber.proofs.Least.{pass_least}
@@ -40,7 +40,7 @@ use Rattle.cam_gerber.proofs.Places.{all_answers}
 -- ---- what the cutting allows
 
 -- the text of an extended command holds only bytes that it may hold
-abbrev pub IsClean : Answer → Type 0
+abbrev pub IsClean : WordAnswer → Type 0
 IsClean (Ok word) = word.kind ≡ Extended
     → AllByRecursion (λ byte. (byte ≢ percent) × (is_forbidden_in_extended word.text byte ≡ false)) word.text
 IsClean (Err fault) = Unit {0}
@@ -126,11 +126,11 @@ StatesText (Says command) = Keeps IsAttributeText command
 StatesText (NamesMacro name parts) = Unit {0}
 StatesText (Uncut code) = Unit {0}
 
-stated_text : (command : Said) → Keeps IsAttributeText command → StatesText (statement_of command)
+stated_text : (command : Said) → Keeps IsAttributeText command → StatesText (statement_said command)
 stated_text (DefineMacro text) keeps = tt
 stated_text command keeps = keeps
 
-pub told_text : (answer : Answer) → IsClean answer → StatesText (told_of answer).says
+pub told_text : (answer : WordAnswer) → IsClean answer → StatesText (told_of answer).says
 told_text (Ok word) clean =
     stated_text (command_of word) (kept_text IsAttributeText word (λ is free named. text_allowed word clean is free named))
 told_text (Err fault) clean = tt
@@ -161,7 +161,7 @@ fields_apart (byte ∷ text) = by (is_comma byte) refl (fields_apart text) where
       subst (λ n. AreFields (drop n (byte ∷ text))) next rest
 
 is_attribute : (text : List ℕ) → AllByRecursion (λ byte. IsTrue (is_attribute_byte byte)) text
-    → IsAttribute (attribute_of (name_of text) (fields_of text))
+    → IsAttribute (attribute_of (attribute_name text) (attribute_fields text))
 is_attribute text h =
     let Allowed : ℕ → Type 0 = λ byte. IsTrue (is_attribute_byte byte) in
     let all = All-from_recursion Allowed text h in
@@ -176,7 +176,7 @@ sets : (past : Past) (text : List ℕ) → AllByRecursion (λ byte. IsTrue (is_a
     → nat_lt 1000 (length (names_in (Says (KeepText FileAttribute text) ∷ past))) ≡ false
     → AreAttributes (attributes_in past) → AreAttributes (attributes_in (Says (KeepText FileAttribute text) ∷ past))
 sets past text allowed few h =
-    let a = attribute_of (name_of text) (fields_of text) in
+    let a = attribute_of (attribute_name text) (attribute_fields text) in
     let room : length (with_attribute a (attributes_in past)) ≤ 1000 =
     ltb-false 1000 _ (names_counted past text (attributes_in past) refl ∙ few) in
     subst AreAttributes (sym (sets_its_attribute past text))

@@ -9,7 +9,7 @@ use Rattle.std.proofs.lemmas.List.Elements.{All-weaker}
 use Rattle.std.proofs.Math.Nat.{mul-le-mul_right}
 use Rattle.cam_refusals.specs.declared.refusal.Refusal.{Refusal}
 use Rattle.cam_refusals.specs.declared.refusal.Refusal.TheVariants.{OutOfBoard, TooMuch}
-use Rattle.cam_refusals.specs.Checks.{Checks, first}
+use Rattle.cam_refusals.specs.Checks.{Checks, first_holding}
 use Rattle.cam_objects.specs.declared.entry.Entry.{Entry}
 use Rattle.cam_objects.specs.declared.item.Item.{Item}
 use Rattle.cam_objects.specs.declared.item.Item.TheVariants as item
@@ -26,10 +26,10 @@ use Rattle.cam_refusals.specs.declared.stop.Stop.{Stop}
 use Rattle.cam_refusals.specs.declared.stop.Stop.TheVariants.{Memory, Fault}
 use Rattle.cam_gerber.specs.Statements.{Statement, Says}
 use Rattle.cam_gerber.specs.State.{Past}
-use Rattle.cam_gerber.specs.Homes.{Home, InRepeat, Opened, count_of, is_repeated, open_repeat, opened}
-use Rattle.cam_gerber.specs.Making.{made_at, objects_of}
-use Rattle.cam_gerber.specs.Layers.{closed_leaves, closed_repeat, entries_in, items_in, leaves_in, leaves_of, made_leaves, repeat_by}
-use Rattle.cam_gerber.specs.Faults.{are_on_board, closing_faults, holds_of_one, is_empty, is_layer_full, is_outside}
+use Rattle.cam_gerber.specs.Homes.{Home, InRepeat, Opened, copies_written, has_copies, open_repeat, repeat_opened}
+use Rattle.cam_gerber.specs.Making.{made_at, home_objects}
+use Rattle.cam_gerber.specs.Layers.{closed_leaves, closed_repeat, entries_in, items_in, leaves_in, home_leaves, made_leaves, repeat_by}
+use Rattle.cam_gerber.specs.Faults.{are_leaves_on_board, closing_faults, holds_of_one, is_left_out, is_layer_full, is_outside}
 use Rattle.cam_gerber.specs.Machinery.Closing.{Adds, IsAdded}
 use Rattle.cam_gerber.specs.Machinery.Tracking.{Answers, HasPast, IsSettled, Tracks, repeat_of}
 use Rattle.cam_gerber.specs.Machinery.WellMade.{IsWellMade, IsWellMadeItem}
@@ -43,14 +43,14 @@ use Rattle.cam_gerber.proofs.SoundJoining.{sound_past}
 -- ---- the open repeat of a past
 
 -- it has more than one copy
-many_opened : (past : Past) (repeat : Repeat) (b : Bool) → is_repeated repeat ≡ b
-    → IfSome (cond b (Some (opened past repeat)) None) (λ o. 1 < o.columns * o.rows)
-many_opened past repeat true many = ltb-true 1 (count_of repeat.columns * count_of repeat.rows) many
+many_opened : (past : Past) (repeat : Repeat) (b : Bool) → has_copies repeat ≡ b
+    → IfSome (cond b (Some (repeat_opened past repeat)) None) (λ o. 1 < o.columns * o.rows)
+many_opened past repeat true many = ltb-true 1 (copies_written repeat.columns * copies_written repeat.rows) many
 many_opened past repeat false one = tt
 
 many_copies : (past : Past) → IfSome (open_repeat past) (λ o. 1 < o.columns * o.rows)
 many_copies [] = tt
-many_copies (Says (SetRepeat repeat) ∷ older) = many_opened older repeat (is_repeated repeat) refl
+many_copies (Says (SetRepeat repeat) ∷ older) = many_opened older repeat (has_copies repeat) refl
 many_copies (Says CloseRepeat ∷ older) = tt
 many_copies (Says End ∷ older) = tt
 many_copies (_ ∷ older) = many_copies older
@@ -80,13 +80,13 @@ both_nil (x ∷ xs) ys h = absurd cc
 none_more : (h : Home) (past : Past) (says : Statement) → made_at h past says ≡ [] → made_leaves h past says ≡ 0
 none_more h past says e = ap (block_count (weight_in (entries_in past))) e
 
-pub no_leaves : (h : Home) (past : Past) → objects_of h past ≡ [] → leaves_of h past ≡ 0
+pub no_leaves : (h : Home) (past : Past) → home_objects h past ≡ [] → home_leaves h past ≡ 0
 no_leaves h [] e = refl
 no_leaves h (Says (Operate operation) ∷ older) e =
-    let both = both_nil (objects_of h older) (made_at h older (Says (Operate operation))) e in
+    let both = both_nil (home_objects h older) (made_at h older (Says (Operate operation))) e in
     omega (arith, no_leaves h older both.0, none_more h older (Says (Operate operation)) both.1)
 no_leaves h (Says EndRegion ∷ older) e =
-    let both = both_nil (objects_of h older) (made_at h older (Says EndRegion)) e in
+    let both = both_nil (home_objects h older) (made_at h older (Says EndRegion)) e in
     omega (arith, no_leaves h older both.0, none_more h older (Says EndRegion) both.1)
 no_leaves h (_ ∷ older) e = no_leaves h older e
 
@@ -123,56 +123,32 @@ same_over b k n h = go (ltb 4000000 (b + k * n)) refl
 -- ---- tables
 
 -- what some checks are answered by, answers others that tell the same
-pub answers_alike : (result : Result (Unit {0}) Stop) (a b : Checks Refusal) (P Q : Type 0) → first a ≡ first b
-    → (first b ≡ None → P → Q) → Answers result a P → Answers result b Q
+pub answers_alike : (result : Result (Unit {0}) Stop) (a b : Checks Refusal) (P Q : Type 0) → first_holding a ≡ first_holding b
+    → (first_holding b ≡ None → P → Q) → Answers result a P → Answers result b Q
 answers_alike (Ok done) a b P Q e f h = (sym e ∙ h.0, f (sym e ∙ h.0) h.1)
 answers_alike (Err Memory) a b P Q e f h = tt
 answers_alike (Err (Fault code)) a b P Q e f h = sym e ∙ h
 
 -- ---- a repeat without objects
 
-pub settles_none : (past : Past) (old : Running) (after : Option OpenRepeat) → Tracks past old → old.frames.repeat ≡ None → after ≡ None
-    → (first (closing_faults past true) ≡ None) × IsSettled past old (record old { frames = record old.frames { repeat = after } })
-settles_none past old after t e closed = go (open_repeat past) refl
-  where
-    go : (o : Option Opened) → open_repeat past ≡ o
-        → (first (closing_faults past true) ≡ None) × IsSettled past old (record old { frames = record old.frames { repeat = after } })
-    go (Some o) is =
-        absurd (let wrong : None ≡ Some (repeat_of past o) = sym e ∙ t.frames.repeat ∙ ap (option_map (repeat_of past)) is in cc)
-    go None is = (
-      rw is refl,
-      record {
-        modal = refl;
-        region = refl;
-        attributes = refl;
-        alloc = refl;
-        blocks = refl;
-        repeat = closed;
-        macros = refl;
-        entries = refl;
-        items = t.built.items ∙ rw (is, append-nil) refl;
-        leaves = t.built.leaves ∙ rw is (omega arith);
-      },
-    )
-
-nothing_from : (objects : List Object) → is_empty objects ≡ true → objects ≡ []
+nothing_from : (objects : List Object) → is_left_out objects ≡ true → objects ≡ []
 nothing_from [] h = refl
 nothing_from (x ∷ xs) h = absurd (false≢true h)
 
 pub settles_empty : (past : Past) (old : Running) (r : OpenRepeat) (after : Option OpenRepeat) → Tracks past old
-    → old.frames.repeat ≡ Some r → is_empty r.objects ≡ true → after ≡ None
-    → (first (closing_faults past true) ≡ None) × IsSettled past old (record old { frames = record old.frames { repeat = after } })
+    → old.frames.repeat ≡ Some r → is_left_out r.objects ≡ true → after ≡ None
+    → (first_holding (closing_faults past true) ≡ None) × IsSettled past old (record old { frames = record old.frames { repeat = after } })
 settles_empty past old r after t e empty closed =
     let opens = is_opened past old r t e in
     let o = opens.o in
-    let objects : objects_of (InRepeat o.before) past ≡ [] =
-    nothing_from (objects_of (InRepeat o.before) past) (ap (λ (r : OpenRepeat). is_empty r.objects) (sym opens.same) ∙ empty) in
+    let objects : home_objects (InRepeat o.before) past ≡ [] =
+    nothing_from (home_objects (InRepeat o.before) past) (ap (λ (r : OpenRepeat). is_left_out r.objects) (sym opens.same) ∙ empty) in
     let items : closed_repeat past ≡ [] = rw opens.opens (ap (repeat_by o) objects) in
     let leaves : closed_leaves past ≡ 0 =
     rw opens.opens (ap (λ n. o.columns * o.rows * n) (no_leaves (InRepeat o.before) past objects) ∙ omega arith) in (
-      ap (λ all. first
+      ap (λ all. first_holding
           ((OutOfBoard, not true || holds_of_one (is_outside past) all)
-          ∷ (TooMuch, not (is_empty all) && is_layer_full past (closed_leaves past)) ∷ [])) items,
+          ∷ (TooMuch, not (is_left_out all) && is_layer_full past (closed_leaves past)) ∷ [])) items,
       record {
         modal = refl;
         region = refl;
@@ -189,42 +165,42 @@ settles_empty past old r after t e empty closed =
 
 -- ---- a repeat with objects
 
-some_objects : (objects : List Object) → is_empty objects ≡ false → 0 < length objects
+some_objects : (objects : List Object) → is_left_out objects ≡ false → 0 < length objects
 some_objects [] h = absurd (false≢true (sym h))
 some_objects (x ∷ xs) h = omega arith
 
 well_made : (es : List (ℕ × Entry)) (o : Object) → IsMade es o → IsWellMade es o
 well_made es o m = record { formed = m.formed; known = m.known; drawable = m.drawable; radius = m.radius; points = m.points }
 
-opened_well : (past : Past) (o : Opened) → Sound past → open_repeat past ≡ Some o → is_empty (objects_of (InRepeat o.before) past) ≡ false
-    → IsWellMadeItem (entries_in past) (item.Repeat o.columns o.rows o.i o.j (objects_of (InRepeat o.before) past))
+opened_well : (past : Past) (o : Opened) → Sound past → open_repeat past ≡ Some o → is_left_out (home_objects (InRepeat o.before) past) ≡ false
+    → IsWellMadeItem (entries_in past) (item.Repeat o.columns o.rows o.i o.j (home_objects (InRepeat o.before) past))
 opened_well past o sound opens some =
     let view = subst (λ repeat. IsRepeatView (entries_in past) (option_map (repeat_at past) repeat)) opens sound.repeat in
     record {
-      repeated = (repeated (item.Repeat o.columns o.rows o.i o.j (objects_of (InRepeat o.before) past))).1
-          (view.0.copies, some_objects (objects_of (InRepeat o.before) past) some);
+      repeated = (repeated (item.Repeat o.columns o.rows o.i o.j (home_objects (InRepeat o.before) past))).1
+          (view.0.copies, some_objects (home_objects (InRepeat o.before) past) some);
       steps = (view.0.steps_i, view.0.steps_j);
       objects = All-weaker (IsMade (entries_in past)) (IsWellMade (entries_in past)) (well_made (entries_in past))
-          (objects_of (InRepeat o.before) past) view.1.each;
+          (home_objects (InRepeat o.before) past) view.1.each;
     }
 
-pub closing_well : (old : Running) (r : OpenRepeat) → HasPast old → old.frames.repeat ≡ Some r → is_empty r.objects ≡ false
+pub closing_well : (old : Running) (r : OpenRepeat) → HasPast old → old.frames.repeat ≡ Some r → is_left_out r.objects ≡ false
     → IsWellMadeItem old.built.layer.apertures (item.Repeat r.columns r.rows r.i r.j r.objects)
 closing_well old r h e some =
     let opens = is_opened h.0 old r h.2 e in
     let o = opens.o in
     subst (λ (r : OpenRepeat). IsWellMadeItem old.built.layer.apertures (item.Repeat r.columns r.rows r.i r.j r.objects)) (sym opens.same)
-    (subst (λ es. IsWellMadeItem es (item.Repeat o.columns o.rows o.i o.j (objects_of (InRepeat o.before) h.0))) (sym h.2.built.entries)
-    (opened_well h.0 o (sound_past h.0 h.1 h.3) opens.opens (ap (λ (r : OpenRepeat). is_empty r.objects) (sym opens.same) ∙ some)))
+    (subst (λ es. IsWellMadeItem es (item.Repeat o.columns o.rows o.i o.j (home_objects (InRepeat o.before) h.0))) (sym h.2.built.entries)
+    (opened_well h.0 o (sound_past h.0 h.1 h.3) opens.opens (ap (λ (r : OpenRepeat). is_left_out r.objects) (sym opens.same) ∙ some)))
 
-one_item : (o : Opened) (objects : List Object) → is_empty objects ≡ false
+one_item : (o : Opened) (objects : List Object) → is_left_out objects ≡ false
     → repeat_by o objects ≡ item.Repeat o.columns o.rows o.i o.j objects ∷ []
 one_item o [] h = absurd (false≢true (sym h))
 one_item o (x ∷ xs) h = refl
 
 pub settles_some : (past : Past) (old : Running) (r : OpenRepeat) (after : Option OpenRepeat) (result : Result (Unit {0}) Stop)
     (built : Built) → Tracks past old
-    → old.frames.repeat ≡ Some r → is_empty r.objects ≡ false → after ≡ None
+    → old.frames.repeat ≡ Some r → is_left_out r.objects ≡ false → after ≡ None
     → Adds (item.Repeat r.columns r.rows r.i r.j r.objects)
     (min (r.columns * r.rows * r.leaves) 18446744073709551615) old.built result built
     → Answers result (closing_faults past true)
@@ -233,13 +209,13 @@ settles_some past old r after result built t e some closed adds =
     let opens = is_opened past old r t e in
     let o = opens.o in
     let k = o.columns * o.rows in
-    let n = leaves_of (InRepeat o.before) past in
-    let all : Item = item.Repeat o.columns o.rows o.i o.j (objects_of (InRepeat o.before) past) in
+    let n = home_leaves (InRepeat o.before) past in
+    let all : Item = item.Repeat o.columns o.rows o.i o.j (home_objects (InRepeat o.before) past) in
     let more = min (k * min 4000001 n) 18446744073709551615 in
     let one : 1 ≤ k = omega (arith, opens.many) in
     let items : closed_repeat past ≡ all ∷ [] =
     rw opens.opens
-    (one_item o (objects_of (InRepeat o.before) past) (ap (λ (r : OpenRepeat). is_empty r.objects) (sym opens.same) ∙ some)) in
+    (one_item o (home_objects (InRepeat o.before) past) (ap (λ (r : OpenRepeat). is_left_out r.objects) (sym opens.same) ∙ some)) in
     let leaves : closed_leaves past ≡ k * n = rw opens.opens refl in
     let added : Adds all more old.built result built =
     subst (λ (r : OpenRepeat). Adds (item.Repeat r.columns r.rows r.i r.j r.objects)
@@ -249,17 +225,17 @@ settles_some past old r after result built t e some closed adds =
     ap₂ (λ a b. a || b) (ap (λ all. nat_le 1000000 (length all)) t.built.items)
     (ap (λ b. nat_lt 4000000 (b + more)) t.built.leaves ∙ same_over (leaves_in past) k n one
     ∙ ap (λ m. nat_lt 4000000 (leaves_in past + m)) (sym leaves)) in
-    let outside : not (are_on_board (item_leaves (meaning_in old.built.layer.apertures) all)) ≡ is_outside past all =
-    ap (λ es. not (are_on_board (item_leaves (meaning_in es) all))) t.built.entries ∙ sym (outside_is past all) in
+    let outside : not (are_leaves_on_board (item_leaves (meaning_in old.built.layer.apertures) all)) ≡ is_outside past all =
+    ap (λ es. not (are_leaves_on_board (item_leaves (meaning_in es) all))) t.built.entries ∙ sym (outside_is past all) in
     answers_alike result _ (closing_faults past true) (IsAdded all more old.built built)
     (IsSettled past old (record old { frames = record old.frames { repeat = after }; built = built }))
-    (ap₂ (λ a b. first ((OutOfBoard, a) ∷ (TooMuch, b) ∷ [])) outside full
+    (ap₂ (λ a b. first_holding ((OutOfBoard, a) ∷ (TooMuch, b) ∷ [])) outside full
     ∙ ap (λ items.
-    first ((OutOfBoard, not true || holds_of_one (is_outside past) items)
-    ∷ (TooMuch, not (is_empty items) && is_layer_full past (closed_leaves past)) ∷ [])) (sym items))
+    first_holding ((OutOfBoard, not true || holds_of_one (is_outside past) items)
+    ∷ (TooMuch, not (is_left_out items) && is_layer_full past (closed_leaves past)) ∷ [])) (sym items))
     (λ told h.
     let fits : is_layer_full past (closed_leaves past) ≡ false =
-    ap (λ items. not (is_empty items) && is_layer_full past (closed_leaves past)) (sym items)
+    ap (λ items. not (is_left_out items) && is_layer_full past (closed_leaves past)) (sym items)
     ∙ (pass_first (closing_faults past true) told).1.0 in
     let few : leaves_in past + k * n ≤ 4000000 =
     ltb-false 4000000 (leaves_in past + k * n)

@@ -8,7 +8,8 @@ use Rattle.cam_objects.specs.declared.layer.Layer.{Layer}
 use Rattle.cam_objects.specs.Attributes.{AreAttributes}
 use Rattle.cam_objects.specs.Contents.{Content}
 use Rattle.cam_objects.specs.Soundness.{IsSoundContent}
-use Rattle.cam_gerber.specs.Reading.{Means, no_memory, answer_of, IsReading}
+use Rattle.cam_gerber.specs.Reading.{Means, layer_answer, IsReading}
+use Rattle.cam_refusals.specs.FileFaults.{no_memory}
 use Rattle.cam_gerber.specs.Computing.{reading_of}
 use Rattle.cam_gerber.proofs.Reading.{means_its_reading, reading_is}
 use Rattle.cam_gerber.proofs.LeastFaults.{faults_are_numbered}
@@ -17,8 +18,8 @@ use Rattle.cam_gerber.proofs.SoundReadings.{content_is_sound}
 use Rattle.cam_gerber.proofs.SoundReadings as sound
 
 pub reading_answers : (bytes : List ℕ) (result : Result Layer ReadFault) → IsReading bytes result
-    → (answer_of result ≡ reading_of bytes) ⊎ (result ≡ Err no_memory)
-reading_answers bytes result (inl h) = inl (reading_is bytes (answer_of result) h)
+    → (layer_answer result ≡ reading_of bytes) ⊎ (result ≡ Err no_memory)
+reading_answers bytes result (inl h) = inl (reading_is bytes (layer_answer result) h)
 reading_answers bytes result (inr e) = inr e
 
 -- ---- what a file gives

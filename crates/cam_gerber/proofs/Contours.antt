@@ -4,7 +4,7 @@ use Rattle.std.proofs.Common.{sym, ap, ap₂, ◌∙◌, subst, arith}
 use Rattle.std.specs.Prelude.{map, nat_le, Err}
 use Rattle.cam_refusals.specs.declared.refusal.Refusal.{Refusal}
 use Rattle.cam_refusals.specs.declared.refusal.Refusal.TheVariants.{TooMuch}
-use Rattle.cam_refusals.specs.Checks.{Checks, first}
+use Rattle.cam_refusals.specs.Checks.{Checks, first_holding}
 use Rattle.cam_refusals.specs.declared.stop.Stop.{Stop}
 use Rattle.cam_refusals.specs.declared.stop.Stop.TheVariants.{Memory, Fault}
 use Rattle.std.specs.Option.{option_map}
@@ -15,7 +15,7 @@ use Rattle.cam_objects.specs.Weights.{block_count, weight_in}
 use Rattle.cam_gerber.specs.declared.frames.Frames.{Frames}
 use Rattle.cam_gerber.specs.declared.frames.OpenBlock.{OpenBlock}
 use Rattle.cam_gerber.specs.declared.built.Built.{Built}
-use Rattle.cam_gerber.specs.Layers.{entries_in, items_in, leaves_of}
+use Rattle.cam_gerber.specs.Layers.{entries_in, items_in, home_leaves}
 use Rattle.cam_units.specs.declared.point.Point.{Point}
 use Rattle.cam_shapes.specs.declared.segments.Seg.{Seg}
 use Rattle.cam_shapes.specs.Contour.{end_of}
@@ -26,10 +26,11 @@ use Rattle.cam_gerber.specs.declared.modal.Modal.{Modal}
 use Rattle.cam_gerber.specs.declared.region.Region.{Region}
 use Rattle.cam_gerber.specs.declared.running.Running.{Running}
 use Rattle.cam_gerber.specs.Statements.{Statement, Says}
-use Rattle.cam_gerber.specs.State.{Past, mode_in, point_in, centre_of, code_of, in_region}
+use Rattle.cam_gerber.specs.State.{Past, mode_in, point_in, arc_centre, code_of, in_region}
 use Rattle.cam_gerber.specs.Homes.{Home, InBlock, InRepeat, InLayer, Opened, home, is_same_home, open_blocks, open_repeat}
-use Rattle.cam_gerber.specs.Making.{segment, segments_in, region_in, made, made_at, objects_of, IsMaker}
-use Rattle.cam_gerber.specs.Faults.{command_faults, operated_faults, is_full, is_on_board, holds_of_one}
+use Rattle.cam_gerber.specs.Making.{segment, segments_in, region_ended, made, made_at, home_objects, IsMaker}
+use Rattle.cam_gerber.specs.Faults.{command_faults, operated_faults, is_full, holds_of_one}
+use Rattle.cam_objects.specs.Soundness.{is_on_board}
 use Rattle.cam_gerber.specs.Machinery.Tracking.{Tracks, Answers, Ended, TracksModal, TracksFrames, TracksBuilt}
 use Rattle.cam_gerber.specs.Machinery.Tracking.{TracksPlaces, IsOperated, mode_by, moved_point, centre_by}
 use Rattle.cam_gerber.specs.Machinery.Tracking.{path_faults_by, block_of, repeat_of}
@@ -41,10 +42,10 @@ none_at h past says none =
     elim (is_same_home (home past) h) as (λ b. cond {A = List Object} b (made past says) [] ≡ []) [ true ↦ none | false ↦ refl ]
 
 module _ (past : Past) (says : Statement) (j : Joins past says) (none : made past says ≡ []) where
-  objects_stay : (h : Home) → objects_of h (says ∷ past) ≡ objects_of h past
-  objects_stay h = j.objects h ∙ ap (λ all. objects_of h past ++ all) (none_at h past says none) ∙ append-nil _
+  objects_stay : (h : Home) → home_objects h (says ∷ past) ≡ home_objects h past
+  objects_stay h = j.objects h ∙ ap (λ all. home_objects h past ++ all) (none_at h past says none) ∙ append-nil _
 
-  leaves_stay : (h : Home) → leaves_of h (says ∷ past) ≡ leaves_of h past
+  leaves_stay : (h : Home) → home_leaves h (says ∷ past) ≡ home_leaves h past
   leaves_stay h = omega (arith, j.leaves h, ap (block_count (weight_in (entries_in past))) (none_at h past says none))
 
   blocks_stay : (numbers : List ℕ) → map (block_of past) numbers ≡ map (block_of (says ∷ past)) numbers
@@ -86,24 +87,24 @@ nothing_made past says r maker none t = record {
 }
 
 segment_checks : (past : Past) (operation : Operation) (m : Modal) → TracksModal past m
-    → first (operated_faults Plot true past operation)
-    ≡ first (path_faults_by m operation ++ (TooMuch, nat_le 1000000 (length (segments_in past))) ∷ [])
+    → first_holding (operated_faults Plot true past operation)
+    ≡ first_holding (path_faults_by m operation ++ (TooMuch, nat_le 1000000 (length (segments_in past))) ∷ [])
 segment_checks past operation m t =
-    ap (λ checks. first (checks ++ (TooMuch, nat_le 1000000 (length (segments_in past))) ∷ [])) (sym (plot_same past m operation t))
+    ap (λ checks. first_holding (checks ++ (TooMuch, nat_le 1000000 (length (segments_in past))) ∷ [])) (sym (plot_same past m operation t))
 
 -- a segment of a region joins the contour
 pub segment_tracks : (past : Past) (operation : Operation) (old : Running) (region : Region) (m : Modal) (seg : Seg)
     → Tracks past old → in_region past ≡ true → code_of operation ≡ Plot
-    → first (path_faults_by old.modal operation) ≡ None → nat_le 1000000 (length old.region.segs.items) ≡ false
+    → first_holding (path_faults_by old.modal operation) ≡ None → nat_le 1000000 (length old.region.segs.items) ≡ false
     → seg ≡ segment (mode_by old.modal operation) (moved_point old.modal operation) (centre_by old.modal operation)
     → region.inside ≡ old.region.inside → region.start ≡ old.region.start → region.segs.items ≡ old.region.segs.items ++ seg ∷ []
     → IsOperated old.modal operation (end_of seg) m
-    → (first (operated_faults Plot true past operation) ≡ None)
+    → (first_holding (operated_faults Plot true past operation) ≡ None)
     × Tracks (Says (Operate operation) ∷ past) (record old { modal = m; region = region })
 segment_tracks past operation old region m seg t inside plots path few seg_is inside_is start_is segs_is done =
     let now = Says (Operate operation) ∷ past in
     let room : nat_le 1000000 (length (segments_in past)) ≡ false = ap (λ segs. nat_le 1000000 (length segs)) (sym t.region.segs) ∙ few in
-    let same : seg ≡ segment (mode_in now) (point_in now) (centre_of past operation) =
+    let same : seg ≡ segment (mode_in now) (point_in now) (arc_centre past operation) =
     seg_is ∙ ap (λ mode. segment mode (moved_point old.modal operation) (centre_by old.modal operation))
     (mode_same past old.modal operation t.modal)
     ∙ ap₂ (λ to centre. segment (mode_in now) to centre) (point_same past old.modal operation t.modal)
@@ -127,15 +128,15 @@ segment_tracks past operation old region m seg t inside plots path few seg_is in
     )
 
 pub segment_told : (past : Past) (operation : Operation) (m : Modal) (refusal : Refusal) → TracksModal past m
-    → first (path_faults_by m operation) ≡ Some refusal
-    → first (operated_faults Plot true past operation) ≡ Some refusal
+    → first_holding (path_faults_by m operation) ≡ Some refusal
+    → first_holding (operated_faults Plot true past operation) ≡ Some refusal
 segment_told past operation m refusal t path =
     segment_checks past operation m t
     ∙ told_before (path_faults_by m operation) ((TooMuch, nat_le 1000000 (length (segments_in past))) ∷ []) refusal path
 
 pub segment_full : (past : Past) (operation : Operation) (old : Running) → Tracks past old
-    → first (path_faults_by old.modal operation) ≡ None → nat_le 1000000 (length old.region.segs.items) ≡ true
-    → first (operated_faults Plot true past operation) ≡ Some TooMuch
+    → first_holding (path_faults_by old.modal operation) ≡ None → nat_le 1000000 (length old.region.segs.items) ≡ true
+    → first_holding (operated_faults Plot true past operation) ≡ Some TooMuch
 segment_full past operation old t path full =
     let room : nat_le 1000000 (length (segments_in past)) ≡ true = ap (λ segs. nat_le 1000000 (length segs)) (sym t.region.segs) ∙ full in
     segment_checks past operation old.modal t.modal
@@ -144,20 +145,20 @@ segment_full past operation old t path full =
 -- ---- a contour ends
 
 -- a refusal for some checks is one for others that tell the same
-pub refused_alike : (stop : Stop) (a b : Checks Refusal) (P Q : Type 0) → first a ≡ first b → Answers (Err stop) a P → Answers (Err stop) b Q
+pub refused_alike : (stop : Stop) (a b : Checks Refusal) (P Q : Type 0) → first_holding a ≡ first_holding b → Answers (Err stop) a P → Answers (Err stop) b Q
 refused_alike Memory a b P Q e h = tt
 refused_alike (Fault code) a b P Q e h = sym e ∙ h
 
 pub next_checks : (past : Past) (operation : Operation) (old : Running) → Tracks past old
     → is_on_board (moved_point old.modal operation) ≡ true
-    → first ((TooMuch, holds_of_one (is_full (home past) past) (region_in past)) ∷ []) ≡ first (operated_faults Move true past operation)
+    → first_holding ((TooMuch, holds_of_one (is_full (home past) past) (region_ended past)) ∷ []) ≡ first_holding (operated_faults Move true past operation)
 next_checks past operation old t on =
     let fine : is_on_board (point_in (Says (Operate operation) ∷ past)) ≡ true =
     ap is_on_board (sym (point_same past old.modal operation t.modal)) ∙ on in
     sym (rw fine refl)
 
 pub next_made : (past : Past) (operation : Operation) → in_region past ≡ true → code_of operation ≡ Move
-    → made past (Says (Operate operation)) ≡ region_in past
+    → made past (Says (Operate operation)) ≡ region_ended past
 next_made past operation inside moves = rw (moves, inside) refl
 
 pub next_tracks : (past : Past) (operation : Operation) (old kept : Running) (to : Point) (m : Modal) → Tracks past old
@@ -198,7 +199,7 @@ closed_tracks past old kept t ended = record {
 }
 
 pub closed_checks : (past : Past) (old : Running) → Tracks past old → old.region.inside ≡ true
-    → first ((TooMuch, holds_of_one (is_full (home past) past) (region_in past)) ∷ []) ≡ first (command_faults past EndRegion)
+    → first_holding ((TooMuch, holds_of_one (is_full (home past) past) (region_ended past)) ∷ []) ≡ first_holding (command_faults past EndRegion)
 closed_checks past old t inside =
     let fine : in_region past ≡ true = sym t.region.inside ∙ inside in
     sym (rw fine refl)

@@ -14,19 +14,20 @@ use Rattle.cam_words.specs.Bytes.{is_skipped}
 use Rattle.cam_words.specs.Heads.{packed}
 use Rattle.cam_macros.specs.declared.aperture_macro.Macro.{Macro}
 use Rattle.cam_apertures.specs.declared.aperture.Aperture.{Aperture}
-use Rattle.cam_apertures.specs.Definition.{definition, definition_of, named, numbered, faults_of, IsDefined}
+use Rattle.cam_apertures.specs.Definition.{definition, template_form, named, numbered, faults_of, IsDefined}
 use Rattle.cam_apertures.specs.declared.fault.AdFault.{AdFault}
 use Rattle.cam_apertures.specs.declared.fault.AdFault.TheVariants.{OutOfMemory}
-use Rattle.cam_apertures.specs.Faults.{refusal_of}
+use Rattle.cam_apertures.specs.Faults.{aperture_refusal}
 use Rattle.cam_objects.specs.declared.entry.Entry.{Entry}
 use Rattle.cam_objects.specs.declared.entry.Entry.TheVariants as entry
-use Rattle.cam_gerber.specs.State.{Past, unit_in, unit_or_mm, in_region}
+use Rattle.cam_gerber.specs.State.{Past, unit_in, in_region}
+use Rattle.cam_units.specs.Nearest.{unit_or_mm}
 use Rattle.cam_gerber.specs.Layers.{macros_in, entries_in, defined, defined_by}
 use Rattle.cam_gerber.specs.Faults.{faults, command_faults, is_reserved, is_taken_again, is_defined}
 use Rattle.cam_gerber.specs.Statements.{Says, NamesMacro, IsMacroOf}
 use Rattle.std.specs.List.{slice_split, onto_first, before_first}
 use Rattle.cam_macros.specs.declared.part.Part.{Part}
-use Rattle.cam_macros.specs.Reading.{pieces, first, others, spoken, is_name, AreParts, IsReading, IsRefused}
+use Rattle.cam_macros.specs.Reading.{pieces, first, others, parts_spoken, is_macro_name, AreParts, IsMacroReading, IsMacroRefused}
 use Rattle.cam_macros.specs.declared.fault.MacroFault.{MacroFault}
 use Rattle.cam_macros.specs.declared.fault.MacroFault.TheVariants as macro
 use Rattle.cam_commands.specs.Commands.{DefineAperture}
@@ -50,19 +51,19 @@ packed_again (byte ∷ text) =
       | false ↦ λ e. packed_again text
     ]) refl
 
-pub same_definition : (text : List ℕ) → definition_of (packed text) ≡ definition_of text
+pub same_definition : (text : List ℕ) → template_form (packed text) ≡ template_form text
 same_definition text = ap definition (packed_again text)
 
 pub defined_number_is : (text : List ℕ) (macros : List Macro) (unit : FileUnit) (n : ℕ) (a : Aperture)
-    → IsDefined text macros unit n a → numbered (definition_of text) ≡ Some n
+    → IsDefined text macros unit n a → numbered (template_form text) ≡ Some n
 defined_number_is text macros unit n a d = ap numbered d.form ∙ d.number_is
 
 pub defined_entry : (text : List ℕ) (macros : List Macro) (unit : FileUnit) (n : ℕ) (a : Aperture) → IsDefined text macros unit n a
-    → defined_by (definition_of text) macros unit ≡ (n, entry.Aperture a) ∷ []
+    → defined_by (template_form text) macros unit ≡ (n, entry.Aperture a) ∷ []
 defined_entry text macros unit n a d = rw (d.form, d.number_is, d.values_are, d.aperture_is) refl
 
 pub faultless_definition : (text : List ℕ) (macros : List Macro) (unit : FileUnit) (n : ℕ) (a : Aperture) → IsDefined text macros unit n a
-    → least number_of (faults_of (definition_of text) macros unit) ≡ None
+    → least number_of (faults_of (template_form text) macros unit) ≡ None
 faultless_definition text macros unit n a d = least_none _ d.faultless
 
 -- what a definition is refused for, beside its own faults
@@ -71,14 +72,14 @@ with_state past number checks = (NoUnit, is_none (unit_in past)) ∷ (Redefined,
 
 pub definition_faults : (past : Past) (text : List ℕ) (macros : List Macro) (unit : FileUnit) (number : Option ℕ) (told result : Option Refusal)
     → macros ≡ macros_in past → unit ≡ unit_or_mm (unit_in past)
-    → number ≡ numbered (definition_of text)
+    → number ≡ numbered (template_form text)
     → ((checks : Checks Refusal) → told ≡ least number_of checks → result ≡ least number_of (with_state past number checks))
-    → told ≡ least number_of (faults_of (definition_of text) macros unit)
+    → told ≡ least number_of (faults_of (template_form text) macros unit)
     → result ≡ least number_of (command_faults past (DefineAperture (packed text)))
 definition_faults past text macros unit number told result m u n lowest e =
-    lowest (faults_of (definition_of text) macros unit) e
-    ∙ ap (λ k. least number_of (with_state past k (faults_of (definition_of text) macros unit))) n
-    ∙ ap₂ (λ ms v. least number_of (with_state past (numbered (definition_of text)) (faults_of (definition_of text) ms v))) m u
+    lowest (faults_of (template_form text) macros unit) e
+    ∙ ap (λ k. least number_of (with_state past k (faults_of (template_form text) macros unit))) n
+    ∙ ap₂ (λ ms v. least number_of (with_state past (numbered (template_form text)) (faults_of (template_form text) ms v))) m u
     ∙ ap (λ d. least number_of (with_state past (numbered d) (faults_of d (macros_in past) (unit_or_mm (unit_in past))))) (sym (same_definition text))
 
 -- a definition's own fault makes one of the command
@@ -132,10 +133,10 @@ defined_tracks past text old unit n a layer t u d entries items = record {
   where
     made : defined past (packed text) ≡ (n, entry.Aperture a) ∷ []
     made = ap (λ d. defined_by d (macros_in past) (unit_or_mm (unit_in past))) (same_definition text)
-        ∙ ap₂ (λ ms v. defined_by (definition_of text) ms v) (sym t.built.macros) (sym u) ∙ defined_entry text old.built.macros unit n a d
+        ∙ ap₂ (λ ms v. defined_by (template_form text) ms v) (sym t.built.macros) (sym u) ∙ defined_entry text old.built.macros unit n a d
 
 -- a refusal that is not of memory
-pub meant : (fault : AdFault) (P : Type 0) → (fault ≡ OutOfMemory → ⊥) → UnlessMemory (refusal_of fault) P → P
+pub meant : (fault : AdFault) (P : Type 0) → (fault ≡ OutOfMemory → ⊥) → UnlessMemory (aperture_refusal fault) P → P
 meant OutOfMemory P other h = absurd (other refl)
 meant _ P other h = h
 
@@ -145,40 +146,40 @@ same_pieces : (text : List ℕ) → pieces (packed text) ≡ pieces text
 same_pieces text = ap (slice_split (λ b. b == 42)) (packed_again text)
 
 -- a text and the same without the bytes that do not count stand for the same macros
-to_packed : (text name : List ℕ) (parts : List Part) → IsReading text name parts → IsReading (packed text) name parts
+to_packed : (text name : List ℕ) (parts : List Part) → IsMacroReading text name parts → IsMacroReading (packed text) name parts
 to_packed text name parts r = record {
   name_is = r.name_is ∙ ap first (sym (same_pieces text));
   named = r.named;
-  parts_are = subst (λ ps. AreParts (spoken (others ps)) parts) (sym (same_pieces text)) r.parts_are;
+  parts_are = subst (λ ps. AreParts (parts_spoken (others ps)) parts) (sym (same_pieces text)) r.parts_are;
 }
 
-from_packed : (text name : List ℕ) (parts : List Part) → IsReading (packed text) name parts → IsReading text name parts
+from_packed : (text name : List ℕ) (parts : List Part) → IsMacroReading (packed text) name parts → IsMacroReading text name parts
 from_packed text name parts r = record {
   name_is = r.name_is ∙ ap first (same_pieces text);
   named = r.named;
-  parts_are = subst (λ ps. AreParts (spoken (others ps)) parts) (same_pieces text) r.parts_are;
+  parts_are = subst (λ ps. AreParts (parts_spoken (others ps)) parts) (same_pieces text) r.parts_are;
 }
 
 -- what a macro's text says
-pub said_macro : (text name : List ℕ) (parts : List Part) → IsReading text name parts
+pub said_macro : (text name : List ℕ) (parts : List Part) → IsMacroReading text name parts
     → IsMacroOf (packed text) (NamesMacro name (Some parts))
 said_macro text name parts r = (r.name_is ∙ ap first (sym (same_pieces text)), to_packed text name parts r)
 
-pub said_none : (text : List ℕ) → ((parts : List Part) → ¬ IsReading text (first (pieces text)) parts)
+pub said_none : (text : List ℕ) → ((parts : List Part) → ¬ IsMacroReading text (first (pieces text)) parts)
     → IsMacroOf (packed text) (NamesMacro (first (pieces text)) None)
 said_none text none = (ap first (sym (same_pieces text)), λ parts r. none parts (from_packed text (first (pieces text)) parts r))
 
 module _ (past : Past) (name : List ℕ) (parts : Option (List Part)) (macros : List Macro) (m : macros ≡ macros_in past) where
-  told : least number_of (faults past (NamesMacro name parts)) ≡ of_checks.first (faults past (NamesMacro name parts))
+  told : least number_of (faults past (NamesMacro name parts)) ≡ of_checks.first_holding (faults past (NamesMacro name parts))
   told = least_is_first 1 (faults past (NamesMacro name parts)) refl
 
   same_taken : (is_some (named (macros_in past) name) || is_reserved name) ≡ (is_some (named macros name) || is_reserved name)
   same_taken = ap (λ ms. is_some (named ms name) || is_reserved name) (sym m)
 
-  pub refused_name : is_name name ≡ false → least number_of (faults past (NamesMacro name parts)) ≡ Some UnknownCommand
+  pub refused_name : is_macro_name name ≡ false → least number_of (faults past (NamesMacro name parts)) ≡ Some UnknownCommand
   refused_name h = told ∙ rw h refl
 
-  module _ (h : is_name name ≡ true) where
+  module _ (h : is_macro_name name ≡ true) where
     pub refused_again : (is_some (named macros name) || is_reserved name) ≡ true
         → least number_of (faults past (NamesMacro name parts)) ≡ Some Redefined
     refused_again k = told ∙ rw (h, same_taken ∙ k) refl
@@ -223,14 +224,14 @@ macro_tracks past old made macros t e = record {
   attributes = t.attributes;
 }
 
-pub bad_parts : (text : List ℕ) (fault : MacroFault) → fault ≡ macro.Malformed → IsRefused text fault
-    → (is_name (first (pieces text)) ≡ true) × ((parts : List Part) → ¬ IsReading text (first (pieces text)) parts)
-bad_parts text fault e h = let r = subst (IsRefused text) e h in (r.0, λ parts. r.1 (first (pieces text)) parts)
+pub bad_parts : (text : List ℕ) (fault : MacroFault) → fault ≡ macro.Malformed → IsMacroRefused text fault
+    → (is_macro_name (first (pieces text)) ≡ true) × ((parts : List Part) → ¬ IsMacroReading text (first (pieces text)) parts)
+bad_parts text fault e h = let r = subst (IsMacroRefused text) e h in (r.0, λ parts. r.1 (first (pieces text)) parts)
 
-pub bad_name : (text : List ℕ) (fault : MacroFault) → fault ≡ macro.BadName → IsRefused text fault → is_name (first (pieces text)) ≡ false
-bad_name text fault e h = subst (IsRefused text) e h
+pub bad_name : (text : List ℕ) (fault : MacroFault) → fault ≡ macro.BadName → IsMacroRefused text fault → is_macro_name (first (pieces text)) ≡ false
+bad_name text fault e h = subst (IsMacroRefused text) e h
 
-pub no_name : (text : List ℕ) → is_name (first (pieces text)) ≡ false → (parts : List Part) → ¬ IsReading text (first (pieces text)) parts
+pub no_name : (text : List ℕ) → is_macro_name (first (pieces text)) ≡ false → (parts : List Part) → ¬ IsMacroReading text (first (pieces text)) parts
 no_name text h parts r = let wrong : true ≡ false = sym r.named ∙ h in cc
 
 first_onto : (x : ℕ) (ps : List (List ℕ)) → first (onto_first x ps) ≡ x ∷ first ps

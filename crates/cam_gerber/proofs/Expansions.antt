@@ -13,10 +13,10 @@ use Rattle.cam_macros.specs.declared.fault.MacroFault.{MacroFault}
 use Rattle.cam_macros.specs.declared.fault.MacroFault.TheVariants.{Malformed, RotationRefused, SizeRefused, OutOfMemory}
 use Rattle.cam_macros.specs.Numbers.{billion}
 use Rattle.cam_macros.specs.Tree.{Tree}
-use Rattle.cam_macros.specs.Arithmetic.{Values, parameter, value_of}
-use Rattle.cam_macros.specs.Expansion.{◌>>=◌, worth, all_worth, paint_of, rotation, turn_of, size, size_of}
-use Rattle.cam_macros.specs.Expansion.{coordinate_of, point_of, points_of, disc_of, bar_of, rect_of, count_of}
-use Rattle.cam_macros.specs.Expansion.{outline_of, shape_of, primitive_of, outcome, values_after, expansion}
+use Rattle.cam_macros.specs.Arithmetic.{Values, parameter, tree_value}
+use Rattle.cam_macros.specs.Expansion.{◌>>=◌, worth, all_worth, paint_of, rotation, rotation_field, size, size_of}
+use Rattle.cam_macros.specs.Expansion.{coordinate_of, point_of, outline_points, disc_of, bar_of, rect_of, count_of}
+use Rattle.cam_macros.specs.Expansion.{outline_made, primitive_made, primitive_of, outcome, values_after, expansion}
 use Rattle.cam_macros.specs.Expansion.{expansion_of}
 
 -- not for want of memory
@@ -37,7 +37,7 @@ either true x y h k = h
 either false x y h k = k
 
 worths : (values : Values) (tree : Tree) → MayBe (worth values tree)
-worths values tree = go (value_of values tree)
+worths values tree = go (tree_value values tree)
   where
     go : (o : Option ℤ) → MayBe (ok_or o Malformed)
     go None = tt
@@ -56,7 +56,7 @@ rotations : (z : ℤ) → MayBe (rotation z)
 rotations (pos n) = either (n % 90000000000 == 0) _ (Err RotationRefused) tt tt
 rotations (negsuc n) = either (suc n % 90000000000 == 0) _ (Err RotationRefused) tt tt
 
-turns : (values : List ℤ) → MayBe (turn_of values)
+turns : (values : List ℤ) → MayBe (rotation_field values)
 turns (v ∷ []) = rotations v
 turns _ = tt
 
@@ -69,28 +69,28 @@ points unit turn x y =
     bound (coordinate_of unit x) _ (either (nat_le (unsigned_abs (fix9_of x unit)) size_limit) _ (Err SizeRefused) tt tt)
     λ a. bound (coordinate_of unit y) _ (either (nat_le (unsigned_abs (fix9_of y unit)) size_limit) _ (Err SizeRefused) tt tt) λ b. tt
 
-all_points : (unit : FileUnit) (turn : Turn) (values : List ℤ) → MayBe (points_of unit turn values)
+all_points : (unit : FileUnit) (turn : Turn) (values : List ℤ) → MayBe (outline_points unit turn values)
 all_points unit turn [] = tt
 all_points unit turn (x ∷ []) = tt
 all_points unit turn (x ∷ y ∷ more) =
-    bound (point_of unit turn x y) _ (points unit turn x y) λ p. bound (points_of unit turn more) _ (all_points unit turn more) λ ps. tt
+    bound (point_of unit turn x y) _ (points unit turn x y) λ p. bound (outline_points unit turn more) _ (all_points unit turn more) λ ps. tt
 
 discs : (unit : FileUnit) (values : List ℤ) → MayBe (disc_of unit values)
 discs unit (e ∷ d ∷ x ∷ y ∷ more) =
-    bound (paint_of e) _ (paints e) λ paint. bound (turn_of more) _ (turns more) λ turn.
+    bound (paint_of e) _ (paints e) λ paint. bound (rotation_field more) _ (turns more) λ turn.
     bound (size_of unit d) _ (sizes (fix9_of d unit)) λ diameter. bound (point_of unit turn x y) _ (points unit turn x y) λ centre. tt
 discs unit _ = tt
 
 bars : (unit : FileUnit) (values : List ℤ) → MayBe (bar_of unit values)
 bars unit (e ∷ w ∷ x1 ∷ y1 ∷ x2 ∷ y2 ∷ more) =
-    bound (paint_of e) _ (paints e) λ paint. bound (turn_of more) _ (turns more) λ turn.
+    bound (paint_of e) _ (paints e) λ paint. bound (rotation_field more) _ (turns more) λ turn.
     bound (size_of unit w) _ (sizes (fix9_of w unit)) λ width. bound (point_of unit turn x1 y1) _ (points unit turn x1 y1) λ from.
     bound (point_of unit turn x2 y2) _ (points unit turn x2 y2) λ to. tt
 bars unit _ = tt
 
 rects : (unit : FileUnit) (values : List ℤ) → MayBe (rect_of unit values)
 rects unit (e ∷ w ∷ h ∷ x ∷ y ∷ more) =
-    bound (paint_of e) _ (paints e) λ paint. bound (turn_of more) _ (turns more) λ turn.
+    bound (paint_of e) _ (paints e) λ paint. bound (rotation_field more) _ (turns more) λ turn.
     bound (size_of unit w) _ (sizes (fix9_of w unit)) λ width. bound (size_of unit h) _ (sizes (fix9_of h unit)) λ height.
     bound (point_of unit turn x y) _ (points unit turn x y) λ centre. tt
 rects unit _ = tt
@@ -99,12 +99,12 @@ counts : (z : ℤ) → MayBe (count_of z)
 counts (pos n) = either ((n % billion == 0) && (nat_lt 0 n && nat_le n (5000 * billion))) _ (Err Malformed) tt tt
 counts (negsuc n) = tt
 
-outlines : (unit : FileUnit) (values : List ℤ) → MayBe (outline_of unit values)
+outlines : (unit : FileUnit) (values : List ℤ) → MayBe (outline_made unit values)
 outlines unit (e ∷ n ∷ more) =
     bound (paint_of e) _ (paints e) λ paint. bound (count_of n) _ (counts n) λ count.
     either (nat_lt (length more) (2 * count + 2)) (Err Malformed) _ tt
-    (bound (turn_of (drop (2 * count + 2) more)) _ (turns (drop (2 * count + 2) more)) λ turn.
-    bound (points_of unit turn (take (2 * count) more)) _ (all_points unit turn (take (2 * count) more)) λ ps. tt)
+    (bound (rotation_field (drop (2 * count + 2) more)) _ (turns (drop (2 * count + 2) more)) λ turn.
+    bound (outline_points unit turn (take (2 * count) more)) _ (all_points unit turn (take (2 * count) more)) λ ps. tt)
 outlines unit _ = tt
 
 abbrev Maker : Type 0
@@ -121,17 +121,17 @@ chosen : (b : Bool) (x y : Option Maker) → IsMaker x → IsMaker y → IsMaker
 chosen true x y h k = h
 chosen false x y h k = k
 
-shapes : (code : ℕ) → IsMaker (shape_of code)
+shapes : (code : ℕ) → IsMaker (primitive_made code)
 shapes code =
     chosen (code == 1) (Some disc_of) _ (maker disc_of discs)
     (chosen ((code == 2) || (code == 20)) (Some bar_of) _ (maker bar_of bars)
     (chosen (code == 21) (Some rect_of) _ (maker rect_of rects)
-    (chosen (code == 4) (Some outline_of) None (maker outline_of outlines) (record { makes = λ unit values fields. tt }))))
+    (chosen (code == 4) (Some outline_made) None (maker outline_made outlines) (record { makes = λ unit values fields. tt }))))
 
 outcomes : (unit : FileUnit) (values : Values) (part : Part) → MayBe (outcome unit values part)
 outcomes unit values (Assignment variable value) = bound (worth values value) _ (worths values value) λ v. tt
 outcomes unit values (Primitive code fields) =
-    bound (primitive_of (shape_of code) unit values fields) _ ((shapes code).makes unit values fields) λ made. tt
+    bound (primitive_of (primitive_made code) unit values fields) _ ((shapes code).makes unit values fields) λ made. tt
 
 expands : (unit : FileUnit) (values : Values) (parts : List Part) → MayBe (expansion unit values parts)
 expands unit values [] = tt

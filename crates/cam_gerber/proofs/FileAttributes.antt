@@ -16,7 +16,7 @@ use Rattle.cam_commands.specs.Commands.{KeepText}
 use Rattle.cam_gerber.specs.declared.running.Running.{Running}
 use Rattle.cam_gerber.specs.Statements.{Says}
 use Rattle.cam_gerber.specs.State.{Past, newest}
-use Rattle.cam_gerber.specs.Attributes.{SetsItsAttribute, attributes_in, fields_of, fields_told, name_of, names_in, with_name}
+use Rattle.cam_gerber.specs.Attributes.{SetsItsAttribute, attributes_in, attribute_fields, fields_told, attribute_name, names_in, with_name}
 use Rattle.cam_gerber.specs.Machinery.Tracking.{Tracks}
 
 -- ---- no name stands twice
@@ -29,7 +29,7 @@ with_name_distinct name names h = by (list_any (bytes_eq name) names) refl where
 
 distinct_names : (past : Past) → IsDistinct bytes_eq (names_in past)
 distinct_names [] = IsDistinct-from_apart bytes_eq [] (λ i j d low high. absurd (omega arith))
-distinct_names (Says (KeepText FileAttribute text) ∷ older) = with_name_distinct (name_of text) (names_in older) (distinct_names older)
+distinct_names (Says (KeepText FileAttribute text) ∷ older) = with_name_distinct (attribute_name text) (names_in older) (distinct_names older)
 distinct_names (_ ∷ older) = distinct_names older
 
 -- ---- one more command
@@ -81,12 +81,12 @@ module _ (n0 f0 : List ℕ) (o : List ℕ → Option (List ℕ)) where
 
 pub sets_its_attribute : SetsItsAttribute
 sets_its_attribute past text =
-    setting (name_of text) (fields_of text) (λ n. newest (fields_told n) past) (names_in past) (distinct_names past)
+    setting (attribute_name text) (attribute_fields text) (λ n. newest (fields_told n) past) (names_in past) (distinct_names past)
 
 -- ---- the record follows
 
 pub set_tracks : (past : Past) (text : List ℕ) (old : Running) (attributes : List Attribute) → Tracks past old
-    → attributes ≡ with_attribute (attribute_of (name_of text) (fields_of text)) old.attributes
+    → attributes ≡ with_attribute (attribute_of (attribute_name text) (attribute_fields text)) old.attributes
     → Tracks (Says (KeepText FileAttribute text) ∷ past) (record old { attributes = attributes })
 set_tracks past text old attributes t e = record {
   modal = record {
@@ -105,14 +105,14 @@ set_tracks past text old attributes t e = record {
   frames = record { blocks = t.frames.blocks; repeat = t.frames.repeat };
   built = record { entries = t.built.entries; items = t.built.items; macros = t.built.macros; leaves = t.built.leaves };
   attributes =
-      e ∙ ap (with_attribute (attribute_of (name_of text) (fields_of text))) t.attributes ∙ sym (sets_its_attribute past text);
+      e ∙ ap (with_attribute (attribute_of (attribute_name text) (attribute_fields text))) t.attributes ∙ sym (sets_its_attribute past text);
 }
 
 -- how many names there are
 pub names_counted : (past : Past) (text : List ℕ) (attributes : List Attribute) → attributes ≡ attributes_in past
-    → nat_lt 1000 (length (with_attribute (attribute_of (name_of text) (fields_of text)) attributes))
+    → nat_lt 1000 (length (with_attribute (attribute_of (attribute_name text) (attribute_fields text)) attributes))
     ≡ nat_lt 1000 (length (names_in (Says (KeepText FileAttribute text) ∷ past)))
 names_counted past text attributes e =
     ap (λ (xs : List Attribute). nat_lt 1000 (length xs))
-    (ap (with_attribute (attribute_of (name_of text) (fields_of text))) e ∙ sym (sets_its_attribute past text))
+    (ap (with_attribute (attribute_of (attribute_name text) (attribute_fields text))) e ∙ sym (sets_its_attribute past text))
     ∙ ap (nat_lt 1000) (length-map (names_in (Says (KeepText FileAttribute text) ∷ past)) _)

@@ -17,14 +17,14 @@ use Rattle.cam_objects.specs.declared.item_fault.ItemFault.{ItemFault}
 use Rattle.cam_objects.specs.declared.object.Object.{Object}
 use Rattle.cam_objects.specs.declared.object.Object.TheVariants as object
 use Rattle.cam_objects.specs.Leaves.{Meaning, Stamp, flashed, item_leaves, leaf, meaning_in, origin, placed}
-use Rattle.cam_objects.specs.Soundness.{item_checks}
+use Rattle.cam_objects.specs.Soundness.{item_checks, is_on_board}
 use Rattle.cam_objects.proofs.SoundItems.{HasNumber}
-use Rattle.cam_refusals.specs.Checks.{answer_of, first}
+use Rattle.cam_refusals.specs.Checks.{answer_of, first_holding}
 use Rattle.cam_gerber.specs.declared.running.Running.{Running}
 use Rattle.cam_gerber.specs.State.{Past}
 use Rattle.cam_gerber.specs.Homes.{Opened, home, home_by, open_blocks, open_repeat}
 use Rattle.cam_gerber.specs.Layers.{entries_in}
-use Rattle.cam_gerber.specs.Faults.{are_on_board, is_empty, is_on_board, is_outside, is_outside_at}
+use Rattle.cam_gerber.specs.Faults.{are_leaves_on_board, is_left_out, is_outside, is_outside_at}
 use Rattle.cam_gerber.specs.Machinery.Tracking.{HasPast, TracksPlaces, Weighs, block_of, repeat_of}
 use Rattle.cam_gerber.specs.Machinery.WellMade.{IsOfAperture, IsWellMade, NamesAperture, is_of_board}
 use Rattle.cam_gerber.proofs.Outside.{on_board, outside_is, passes_board, told_outside}
@@ -34,7 +34,7 @@ use Rattle.cam_gerber.proofs.SoundJoining.{sound_past}
 
 -- ---- what is judged at once
 
-empty_map : (past : Past) (numbers : List ℕ) → is_empty (map (block_of past) numbers) ≡ is_empty numbers
+empty_map : (past : Past) (numbers : List ℕ) → is_left_out (map (block_of past) numbers) ≡ is_left_out numbers
 empty_map past [] = refl
 empty_map past (n ∷ outer) = refl
 
@@ -43,25 +43,25 @@ some_map past None = refl
 some_map past (Some o) = refl
 
 in_repeat : (past : Past) (r : Running) → TracksPlaces past r
-    → (is_empty r.frames.blocks.items && is_some r.frames.repeat) ≡ (is_empty (open_blocks past) && is_some (open_repeat past))
+    → (is_left_out r.frames.blocks.items && is_some r.frames.repeat) ≡ (is_left_out (open_blocks past) && is_some (open_repeat past))
 in_repeat past r t =
-    ap₂ (λ a b. a && b) (ap is_empty t.frames.blocks ∙ empty_map past (open_blocks past))
+    ap₂ (λ a b. a && b) (ap is_left_out t.frames.blocks ∙ empty_map past (open_blocks past))
     (ap is_some t.frames.repeat ∙ some_map past (open_repeat past))
 
 judged : (past : Past) (blocks : List ℕ) (repeat : Option Opened) (o : Object)
-    → is_outside_at (home_by blocks repeat) past o ≡ (not (is_empty blocks && is_some repeat) && is_outside past (One o))
+    → is_outside_at (home_by blocks repeat) past o ≡ (not (is_left_out blocks && is_some repeat) && is_outside past (One o))
 judged past (n ∷ outer) repeat o = refl
 judged past [] None o = refl
 judged past [] (Some opened) o = refl
 
 pub judged_later : (past : Past) (r : Running) (o : Object) → TracksPlaces past r
-    → (is_empty r.frames.blocks.items && is_some r.frames.repeat) ≡ true → false ≡ is_outside_at (home past) past o
+    → (is_left_out r.frames.blocks.items && is_some r.frames.repeat) ≡ true → false ≡ is_outside_at (home past) past o
 judged_later past r o t e =
     sym (judged past (open_blocks past) (open_repeat past) o ∙ ap (λ b. not b && is_outside past (One o)) (sym (in_repeat past r t) ∙ e))
 
 pub judged_now : (past : Past) (r : Running) (o : Object) (check : Result (Unit {0}) ItemFault) → TracksPlaces past r
-    → (is_empty r.frames.blocks.items && is_some r.frames.repeat) ≡ false
-    → IsWellMade r.built.layer.apertures o → check ≡ answer_of (first (item_checks r.built.layer.apertures (One o)))
+    → (is_left_out r.frames.blocks.items && is_some r.frames.repeat) ≡ false
+    → IsWellMade r.built.layer.apertures o → check ≡ answer_of (first_holding (item_checks r.built.layer.apertures (One o)))
     → is_of_board check ≡ is_outside_at (home past) past o
 judged_now past r o check t e well tells =
     told_outside r.built.layer.apertures (One o) check
@@ -71,17 +71,17 @@ judged_now past r o check t e well tells =
       objects =
           All-cons (IsWellMade r.built.layer.apertures) o [] well (All-nil (IsWellMade r.built.layer.apertures));
     }) tells
-    ∙ ap (λ es. not (are_on_board (item_leaves (meaning_in es) (One o)))) t.built.entries ∙ sym (outside_is past (One o))
+    ∙ ap (λ es. not (are_leaves_on_board (item_leaves (meaning_in es) (One o)))) t.built.entries ∙ sym (outside_is past (One o))
     ∙ sym (judged past (open_blocks past) (open_repeat past) o ∙ ap (λ b. not b && is_outside past (One o)) (sym (in_repeat past r t) ∙ e))
 
 pub judged_inside : (past : Past) (r : Running) (o : Object) → TracksPlaces past r
-    → are_on_board (item_leaves (meaning_in r.built.layer.apertures) (One o)) ≡ true → is_outside_at (home past) past o ≡ false
+    → are_leaves_on_board (item_leaves (meaning_in r.built.layer.apertures) (One o)) ≡ true → is_outside_at (home past) past o ≡ false
 judged_inside past r o t on =
     let inside : is_outside past (One o) ≡ false = outside_is past (One o)
-    ∙ ap (λ es. not (are_on_board (item_leaves (meaning_in es) (One o)))) (sym t.built.entries) ∙ ap not on in
+    ∙ ap (λ es. not (are_leaves_on_board (item_leaves (meaning_in es) (One o)))) (sym t.built.entries) ∙ ap not on in
     judged past (open_blocks past) (open_repeat past) o
-    ∙ ap (λ b. not (is_empty (open_blocks past) && is_some (open_repeat past)) && b) inside
-    ∙ none_holds (not (is_empty (open_blocks past) && is_some (open_repeat past)))
+    ∙ ap (λ b. not (is_left_out (open_blocks past) && is_some (open_repeat past)) && b) inside
+    ∙ none_holds (not (is_left_out (open_blocks past) && is_some (open_repeat past)))
   where
     none_holds : (b : Bool) → (b && false) ≡ false
     none_holds true = refl
@@ -105,10 +105,10 @@ weighs_nothing es n names =
     (slice_get_within es names.place (n, Aperture names.aperture) names.found) (omega arith)
 
 pub stamp_inside : (es : List (ℕ × Entry)) (o : Object) → IsOfAperture es o → IsWellMade es o
-    → are_on_board (item_leaves (meaning_in es) (One o)) ≡ true
+    → are_leaves_on_board (item_leaves (meaning_in es) (One o)) ≡ true
 stamp_inside es (object.Flash n at turn dark) names well =
     let there : is_on_board (placed origin at) ≡ true = passes_board (placed origin at) (stands at (All-head IsOnBoard at [] well.points)) in
-    ap are_on_board (means_stamp es n at turn dark names) ∙ rw there refl
+    ap are_leaves_on_board (means_stamp es n at turn dark names) ∙ rw there refl
 stamp_inside es (object.Draw n from to turn dark) names well = absurd names
 stamp_inside es (object.Arc ccw dark n from to centre) names well = absurd names
 stamp_inside es (object.Region contour dark) names well = absurd names

@@ -1,7 +1,7 @@
 -- A flash joins its home.
 use Rattle.std.proofs.Common.{◌≡◌, ℕ, [], ◌∷◌, true, false, Some, None, refl, sym, ap, ◌∙◌, subst}
 use Rattle.std.specs.Prelude.{is_none}
-use Rattle.cam_refusals.specs.Checks.{first}
+use Rattle.cam_refusals.specs.Checks.{first_holding}
 use Rattle.cam_units.specs.declared.point.Point.{Point}
 use Rattle.cam_objects.specs.declared.object.Object.{Object}
 use Rattle.cam_objects.specs.declared.object.Object.TheVariants as object
@@ -16,7 +16,8 @@ use Rattle.cam_gerber.specs.Statements.{Says}
 use Rattle.cam_gerber.specs.State.{Past, aperture_in, point_in, code_of, in_region}
 use Rattle.cam_gerber.specs.Homes.{home}
 use Rattle.cam_gerber.specs.Making.{flash_of, made}
-use Rattle.cam_gerber.specs.Faults.{operated_faults, is_full, is_on_board, is_outside_at}
+use Rattle.cam_gerber.specs.Faults.{operated_faults, is_full, is_outside_at}
+use Rattle.cam_objects.specs.Soundness.{is_on_board}
 use Rattle.cam_gerber.specs.Laws.{IsFaultless}
 use Rattle.cam_gerber.specs.Machinery.Tracking.{Tracks, TracksModal, TracksRegion, Keeps, IsOperated, moved_point}
 use Rattle.cam_gerber.proofs.Operated.{point_same, operated_tracks, contour_stays}
@@ -33,7 +34,7 @@ pub flash_tracks : (past : Past) (operation : Operation) (old kept : Running) (m
     → false ≡ is_outside_at (home past) past made_is → false ≡ is_full (home past) past made_is
     → leaves ≡ object_count (weight_in old.built.layer.apertures) made_is
     → Keeps made_is leaves old kept → IsOperated kept.modal operation at m
-    → (first (operated_faults Flash false past operation) ≡ None) × Tracks (Says (Operate operation) ∷ past) (record kept { modal = m })
+    → (first_holding (operated_faults Flash false past operation) ≡ None) × Tracks (Says (Operate operation) ∷ past) (record kept { modal = m })
 flash_tracks past operation old kept m n leaves at made_is none t out flashes a at_is on is inside room count keeps done =
     let same : made_is ≡ flash_of past operation = is ∙ flash_same past old.modal n operation at t.modal a at_is in
     let some : aperture_in past ≡ Some n = sym t.modal.aperture ∙ a in

@@ -15,8 +15,8 @@ use Rattle.cam_gerber.specs.declared.running.Running.{Running}
 use Rattle.cam_gerber.specs.Statements.{Statement}
 use Rattle.cam_gerber.specs.State.{Past}
 use Rattle.cam_gerber.specs.Homes.{Opened, open_blocks, open_repeat, InBlock, InRepeat, InLayer, home}
-use Rattle.cam_gerber.specs.Making.{made, made_at, objects_of, IsMaker}
-use Rattle.cam_gerber.specs.Layers.{entries_in, items_in, leaves_of}
+use Rattle.cam_gerber.specs.Making.{made, made_at, home_objects, IsMaker}
+use Rattle.cam_gerber.specs.Layers.{entries_in, items_in, home_leaves}
 use Rattle.cam_gerber.specs.Faults.{is_full, is_block_full}
 use Rattle.cam_gerber.specs.Laws.{IsFaultless}
 use Rattle.cam_gerber.specs.Machinery.Tracking.{TracksPlaces, block_of, repeat_of}
@@ -35,9 +35,9 @@ repeat_stays : (past : Past) (says : Statement) (n : ℕ) (repeat : Option Opene
 repeat_stays past says n None j h = refl
 repeat_stays past says n (Some o) j h =
     let away : made_at (InRepeat o.before) past says ≡ [] = elsewhere (InRepeat o.before) past says (rw h refl) in
-    let objects : objects_of (InRepeat o.before) past ≡ objects_of (InRepeat o.before) (says ∷ past) =
-    sym (j.objects (InRepeat o.before) ∙ ap (λ all. objects_of (InRepeat o.before) past ++ all) away ∙ append-nil _) in
-    let leaves : leaves_of (InRepeat o.before) past ≡ leaves_of (InRepeat o.before) (says ∷ past) =
+    let objects : home_objects (InRepeat o.before) past ≡ home_objects (InRepeat o.before) (says ∷ past) =
+    sym (j.objects (InRepeat o.before) ∙ ap (λ all. home_objects (InRepeat o.before) past ++ all) away ∙ append-nil _) in
+    let leaves : home_leaves (InRepeat o.before) past ≡ home_leaves (InRepeat o.before) (says ∷ past) =
     omega (arith, j.leaves (InRepeat o.before), ap (block_count (weight_in (entries_in past))) away) in
     ap₂ (λ (all : List Object) (m : ℕ).
     Some (record { columns = o.columns; rows = o.rows; i = o.i; j = o.j; objects = all; leaves = min 4000001 m })) objects leaves
@@ -64,15 +64,15 @@ made_in_block past says old object leaves sum block objects blocks none t maker 
         let items : old.frames.blocks.items ≡ block_of past n ∷ map (block_of past) outer = t.frames.blocks ∙ ap (map (block_of past)) h in
         let top : block ≡ block_of past n = read ∙ ap (λ all. get_or all 0 block) items in
         let joined : made_at (InBlock n) past says ≡ object ∷ [] = here (InBlock n) past says (rw at_home (eq-eqb n n refl)) ∙ is in
-        let all_objects : objects_of (InBlock n) (says ∷ past) ≡ objects_of (InBlock n) past ++ object ∷ [] = j.objects (InBlock n)
-        ∙ ap (λ more. objects_of (InBlock n) past ++ more) joined in
-        let all_leaves : leaves_of (InBlock n) (says ∷ past) ≡ leaves_of (InBlock n) past + one_count past object =
-        j.leaves (InBlock n) ∙ ap (λ more. leaves_of (InBlock n) past + block_count (weight_in (entries_in past)) more) joined in
+        let all_objects : home_objects (InBlock n) (says ∷ past) ≡ home_objects (InBlock n) past ++ object ∷ [] = j.objects (InBlock n)
+        ∙ ap (λ more. home_objects (InBlock n) past ++ more) joined in
+        let all_leaves : home_leaves (InBlock n) (says ∷ past) ≡ home_leaves (InBlock n) past + one_count past object =
+        j.leaves (InBlock n) ∙ ap (λ more. home_leaves (InBlock n) past + block_count (weight_in (entries_in past)) more) joined in
         let full : is_block_full past n object ≡ false = ap (λ h. is_full h past object) (sym at_home) ∙ room in
         let parts = or_parts _ (nat_le 8 (object_depth (weight_in (entries_in past)) object)) full in
-        let few = room_for (leaves_of (InBlock n) past) (object_count (weight_in (entries_in past)) object)
-        (or_parts (nat_le 1000000 (length (objects_of (InBlock n) past))) _ parts.0).1 in
-        let sum_leaves : sum ≡ leaves_of (InBlock n) (says ∷ past) =
+        let few = room_for (home_leaves (InBlock n) past) (object_count (weight_in (entries_in past)) object)
+        (or_parts (nat_le 1000000 (length (home_objects (InBlock n) past))) _ parts.0).1 in
+        let sum_leaves : sum ≡ home_leaves (InBlock n) (says ∷ past) =
         omega (arith, sum_is, count, few, ap (λ (b : OpenBlock). b.leaves) top, all_leaves) in
         let whole : record { number = block.number; objects = objects; leaves = sum } ≡ block_of (says ∷ past) n =
         ap₂ (λ (all : List Object) (m : ℕ). record { number = block.number; objects = all; leaves = m })
@@ -80,9 +80,9 @@ made_in_block past says old object leaves sum block objects blocks none t maker 
         ∙ ap (λ (b : OpenBlock).
         record {
           number = b.number;
-          objects = objects_of (InBlock n) (says ∷ past);
+          objects = home_objects (InBlock n) (says ∷ past);
           leaves =
-              leaves_of (InBlock n) (says ∷ past);
+              home_leaves (InBlock n) (says ∷ past);
         }) top in
         let away : made_at InLayer past says ≡ [] = elsewhere InLayer past says (rw at_home refl) in
         record {

@@ -12,14 +12,14 @@ use Rattle.cam_objects.specs.declared.object.Object.{Object}
 use Rattle.cam_objects.specs.declared.item.Item.{Item}
 use Rattle.cam_objects.specs.declared.item.Item.TheVariants.{One, Repeat}
 use Rattle.cam_objects.specs.Leaves.{Leaf, item_leaves, meaning_in, object_leaves, origin}
-use Rattle.cam_objects.specs.Soundness.{AreOnBoard, IsSoundItem, points_of, points_of_shape, segs_of}
+use Rattle.cam_objects.specs.Soundness.{AreOnBoard, IsSoundItem, points_of, points_of_shape, segs_of, is_on_board}
 use Rattle.cam_objects.specs.Weights.{block_count, item_count, object_count, object_depth, weight_in}
 use Rattle.cam_objects.proofs.SoundItems.{HasRadius, IsDrawable, IsFormed, IsKnown, sound}
 use Rattle.cam_gerber.specs.State.{Past}
 use Rattle.cam_gerber.specs.Homes.{Home, InBlock, InRepeat, InLayer, is_same_home, Opened}
-use Rattle.cam_gerber.specs.Making.{objects_of}
-use Rattle.cam_gerber.specs.Layers.{entries_in, items_in, leaves_in, leaves_of, repeat_by}
-use Rattle.cam_gerber.specs.Faults.{is_on_board, are_on_board, is_full, is_empty}
+use Rattle.cam_gerber.specs.Making.{home_objects}
+use Rattle.cam_gerber.specs.Layers.{entries_in, items_in, leaves_in, home_leaves, repeat_by}
+use Rattle.cam_gerber.specs.Faults.{are_leaves_on_board, is_full, is_left_out}
 use Rattle.cam_gerber.proofs.SoundParts.{Pairs, IsMade, IsSoundOpen, IsSoundRepeated, IsSoundBuilt, one_item}
 
 -- ---- tests
@@ -36,10 +36,10 @@ points_on_board [] h = All-nil IsOnBoard
 points_on_board (p ∷ ps) h = let on = and_parts (is_on_board p) (list_all is_on_board ps) h in
     All-cons IsOnBoard p ps (on_board p on.0) (points_on_board ps on.1)
 
-pub leaves_on_board : (leaves : List Leaf) → are_on_board leaves ≡ true → AreOnBoard leaves
+pub leaves_on_board : (leaves : List Leaf) → are_leaves_on_board leaves ≡ true → AreOnBoard leaves
 leaves_on_board [] h = All-nil (λ l. All IsOnBoard (points_of_shape l.shape))
 leaves_on_board (l ∷ leaves) h =
-    let on = and_parts (list_all is_on_board (points_of_shape l.shape)) (are_on_board leaves) h in
+    let on = and_parts (list_all is_on_board (points_of_shape l.shape)) (are_leaves_on_board leaves) h in
     All-cons (λ l. All IsOnBoard (points_of_shape l.shape)) l leaves (points_on_board (points_of_shape l.shape) on.0)
     (leaves_on_board leaves on.1)
 
@@ -76,23 +76,20 @@ AreFit past (o ∷ p ∷ objects) h = ⊥
 
 -- ---- objects that join
 
-abbrev added : Bool → List Object → List Object
-added b objects = cond b objects []
-
 one_count : (es : Pairs) (o : Object) → block_count (weight_in es) (o ∷ []) ≡ object_count (weight_in es) o
 one_count es o = omega (arith, sum_by-cons (object_count (weight_in es)) o [])
 
 pub joined_block : (past : Past) (n : ℕ) (more : List Object) (b : Bool) → (b ≡ true → AreFit past more (InBlock n))
-    → IsSoundOpen (entries_in past) (objects_of (InBlock n) past) (leaves_of (InBlock n) past)
-    → IsSoundOpen (entries_in past) (objects_of (InBlock n) past ++ cond b more [])
-    (leaves_of (InBlock n) past + block_count (weight_in (entries_in past)) (cond b more []))
+    → IsSoundOpen (entries_in past) (home_objects (InBlock n) past) (home_leaves (InBlock n) past)
+    → IsSoundOpen (entries_in past) (home_objects (InBlock n) past ++ cond b more [])
+    (home_leaves (InBlock n) past + block_count (weight_in (entries_in past)) (cond b more []))
 joined_block past n more b fits s = by b more fits
   where
     objects : List Object
-    objects = objects_of (InBlock n) past
+    objects = home_objects (InBlock n) past
 
     leaves : ℕ
-    leaves = leaves_of (InBlock n) past
+    leaves = home_leaves (InBlock n) past
 
     es : Pairs
     es = entries_in past
@@ -125,16 +122,16 @@ joined_block past n more b fits s = by b more fits
         }
 
 pub joined_repeat : (past : Past) (before : ℕ) (more : List Object) (b : Bool) → (b ≡ true → AreFit past more (InRepeat before))
-    → IsSoundRepeated (entries_in past) (objects_of (InRepeat before) past) (leaves_of (InRepeat before) past)
-    → IsSoundRepeated (entries_in past) (objects_of (InRepeat before) past ++ cond b more [])
-    (leaves_of (InRepeat before) past + block_count (weight_in (entries_in past)) (cond b more []))
+    → IsSoundRepeated (entries_in past) (home_objects (InRepeat before) past) (home_leaves (InRepeat before) past)
+    → IsSoundRepeated (entries_in past) (home_objects (InRepeat before) past ++ cond b more [])
+    (home_leaves (InRepeat before) past + block_count (weight_in (entries_in past)) (cond b more []))
 joined_repeat past before more b fits s = by b more fits
   where
     objects : List Object
-    objects = objects_of (InRepeat before) past
+    objects = home_objects (InRepeat before) past
 
     leaves : ℕ
-    leaves = leaves_of (InRepeat before) past
+    leaves = home_leaves (InRepeat before) past
 
     es : Pairs
     es = entries_in past
@@ -240,7 +237,7 @@ repeat_item es o x xs leaves opening s board light =
 
 pub settled : (es : Pairs) (items : List Item) (all : ℕ) (o : Opened) (objects : List Object) (leaves : ℕ) → IsOpening o
     → IsSoundRepeated es objects leaves → IsSoundBuilt es items all
-    → (is_empty (repeat_by o objects) ≡ false
+    → (is_left_out (repeat_by o objects) ≡ false
     → IsClosable es o objects × (length items < 1000000) × (all + o.columns * o.rows * leaves ≤ 4000000))
     → IsSoundBuilt es (items ++ repeat_by o objects) (all + o.columns * o.rows * leaves)
 settled es items all o [] leaves opening s b room =

@@ -13,7 +13,7 @@ use Rattle.std.proofs.lemmas.List.Elements.{All-head, All-tail}
 use Rattle.std.proofs.lemmas.List.Quantifiers.{position-Some}
 use Rattle.std.proofs.lemmas.Slice.Eq.{bytes_eq-Decides}
 use Rattle.cam_objects.specs.declared.attribute.Attribute.{Attribute}
-use Rattle.cam_objects.specs.Attributes.{has_name, names_of, place_of}
+use Rattle.cam_objects.specs.Attributes.{has_name, names_of, attribute_place}
 use Rattle.cam_objects.proofs.EditedAttributes.{Lacks, lacks}
 use Rattle.cam_gerber.specs.Machinery.Names.{AreNamesOf}
 
@@ -42,7 +42,7 @@ module _ {A : Type 0} (name : List ℕ) where
       let rest : AreNamesOf xs keys = cc in
       ap₂ (λ b n. cond (not b) (1 + n) 0) (same_test k x here) (first_at keys xs rest)
 
-  pub same_place : (keys : List (Vec ℕ A)) (xs : List Attribute) → AreNamesOf xs keys → position is_key keys ≡ place_of name xs
+  pub same_place : (keys : List (Vec ℕ A)) (xs : List Attribute) → AreNamesOf xs keys → position is_key keys ≡ attribute_place name xs
   same_place keys xs h =
       ap₂ (λ n len. cond (ltb n len) (Some n) None) (first_at keys xs h) (same_length keys xs h)
 
@@ -56,11 +56,11 @@ module _ {A : Type 0} (name : List ℕ) where
       (absent keys xs rest (All-tail (λ b. has_name name b ≡ false) x xs none))
 
   -- a name that no attribute has is no key
-  pub new_key : (keys : List (Vec ℕ A)) (xs : List Attribute) → AreNamesOf xs keys → place_of name xs ≡ None → list_any is_key keys ≡ false
+  pub new_key : (keys : List (Vec ℕ A)) (xs : List Attribute) → AreNamesOf xs keys → attribute_place name xs ≡ None → list_any is_key keys ≡ false
   new_key keys xs h none = absent keys xs h (lacks name xs none)
 
 -- at the place of a name stands the attribute that has it
-pub named_at : (name : List ℕ) (xs : List Attribute) (k : ℕ) (a : Attribute) → place_of name xs ≡ Some k → (get_or xs k a).name ≡ name
+pub named_at : (name : List ℕ) (xs : List Attribute) (k : ℕ) (a : Attribute) → attribute_place name xs ≡ Some k → (get_or xs k a).name ≡ name
 named_at name xs k a e = (bytes_eq-Decides (get_or xs k a).name name).0 (position-Some (has_name name) xs k a e).1
 
 same_names : (a : Attribute) (xs : List Attribute) (k : ℕ) → k < length xs → (get_or xs k a).name ≡ a.name
@@ -70,7 +70,7 @@ same_names a (x ∷ xs) zero low e = ap (λ n. n ∷ names_of xs) (sym e)
 same_names a (x ∷ xs) (suc k) low e = ap (λ ns. x.name ∷ ns) (same_names a xs k (omega arith) e)
 
 -- an attribute in the place of the one that has its name
-pub kept_names : (a : Attribute) (xs : List Attribute) (k : ℕ) → place_of a.name xs ≡ Some k → names_of (set xs k a) ≡ names_of xs
+pub kept_names : (a : Attribute) (xs : List Attribute) (k : ℕ) → attribute_place a.name xs ≡ Some k → names_of (set xs k a) ≡ names_of xs
 kept_names a xs k e = same_names a xs k (position-Some (has_name a.name) xs k a e).0 (named_at a.name xs k a e)
 
 -- one more of another name

@@ -7,12 +7,12 @@ use Rattle.cam_refusals.specs.declared.stop.Stop.TheVariants.{Fault}
 use Rattle.cam_refusals.specs.Checks.{least}
 use Rattle.cam_refusals.specs.Refusals.{number_of}
 use Rattle.cam_words.specs.Cutting.{FoundWord}
-use Rattle.cam_words.specs.Reading.{Answer, reading}
+use Rattle.cam_words.specs.Reading.{WordAnswer, reading}
 use Rattle.cam_words.specs.declared.word.TextFault.{TextFault}
 use Rattle.cam_objects.specs.declared.entry.Entry.{Entry}
 use Rattle.cam_objects.specs.declared.item.Item.{Item}
 use Rattle.cam_commands.specs.Commands.{Command, DefineMacro}
-use Rattle.cam_commands.specs.Syntax.{command_of, place_of}
+use Rattle.cam_commands.specs.Syntax.{command_of, start_of}
 use Rattle.cam_objects.specs.Contents.{Content}
 use Rattle.cam_gerber.specs.declared.running.Running.{Running}
 use Rattle.cam_gerber.specs.Statements.{Statement}
@@ -20,7 +20,7 @@ use Rattle.cam_gerber.specs.State.{Past}
 use Rattle.cam_gerber.specs.Layers.{layer_in}
 use Rattle.cam_gerber.specs.Faults.{faults}
 use Rattle.cam_gerber.specs.Reading.{IsReading, Means, is_end, is_end_command}
-use Rattle.cam_gerber.specs.Computing.{lead_of, reading_of, statement_of, told_of}
+use Rattle.cam_gerber.specs.Computing.{lead_of, reading_of, statement_said, told_of}
 use Rattle.cam_gerber.specs.Laws.{IsFaultless}
 use Rattle.cam_gerber.specs.Machinery.OpenNumbers.{AreWithin}
 use Rattle.cam_gerber.specs.Machinery.Tracking.{Obeys, Tracks, content_in}
@@ -29,7 +29,7 @@ use Rattle.cam_gerber.proofs.Reading.{means_its_reading, same_said}
 use Rattle.cam_gerber.proofs.Reading as reading
 use Rattle.cam_gerber.proofs.SoundReadings.{stated_within}
 
-end_same : (command : Command) → is_end (statement_of command) ≡ is_end_command command
+end_same : (command : Command) → is_end (statement_said command) ≡ is_end_command command
 end_same (DefineMacro text) = refl
 end_same _ = refl
 
@@ -39,21 +39,21 @@ content_is past running t =
     t.attributes (ap₂ (λ entries items. (entries, items)) t.built.entries t.built.items)
 
 -- the record is that of a past, from which the rest gives what the file gives
-pub record LeadsOn (bytes : List ℕ) (running : Running) (rest : List Answer) : Type 0 where
+pub record LeadsOn (bytes : List ℕ) (running : Running) (rest : List WordAnswer) : Type 0 where
   pub past : Past
   pub none : IsFaultless past
   pub tracks : Tracks past running
   pub opens : AreWithin past
   pub leads : lead_of (length bytes) past rest ≡ lead_of (length bytes) [] (reading 0 bytes)
 
-pub starts : (bytes : List ℕ) (running : Running) (rest : List Answer) → Tracks [] running → rest ≡ reading 0 bytes
+pub starts : (bytes : List ℕ) (running : Running) (rest : List WordAnswer) → Tracks [] running → rest ≡ reading 0 bytes
     → LeadsOn bytes running rest
 starts bytes running rest t e =
     record { past = []; none = tt; tracks = t; opens = tt; leads = ap (lead_of (length bytes) []) e }
 
-module _ (bytes : List ℕ) (running : Running) (rest : List Answer) (l : LeadsOn bytes running rest) where
+module _ (bytes : List ℕ) (running : Running) (rest : List WordAnswer) (l : LeadsOn bytes running rest) where
   -- what the rest gives is what the file means
-  means : (answers : List Answer) (result : Result Content ReadFault) → rest ≡ answers → lead_of (length bytes) l.past answers ≡ result
+  means : (answers : List WordAnswer) (result : Result Content ReadFault) → rest ≡ answers → lead_of (length bytes) l.past answers ≡ result
       → Means bytes result
   unfolding reading_of
   means answers result e gives =
@@ -64,13 +64,13 @@ module _ (bytes : List ℕ) (running : Running) (rest : List Answer) (l : LeadsO
   unended e = inl (means [] _ e refl)
 
   -- the text cannot be cut
-  pub uncut : (after : List Answer) (fault : TextFault) → rest ≡ Err fault ∷ after
+  pub uncut : (after : List WordAnswer) (fault : TextFault) → rest ≡ Err fault ∷ after
       → IsReading bytes (Err (record { code = fault.code; at = fault.at }))
   uncut after fault e = inl (means (Err fault ∷ after) _ e refl)
 
-  module _ (new : Running) (after : List Answer) (word : FoundWord) (e : rest ≡ Ok word ∷ after) where
+  module _ (new : Running) (after : List WordAnswer) (word : FoundWord) (e : rest ≡ Ok word ∷ after) where
     pub refused : (refusal : Refusal) → Obeys (command_of word) running (Err (Fault refusal)) new
-        → IsReading bytes (Err (record { code = refusal; at = place_of word }))
+        → IsReading bytes (Err (record { code = refusal; at = start_of word }))
     refused refusal obeys =
         let said = obeys l.past l.none l.tracks in
         let is = same_said (command_of word) said.0 said.1 in
@@ -80,7 +80,7 @@ module _ (bytes : List ℕ) (running : Running) (rest : List Answer) (l : LeadsO
 
     module _ (obeys : Obeys (command_of word) running (Ok tt) new) where
       abbrev says : Statement
-      says = statement_of (command_of word)
+      says = statement_said (command_of word)
 
       obeyed : (least number_of (faults l.past says) ≡ None) × Tracks (says ∷ l.past) new
       obeyed =

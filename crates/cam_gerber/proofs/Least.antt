@@ -7,7 +7,7 @@ use denote.Enum.Declared.{tag_of}
 use Rattle.cam_refusals.specs.declared.refusal.Refusal.{Refusal}
 use Rattle.cam_refusals.specs.contracts.refusal.Refusal.{the_type}
 use Rattle.cam_refusals.specs.declared.refusal.Refusal.TheVariants.{BadByte}
-use Rattle.cam_refusals.specs.Checks.{Checks, IsFirst, IsLeast, NoneHolds, first, least}
+use Rattle.cam_refusals.specs.Checks.{Checks, IsFirst, IsLeast, NoneHolds, first_holding, least}
 use Rattle.cam_refusals.specs.Refusals.{number_of}
 use Rattle.cam_refusals.proofs.Checks.{tells_first, tells_least}
 
@@ -61,5 +61,5 @@ pub pass_least : (checks : Checks Refusal) → least number_of checks ≡ None �
 pass_least checks e =
     passed_by checks (subst (λ o. MatchOption o (NoneHolds checks) (IsLeast number_of checks)) e (tells_least number_of checks))
 
-pub pass_first : (checks : Checks Refusal) → first checks ≡ None → ArePassed checks
+pub pass_first : (checks : Checks Refusal) → first_holding checks ≡ None → ArePassed checks
 pass_first checks e = passed_by checks (subst (λ o. MatchOption o (NoneHolds checks) (IsFirst checks)) e (tells_first checks))

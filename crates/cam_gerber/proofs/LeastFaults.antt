@@ -6,11 +6,11 @@ use Rattle.std.specs.List.{AllByRecursion}
 use Rattle.std.proofs.lemmas.Bool.{leb-true}
 use Rattle.cam_refusals.specs.declared.read_fault.ReadFault.{ReadFault}
 use Rattle.cam_refusals.specs.declared.refusal.Refusal.TheVariants.{NoEnd}
-use Rattle.cam_refusals.specs.FileFaults.{IsFileFault, IsLeastFault, Place, told}
+use Rattle.cam_refusals.specs.FileFaults.{IsFileFault, IsLeastFault, Place, first_told}
 use Rattle.cam_refusals.specs.Refusals.{number_of}
 use Rattle.cam_refusals.proofs.FileFaults.{tells_least_fault}
 use Rattle.cam_words.specs.Laws.{TellsFault}
-use Rattle.cam_words.specs.Reading.{Answer, reading}
+use Rattle.cam_words.specs.Reading.{WordAnswer, reading}
 use Rattle.cam_words.specs.declared.word.TextFault.{TextFault}
 use Rattle.cam_objects.specs.Contents.{Content}
 use Rattle.cam_commands.specs.Syntax.{command_of}
@@ -18,7 +18,7 @@ use Rattle.cam_gerber.specs.State.{Past}
 use Rattle.cam_gerber.specs.Faults.{faults}
 use Rattle.cam_gerber.specs.Reading.{Means, is_end, layer_unless, places_from}
 use Rattle.cam_gerber.specs.Computing.{reading_of, told_of}
-use Rattle.cam_gerber.specs.Laws.{GivesFaultlessFiles, IsFault, IsNoMemoryFault, TellsLeastFault}
+use Rattle.cam_gerber.specs.Laws.{GivesFaultlessFiles, IsFault, IsNoMemoryFault, TellsLeastGerberFault}
 use Rattle.cam_gerber.proofs.LowNumbers.{are_low, low_faults, low_number}
 use Rattle.cam_gerber.proofs.Places.{all_answers, places_ascend}
 use Rattle.cam_gerber.proofs.Reading.{all_told, are_told, reading_is}
@@ -33,7 +33,7 @@ in_places bytes fault f =
 abbrev Tells : List ℕ → Option ReadFault → Type 0
 Tells bytes o = MatchOption o ((fault : ReadFault) → ¬ IsFileFault (places_of bytes) fault) (IsLeastFault (places_of bytes))
 
-tells : (bytes : List ℕ) → Tells bytes (told (places_of bytes))
+tells : (bytes : List ℕ) → Tells bytes (first_told (places_of bytes))
 tells bytes = tells_least_fault (places_of bytes) (places_ascend bytes)
 
 -- ---- what is told
@@ -45,9 +45,9 @@ told_is bytes fault (Some other) layer is e = let same : other ≡ fault = cc in
 
 least_fault : (bytes : List ℕ) (fault : ReadFault) → Means bytes (Err fault) → IsLeastFault (places_of bytes) fault
 unfolding reading_of
-least_fault bytes fault h = told_is bytes fault (told (places_of bytes)) _ (tells bytes) (reading_is bytes (Err fault) h)
+least_fault bytes fault h = told_is bytes fault (first_told (places_of bytes)) _ (tells bytes) (reading_is bytes (Err fault) h)
 
-pub tells_least : TellsLeastFault
+pub tells_least : TellsLeastGerberFault
 tells_least bytes f h =
     let is = least_fault bytes f h in
     let commands = map told_of (reading 0 bytes) in
@@ -61,12 +61,12 @@ none_is bytes (Some fault) layer content is e = absurd cc
 pub faultless_files : GivesFaultlessFiles
 unfolding reading_of
 faultless_files bytes layer f h at =
-    none_is bytes (told (places_of bytes)) _ layer (tells bytes) (reading_is bytes (Ok layer) h) f (in_places bytes f at)
+    none_is bytes (first_told (places_of bytes)) _ layer (tells bytes) (reading_is bytes (Ok layer) h) f (in_places bytes f at)
 
 -- ---- every number is under that of memory
 
 -- the fault of the cutting
-abbrev IsLow : Answer → Type 0
+abbrev IsLow : WordAnswer → Type 0
 IsLow (Ok word) = Unit {0}
 IsLow (Err fault) = nat_le (number_of fault.code) 29 ≡ true
 
@@ -74,11 +74,11 @@ low_cut : (fault : TextFault) (text : List ℕ) → TellsFault fault.code text �
 low_cut fault text (inl bad) = ap (λ r. nat_le (number_of r) 29) bad.0
 low_cut fault text (inr unended) = ap (λ r. nat_le (number_of r) 29) unended.0
 
-low_answer : (past : Past) (answer : Answer) → IsLow answer → are_low (faults past (told_of answer).says) ≡ true
+low_answer : (past : Past) (answer : WordAnswer) → IsLow answer → are_low (faults past (told_of answer).says) ≡ true
 low_answer past (Ok word) low = low_faults past (command_of word)
 low_answer past (Err fault) low = rw low refl
 
-low_places : (len : ℕ) (past : Past) (answers : List Answer) (fault : ReadFault) → AllByRecursion IsLow answers
+low_places : (len : ℕ) (past : Past) (answers : List WordAnswer) (fault : ReadFault) → AllByRecursion IsLow answers
     → IsFileFault (places_from len past (map told_of answers)) fault → nat_le (number_of fault.code) 29 ≡ true
 low_places len past [] fault low (inl here) = low_number ((NoEnd, true) ∷ []) fault.code refl here.1
 low_places len past [] fault low (inr later) = absurd later

@@ -13,17 +13,18 @@ use Rattle.cam_macros.specs.declared.fault.MacroFault.{MacroFault}
 use Rattle.cam_macros.specs.declared.fault.MacroFault.TheVariants.{OutOfMemory}
 use Rattle.cam_macros.specs.declared.primitive.MacroPrimitive.{MacroPrimitive}
 use Rattle.cam_macros.specs.Expansion.{expansion_of}
-use Rattle.cam_apertures.specs.Definition.{Definition, definition_of, named, by_macro, macro_faults}
+use Rattle.cam_apertures.specs.Definition.{Definition, template_form, named, by_macro, macro_faults}
 use Rattle.cam_apertures.specs.Definition.{template_faults, faults_of, values_of}
 use Rattle.cam_commands.specs.declared.names.FreeText.TheVariants.{FileAttribute}
 use Rattle.cam_commands.specs.declared.parts.Operation.{Operation}
 use Rattle.cam_commands.specs.declared.parts.OperationCode.{OperationCode}
 use Rattle.cam_commands.specs.declared.parts.OperationCode.TheVariants.{Plot, Move, Flash}
 use Rattle.cam_commands.specs.Commands.{Command, DefineAperture, DefineMacro, KeepText, Operate}
-use Rattle.cam_gerber.specs.State.{Past, unit_in, unit_or_mm, code_of, in_region}
+use Rattle.cam_gerber.specs.State.{Past, unit_in, code_of, in_region}
+use Rattle.cam_units.specs.Nearest.{unit_or_mm}
 use Rattle.cam_gerber.specs.Layers.{macros_in}
 use Rattle.cam_gerber.specs.Faults.{faults, operated_faults}
-use Rattle.cam_gerber.specs.Computing.{statement_of}
+use Rattle.cam_gerber.specs.Computing.{statement_said}
 use Rattle.cam_gerber.proofs.Expansions.{MayBe, expansion_may_be}
 
 abbrev pub are_low : Checks Refusal → Bool
@@ -81,8 +82,8 @@ of_operated Move true past operation = refl
 of_operated Flash false past operation = refl
 of_operated Flash true past operation = refl
 
-pub low_faults : (past : Past) (command : Command) → are_low (faults past (statement_of command)) ≡ true
-low_faults past (DefineAperture text) = of_definition (definition_of text) (macros_in past) (unit_or_mm (unit_in past))
+pub low_faults : (past : Past) (command : Command) → are_low (faults past (statement_said command)) ≡ true
+low_faults past (DefineAperture text) = of_definition (template_form text) (macros_in past) (unit_or_mm (unit_in past))
 low_faults past (DefineMacro text) = refl
 low_faults past (KeepText FileAttribute text) = refl
 low_faults past (Operate operation) = of_operated (code_of operation) (in_region past) past operation

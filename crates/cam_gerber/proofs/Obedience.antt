@@ -1,7 +1,7 @@
 -- One more command: the first fault that holds is the least, and the record follows.
 use Rattle.std.proofs.Common.{◌≡◌, Bool, None, Some, refl, sym, subst, ◌∙◌, ◌∷◌, ◌++◌}
 use Rattle.cam_refusals.specs.declared.refusal.Refusal.{Refusal}
-use Rattle.cam_refusals.specs.Checks.{Checks, first}
+use Rattle.cam_refusals.specs.Checks.{Checks, first_holding}
 use Rattle.cam_commands.specs.declared.parts.Operation.{Operation}
 use Rattle.cam_commands.specs.declared.parts.OperationCode.{OperationCode}
 use Rattle.cam_gerber.specs.State.{Past, code_of, in_region}
@@ -31,7 +31,7 @@ obeys command old new (Err (Fault code)) plain takes =
     λ past none t. (Says command, said command plain, least_of_command past command plain ∙ takes past none t)
 
 -- what is answered behind checks that tell nothing is answered with them
-lift : (result : Result (Unit {0}) Stop) (front rest : Checks Refusal) (P : Type 0) → first front ≡ None → Answers result rest P
+lift : (result : Result (Unit {0}) Stop) (front rest : Checks Refusal) (P : Type 0) → first_holding front ≡ None → Answers result rest P
     → Answers result (front ++ rest) P
 lift (Ok done) front rest P none h = (passed front rest none ∙ h.0, h.1)
 lift (Err Memory) front rest P none h = tt
@@ -40,15 +40,15 @@ lift (Err (Fault code)) front rest P none h = passed front rest none ∙ h
 -- an operation, by what it does
 pub operates : (past : Past) (operation : Operation) (code : OperationCode) (region : Bool) (result : Result (Unit {0}) Stop)
     (P : Type 0) → code_of operation ≡ code → in_region past ≡ region
-    → first (leading_faults past operation) ≡ None → Answers result (operated_faults code region past operation) P
+    → first_holding (leading_faults past operation) ≡ None → Answers result (operated_faults code region past operation) P
     → Answers result (command_faults past (Operate operation)) P
 operates past operation code region result P c r none h =
     lift result (leading_faults past operation) (operated_faults (code_of operation) (in_region past) past operation) P none
     (subst (λ k. Answers result (operated_faults k (in_region past) past operation) P) (sym c)
     (subst (λ b. Answers result (operated_faults code b past operation) P) (sym r) h))
 
-pub leads : (past : Past) (operation : Operation) (refusal : Refusal) → first (leading_faults past operation) ≡ Some refusal
-    → first (command_faults past (Operate operation)) ≡ Some refusal
+pub leads : (past : Past) (operation : Operation) (refusal : Refusal) → first_holding (leading_faults past operation) ≡ Some refusal
+    → first_holding (command_faults past (Operate operation)) ≡ Some refusal
 leads past operation refusal h =
     told_before (leading_faults past operation) (operated_faults (code_of operation) (in_region past) past operation) refusal h
 

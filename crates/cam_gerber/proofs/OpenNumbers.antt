@@ -29,7 +29,7 @@ use Rattle.cam_commands.specs.Commands.{KeepText, SetScale, CloseBlock, SetRepea
 use Rattle.cam_commands.specs.Commands.{SingleQuadrant, MultiQuadrant, BeginRegion, EndRegion, Nothing, End, Unknown}
 use Rattle.cam_numbers.specs.Numbers.{natural}
 use Rattle.cam_commands.specs.Fields.{field}
-use Rattle.cam_commands.specs.WordCommands.{Parts, by_run, by_code, by_mode, by_operation_code, operate, said_by}
+use Rattle.cam_commands.specs.WordCommands.{OperationParts, by_run, by_code, by_mode, by_operation_code, operate, parts_said_by}
 use Rattle.cam_commands.specs.WordCommands.{selection, operation_of, operation, prefixed_selection, lone_function}
 use Rattle.cam_commands.specs.WordCommands.{function, program_code, by_function, word_command}
 use Rattle.cam_commands.specs.ExtendedCommands.{name_of, format_by, format_of, format_by_head, format_of_axes}
@@ -80,15 +80,15 @@ module _ (Q : FreeText → List ℕ → Type 0) where
   unfolding selection
   selects code = either (nat_lt code 10) Unknown _ unknown (record { opens = tt; short = tt; keeps = tt })
 
-  by_operation : (p : Parts) (code : ℕ) (named : Option OperationCode) → IsWithin (by_operation_code p code named)
+  by_operation : (p : OperationParts) (code : ℕ) (named : Option OperationCode) → IsWithin (by_operation_code p code named)
   by_operation p code (Some named) = record { opens = tt; short = tt; keeps = tt }
   by_operation p code None = either _ Unknown (selection code) unknown (selects code)
 
-  said : (p : Parts) (d : Option (List ℕ)) → IsWithin (said_by p d)
+  said : (p : OperationParts) (d : Option (List ℕ)) → IsWithin (parts_said_by p d)
   said p None = either _ (operate p None) Unknown (record { opens = tt; short = tt; keeps = tt }) unknown
   said p (Some run) = coded (natural run) _ (λ code. by_operation p code _)
 
-  operates : (p : Parts) → IsWithin (operation_of p)
+  operates : (p : OperationParts) → IsWithin (operation_of p)
   unfolding operation_of
   operates p = said p p.d
 

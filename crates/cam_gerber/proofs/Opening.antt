@@ -1,10 +1,9 @@
 -- Blocks are opened and closed.
-use Rattle.std.proofs.Common.{◌≡◌, ℕ, List, [], ◌∷◌, length, false, Option, Some, None, refl, sym, ap, ap₂, ◌∙◌, subst, Global, arith}
-use Rattle.std.specs.Prelude.{map, nat_le, is_some, nat_eq}
-use Rattle.std.specs.Map.{lookup}
+use Rattle.std.proofs.Common.{◌≡◌, ℕ, List, [], ◌∷◌, length, false, Option, Some, None, refl, sym, ap, ap₂, ◌∙◌, Global, arith}
+use Rattle.std.specs.Prelude.{map, nat_le, is_some}
 use Rattle.std.specs.Option.{option_map}
 use Rattle.std.specs.declared.collections.VecDeque.{VecDeque}
-use Rattle.cam_refusals.specs.Checks.{first}
+use Rattle.cam_refusals.specs.Checks.{first_holding}
 use Rattle.cam_objects.specs.declared.object.Object.{Object}
 use Rattle.cam_commands.specs.Commands.{OpenBlock}
 use Rattle.cam_gerber.specs.declared.frames.OpenBlock.{OpenBlock as Frame}
@@ -12,10 +11,9 @@ use Rattle.cam_gerber.specs.declared.running.Running.{Running}
 use Rattle.cam_gerber.specs.Statements.{Says}
 use Rattle.cam_gerber.specs.State.{Past, in_region}
 use Rattle.cam_gerber.specs.Homes.{open_blocks, open_repeat}
-use Rattle.cam_gerber.specs.Layers.{entries_in}
-use Rattle.cam_gerber.specs.Faults.{command_faults, is_taken, is_defined}
-use Rattle.cam_gerber.specs.Machinery.Tracking.{Tracks, HasPast, block_of}
-use Rattle.cam_gerber.proofs.Pasts.{unused, stay_apart, AreFree}
+use Rattle.cam_gerber.specs.Faults.{command_faults, is_taken}
+use Rattle.cam_gerber.specs.Machinery.Tracking.{Tracks, block_of}
+use Rattle.cam_gerber.proofs.Pasts.{unused}
 
 is_some_map : {A B : Type 0} (f : A → B) (o : Option A) → is_some (option_map f o) ≡ is_some o
 is_some_map f None = refl
@@ -30,7 +28,7 @@ pub opened_tracks : (past : Past) (old : Running) (n : ℕ) (blocks : VecDeque F
     → is_taken past n ≡ false → old.region.inside ≡ false → is_some old.frames.repeat ≡ false
     → nat_le 8 (length old.frames.blocks.items) ≡ false
     → blocks.items ≡ record { number = n; objects = []; leaves = 0 } ∷ old.frames.blocks.items
-    → (first (command_faults past (OpenBlock (Some n))) ≡ None)
+    → (first_holding (command_faults past (OpenBlock (Some n))) ≡ None)
     × Tracks (Says (OpenBlock (Some n)) ∷ past) (record old { frames = record old.frames { blocks = blocks } })
 opened_tracks past old n blocks t free outside closed few written =
     let u = unused n past free in
@@ -67,19 +65,3 @@ opened_tracks past old n blocks t free outside closed few written =
 pub none_from : {A : Type 0} (o : Option A) → is_some o ≡ false → o ≡ None
 none_from None h = refl
 none_from (Some x) h = absurd cc
-
--- the innermost block has a number that no entry has
-pub closing_is_free : (old : Running) (block : Frame) (rest : List Frame) → HasPast old → old.frames.blocks.items ≡ block ∷ rest
-    → lookup (nat_eq block.number) old.built.layer.apertures ≡ None
-closing_is_free old block rest h is = go (open_blocks h.0) refl
-  where
-    past : Past
-    past = h.0
-
-    go : (numbers : List ℕ) → open_blocks h.0 ≡ numbers → lookup (nat_eq block.number) old.built.layer.apertures ≡ None
-    go [] e = absurd (let none : block ∷ rest ≡ [] = sym is ∙ h.2.frames.blocks ∙ ap (map (block_of h.0)) e in cc)
-    go (n ∷ outer) e =
-        let joined : block ∷ rest ≡ block_of h.0 n ∷ map (block_of h.0) outer = sym is ∙ h.2.frames.blocks ∙ ap (map (block_of h.0)) e in
-        let top : block ≡ block_of h.0 n = cc in
-        let free : is_defined h.0 n ≡ false = (subst (AreFree (entries_in h.0)) e (stay_apart h.0 h.1).entries).0 in
-        ap₂ (λ (b : Frame) es. lookup (nat_eq b.number) es) top h.2.built.entries ∙ none_from (lookup (nat_eq n) (entries_in h.0)) free

@@ -4,7 +4,7 @@ use Rattle.std.specs.Prelude.{unwrap_or, is_none, not}
 use Rattle.std.specs.Option.{option_or}
 use Rattle.cam_refusals.specs.declared.refusal.Refusal.{Refusal}
 use Rattle.cam_refusals.specs.declared.refusal.Refusal.TheVariants.{TooMuch}
-use Rattle.cam_refusals.specs.Checks.{Checks, first}
+use Rattle.cam_refusals.specs.Checks.{Checks, first_holding}
 use Rattle.cam_units.specs.declared.point.Point.{Point}
 use Rattle.cam_units.specs.declared.turn.Turn.{Turn}
 use Rattle.cam_shapes.specs.declared.segments.Seg.{Seg}
@@ -24,7 +24,7 @@ use Rattle.cam_gerber.specs.declared.running.Running.{Running}
 use Rattle.cam_gerber.specs.Laws.{IsFaultless}
 use Rattle.cam_shapes.specs.Contour.{end_of}
 use Rattle.cam_gerber.specs.Statements.{Says}
-use Rattle.cam_gerber.specs.State.{Past, mode_in, mode_told, newest, point_in, centre_of, code_of, has_arcs, in_region}
+use Rattle.cam_gerber.specs.State.{Past, mode_in, mode_told, newest, point_in, arc_centre, code_of, has_arcs, in_region}
 use Rattle.cam_gerber.specs.State.{aperture_in, turn_in, dark_in}
 use Rattle.cam_gerber.specs.Homes.{home}
 use Rattle.cam_gerber.specs.Making.{segment, stroke, stroke_of, number_in, made}
@@ -36,12 +36,12 @@ use Rattle.cam_objects.specs.declared.tip.Tip.{Tip}
 
 -- ---- checks behind others
 
-pub told_before : (checks rest : Checks Refusal) (refusal : Refusal) → first checks ≡ Some refusal → first (checks ++ rest) ≡ Some refusal
+pub told_before : (checks rest : Checks Refusal) (refusal : Refusal) → first_holding checks ≡ Some refusal → first_holding (checks ++ rest) ≡ Some refusal
 told_before [] rest refusal h = absurd cc
 told_before ((told, true) ∷ checks) rest refusal h = h
 told_before ((told, false) ∷ checks) rest refusal h = told_before checks rest refusal h
 
-pub passed : (checks rest : Checks Refusal) → first checks ≡ None → first (checks ++ rest) ≡ first rest
+pub passed : (checks rest : Checks Refusal) → first_holding checks ≡ None → first_holding (checks ++ rest) ≡ first_holding rest
 passed [] rest h = refl
 passed ((told, true) ∷ checks) rest h = absurd cc
 passed ((told, false) ∷ checks) rest h = passed checks rest h
@@ -60,7 +60,7 @@ pub point_same : (past : Past) (m : Modal) (operation : Operation) → TracksMod
     → moved_point m operation ≡ point_in (Says (Operate operation) ∷ past)
 point_same past m operation t = rw (t.format, t.unit, t.point) refl
 
-pub centre_same : (past : Past) (m : Modal) (operation : Operation) → TracksModal past m → centre_by m operation ≡ centre_of past operation
+pub centre_same : (past : Past) (m : Modal) (operation : Operation) → TracksModal past m → centre_by m operation ≡ arc_centre past operation
 centre_same past m operation t = rw (t.format, t.unit, t.point) refl
 
 pub plot_same : (past : Past) (m : Modal) (operation : Operation) → TracksModal past m
@@ -137,8 +137,8 @@ draws_along arc mode tip result is told same = sym is ∙ told ∙ ap (λ b. can
 pub stroke_checks : (past : Past) (m : Modal) (entries : List (ℕ × Entry)) (n : ℕ) (operation : Operation) → TracksModal past m
     → entries ≡ entries_in past → m.aperture ≡ Some n
     → true ≡ can_draw (is_arc (mode_by m operation)) (meaning_in entries n).tip
-    → first (operated_faults Plot false past operation)
-    ≡ first (path_faults_by m operation ++ (TooMuch, is_full (home past) past (stroke_of past operation)) ∷ [])
+    → first_holding (operated_faults Plot false past operation)
+    ≡ first_holding (path_faults_by m operation ++ (TooMuch, is_full (home past) past (stroke_of past operation)) ∷ [])
 stroke_checks past m entries n operation t e a solid =
     let some : aperture_in past ≡ Some n = sym t.aperture ∙ a in
     let arc = is_arc (mode_in (Says (Operate operation) ∷ past)) in
@@ -146,7 +146,7 @@ stroke_checks past m entries n operation t e a solid =
     ap not (sym (solid ∙ ap (λ mode. can_draw (is_arc mode) (meaning_in entries n).tip) (mode_same past m operation t)
     ∙ ap (λ es. can_draw arc (meaning_in es n).tip) e)) in
     rw (ap is_none some, ap (is_unfit past arc) some ∙ fit)
-    (ap (λ checks. first (checks ++ (TooMuch, is_full (home past) past (stroke_of past operation)) ∷ []))
+    (ap (λ checks. first_holding (checks ++ (TooMuch, is_full (home past) past (stroke_of past operation)) ∷ []))
     (sym (plot_same past m operation t)))
 
 pub stroke_made : (past : Past) (operation : Operation) → in_region past ≡ false → code_of operation ≡ Plot
@@ -163,18 +163,18 @@ pub stroke_tracks : (past : Past) (operation : Operation) (old kept : Running) (
     → Tracks past old → in_region past ≡ false → code_of operation ≡ Plot
     → old.modal.aperture ≡ Some n
     → true ≡ can_draw (is_arc (mode_by old.modal operation)) (meaning_in old.built.layer.apertures n).tip
-    → first (path_faults_by old.modal operation) ≡ None
+    → first_holding (path_faults_by old.modal operation) ≡ None
     → seg ≡ segment (mode_by old.modal operation) (moved_point old.modal operation) (centre_by old.modal operation)
     → ((object : Object) → 1 ≡ object_count (weight_in old.built.layer.apertures) object
     → 0 ≡ object_depth (weight_in old.built.layer.apertures) object → false ≡ is_full (home past) past object)
     → Keeps (stroke_along old.modal n seg) 1 old kept → IsOperated kept.modal operation (end_of seg) m
-    → (first (operated_faults Plot false past operation) ≡ None) × Tracks (Says (Operate operation) ∷ past) (record kept { modal = m })
+    → (first_holding (operated_faults Plot false past operation) ≡ None) × Tracks (Says (Operate operation) ∷ past) (record kept { modal = m })
 stroke_tracks past operation old kept m n seg none t out plots a solid path seg_is full keeps done =
     let object : stroke_along old.modal n seg ≡ stroke_of past operation = ap (stroke_along old.modal n) seg_is
     ∙ stroke_same past old.modal n operation t.modal a in
     let now = Says (Operate operation) ∷ past in
     let counts = stroke_count (weight_in old.built.layer.apertures) (mode_in now) (number_in past) (point_in past) (point_in now)
-    (centre_of past operation) (turn_in past) (dark_in past) in
+    (arc_centre past operation) (turn_in past) (dark_in past) in
     let room : is_full (home past) past (stroke_of past operation) ≡ false = sym (full (stroke_of past operation) counts.0 counts.1) in
     let made_is : made past (Says (Operate operation)) ≡ stroke_along old.modal n seg ∷ [] = stroke_made past operation out plots
     ∙ ap (λ o. o ∷ []) (sym object) in
@@ -199,14 +199,14 @@ stroke_tracks past operation old kept m n seg none t out plots a solid path seg_
 -- its home is full
 pub stroke_full : (past : Past) (operation : Operation) (old : Running) (n : ℕ) → Tracks past old → old.modal.aperture ≡ Some n
     → true ≡ can_draw (is_arc (mode_by old.modal operation)) (meaning_in old.built.layer.apertures n).tip
-    → first (path_faults_by old.modal operation) ≡ None
+    → first_holding (path_faults_by old.modal operation) ≡ None
     → ((object : Object) → 1 ≡ object_count (weight_in old.built.layer.apertures) object
     → 0 ≡ object_depth (weight_in old.built.layer.apertures) object → true ≡ is_full (home past) past object)
-    → first (operated_faults Plot false past operation) ≡ Some TooMuch
+    → first_holding (operated_faults Plot false past operation) ≡ Some TooMuch
 stroke_full past operation old n t a solid path full =
     let now = Says (Operate operation) ∷ past in
     let counts = stroke_count (weight_in old.built.layer.apertures) (mode_in now) (number_in past) (point_in past) (point_in now)
-    (centre_of past operation) (turn_in past) (dark_in past) in
+    (arc_centre past operation) (turn_in past) (dark_in past) in
     let room : is_full (home past) past (stroke_of past operation) ≡ true = sym (full (stroke_of past operation) counts.0 counts.1) in
     stroke_checks past old.modal old.built.layer.apertures n operation t.modal t.built.entries a solid
     ∙ passed (path_faults_by old.modal operation) ((TooMuch, is_full (home past) past (stroke_of past operation)) ∷ []) path

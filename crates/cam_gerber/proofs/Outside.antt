@@ -12,14 +12,13 @@ use Rattle.cam_objects.specs.declared.item.Item.{Item}
 use Rattle.cam_objects.specs.declared.item_fault.ItemFault.{ItemFault}
 use Rattle.cam_objects.specs.declared.item_fault.ItemFault.TheVariants.{OutOfBoard, TooMuch}
 use Rattle.cam_objects.specs.Leaves.{Leaf, item_leaves, meaning_in}
-use Rattle.cam_objects.specs.Soundness.{AreOnBoard, IsInside, is_inside, is_within_limits, item_checks}
-use Rattle.cam_objects.specs.Soundness.{objects_of, points_of, points_of_shape}
+use Rattle.cam_objects.specs.Soundness.{AreOnBoard, IsInside, is_inside, is_within_limits, item_checks, objects_of, points_of, points_of_shape, is_on_board}
 use Rattle.cam_objects.proofs.SoundItems.{HasRadius, IsDrawable, IsFormed, IsKnown, drawable, formed, known, radii, repeated}
 use Rattle.cam_objects.proofs.TestLaws.{inside_law}
-use Rattle.cam_refusals.specs.Checks.{answer_of, first}
+use Rattle.cam_refusals.specs.Checks.{answer_of, first_holding}
 use Rattle.cam_gerber.specs.State.{Past}
 use Rattle.cam_gerber.specs.Layers.{entries_in}
-use Rattle.cam_gerber.specs.Faults.{are_on_board, is_on_board, is_outside}
+use Rattle.cam_gerber.specs.Faults.{are_leaves_on_board, is_outside}
 use Rattle.cam_gerber.specs.Machinery.WellMade.{IsWellMade, IsWellMadeItem, is_of_board}
 
 pub on_board : (p : Point) → is_on_board p ≡ true → IsOnBoard p
@@ -30,7 +29,7 @@ on_board p h =
 pub passes_board : (p : Point) → IsOnBoard p → is_on_board p ≡ true
 passes_board p h = rw (lt-ltb (unsigned_abs p.x) 1000000000 h.x, lt-ltb (unsigned_abs p.y) 1000000000 h.y) refl
 
-pub leaves_pass : (leaves : List Leaf) → AreOnBoard leaves → are_on_board leaves ≡ true
+pub leaves_pass : (leaves : List Leaf) → AreOnBoard leaves → are_leaves_on_board leaves ≡ true
 leaves_pass leaves h =
     list_all-from_AllPass _ leaves
     (All-weaker (λ (l : Leaf). All IsOnBoard (points_of_shape l.shape))
@@ -38,7 +37,7 @@ leaves_pass leaves h =
     (λ l points. list_all-from_AllPass is_on_board (points_of_shape l.shape)
     (All-weaker IsOnBoard (λ p. is_on_board p ≡ true) passes_board (points_of_shape l.shape) points)) leaves h)
 
-leaves_on_board : (leaves : List Leaf) → are_on_board leaves ≡ true → AreOnBoard leaves
+leaves_on_board : (leaves : List Leaf) → are_leaves_on_board leaves ≡ true → AreOnBoard leaves
 leaves_on_board leaves h =
     All-weaker (λ (l : Leaf). list_all is_on_board (points_of_shape l.shape) ≡ true) (λ (l : Leaf). All IsOnBoard (points_of_shape l.shape))
     (λ l points. All-weaker (λ p. is_on_board p ≡ true) IsOnBoard on_board (points_of_shape l.shape)
@@ -46,7 +45,7 @@ leaves_on_board leaves h =
     (AllPass-from_list_all _ leaves h)
 
 module _ (es : List (ℕ × Entry)) (item : Item) (well : IsWellMadeItem es item) where
-  inside : are_on_board (item_leaves (meaning_in es) item) ≡ true → IsInside es item
+  inside : are_leaves_on_board (item_leaves (meaning_in es) item) ≡ true → IsInside es item
   inside h = record {
     points = All-weaker (IsWellMade es) (λ o. All IsOnBoard (points_of o)) (λ o w. w.points) (objects_of item) well.objects;
     steps = well.steps;
@@ -54,7 +53,7 @@ module _ (es : List (ℕ × Entry)) (item : Item) (well : IsWellMadeItem es item
   }
 
   -- the test of what is inside says whether the leaves are
-  inside_is : (on within : Bool) → are_on_board (item_leaves (meaning_in es) item) ≡ on → is_inside es item ≡ within → within ≡ on
+  inside_is : (on within : Bool) → are_leaves_on_board (item_leaves (meaning_in es) item) ≡ on → is_inside es item ≡ within → within ≡ on
   inside_is true true e f = refl
   inside_is true false e f = sym f ∙ (inside_law es item).1 (inside e)
   inside_is false true e f = sym (sym e ∙ leaves_pass _ ((inside_law es item).0 f).leaves)
@@ -62,13 +61,13 @@ module _ (es : List (ℕ × Entry)) (item : Item) (well : IsWellMadeItem es item
 
   -- what is told of an item that passes all before that test
   told_by : (within few : Bool)
-      → is_of_board (answer_of (first ((OutOfBoard, not within) ∷ (TooMuch, not few) ∷ []))) ≡ not within
+      → is_of_board (answer_of (first_holding ((OutOfBoard, not within) ∷ (TooMuch, not few) ∷ []))) ≡ not within
   told_by true true = refl
   told_by true false = refl
   told_by false few = refl
 
   -- a check tells the board exactly where a leaf lies outside
-  told : is_of_board (answer_of (first (item_checks es item))) ≡ not (are_on_board (item_leaves (meaning_in es) item))
+  told : is_of_board (answer_of (first_holding (item_checks es item))) ≡ not (are_leaves_on_board (item_leaves (meaning_in es) item))
   unfolding item_checks
   told =
       rw (
@@ -79,15 +78,15 @@ module _ (es : List (ℕ × Entry)) (item : Item) (well : IsWellMadeItem es item
         (radii item).1 (All-weaker (IsWellMade es) HasRadius (λ o w. w.radius) (objects_of item) well.objects),
       )
       (told_by (is_inside es item) (is_within_limits es item))
-      ∙ ap not (inside_is (are_on_board (item_leaves (meaning_in es) item)) (is_inside es item) refl refl)
+      ∙ ap not (inside_is (are_leaves_on_board (item_leaves (meaning_in es) item)) (is_inside es item) refl refl)
 
 pub told_outside : (es : List (ℕ × Entry)) (item : Item) (r : Result (Unit {0}) ItemFault) → IsWellMadeItem es item
-    → r ≡ answer_of (first (item_checks es item))
-    → is_of_board r ≡ not (are_on_board (item_leaves (meaning_in es) item))
+    → r ≡ answer_of (first_holding (item_checks es item))
+    → is_of_board r ≡ not (are_leaves_on_board (item_leaves (meaning_in es) item))
 told_outside es item r well h = ap is_of_board h ∙ told es item well
 
 -- the same as it is said of a past
 pub outside_is : (past : Past) (stands : Item)
-    → is_outside past stands ≡ not (are_on_board (item_leaves (meaning_in (entries_in past)) stands))
+    → is_outside past stands ≡ not (are_leaves_on_board (item_leaves (meaning_in (entries_in past)) stands))
 unfolding is_outside
 outside_is past stands = refl

@@ -12,14 +12,15 @@ use Rattle.cam_objects.specs.Weights.{block_count, weight_in}
 use Rattle.cam_commands.specs.Commands.{OpenBlock, CloseBlock, SetRepeat, CloseRepeat, End, EndRegion, Operate, DefineAperture}
 use Rattle.cam_gerber.specs.Statements.{Statement, Says}
 use Rattle.cam_gerber.specs.State.{Past}
-use Rattle.cam_gerber.specs.Homes.{open_blocks, Opened, opened, is_repeated, open_repeat, Home, InBlock, InLayer}
+use Rattle.cam_gerber.specs.Homes.{open_blocks, Opened, repeat_opened, has_copies, open_repeat, Home, InBlock, InLayer}
 use Rattle.cam_gerber.specs.Homes.{home_by, home, is_same_home}
-use Rattle.cam_gerber.specs.Making.{made, made_at, objects_of, IsMaker}
-use Rattle.cam_gerber.specs.Layers.{entries_in, items_in, leaves_of, leaves_in, macros_in, item_at, closed_block}
+use Rattle.cam_gerber.specs.Making.{made, made_at, home_objects, IsMaker}
+use Rattle.cam_gerber.specs.Layers.{entries_in, items_in, home_leaves, leaves_in, macros_in, item_made, closed_block}
 use Rattle.cam_gerber.specs.Layers.{defined_by, numbered_aperture}
-use Rattle.cam_gerber.specs.Faults.{command_faults, is_defined, is_taken, is_taken_again, is_empty}
-use Rattle.cam_gerber.specs.State.{in_region, unit_in, unit_or_mm}
-use Rattle.cam_apertures.specs.Definition.{Definition, definition_of, numbered}
+use Rattle.cam_gerber.specs.Faults.{command_faults, is_defined, is_taken, is_taken_again, is_left_out}
+use Rattle.cam_gerber.specs.State.{in_region, unit_in}
+use Rattle.cam_units.specs.Nearest.{unit_or_mm}
+use Rattle.cam_apertures.specs.Definition.{Definition, template_form, numbered}
 use Rattle.cam_numbers.specs.Numbers.{defined_number}
 use Rattle.cam_apertures.specs.declared.aperture.Aperture.{Aperture}
 use Rattle.cam_macros.specs.declared.aperture_macro.Macro.{Macro}
@@ -33,9 +34,9 @@ use Rattle.cam_gerber.specs.declared.frames.OpenBlock.{OpenBlock as Frame}
 
 -- the object joins its home, and nothing else changes
 pub record Joins (past : Past) (says : Statement) : Type 0 where
-  pub objects : (h : Home) → objects_of h (says ∷ past) ≡ objects_of h past ++ made_at h past says
-  pub leaves : (h : Home) → leaves_of h (says ∷ past) ≡ leaves_of h past + block_count (weight_in (entries_in past)) (made_at h past says)
-  pub items : items_in (says ∷ past) ≡ items_in past ++ item_at past says
+  pub objects : (h : Home) → home_objects h (says ∷ past) ≡ home_objects h past ++ made_at h past says
+  pub leaves : (h : Home) → home_leaves h (says ∷ past) ≡ home_leaves h past + block_count (weight_in (entries_in past)) (made_at h past says)
+  pub items : items_in (says ∷ past) ≡ items_in past ++ item_made past says
   pub all_leaves : leaves_in (says ∷ past) ≡ leaves_in past + block_count (weight_in (entries_in past)) (made_at InLayer past says)
   pub blocks : open_blocks (says ∷ past) ≡ open_blocks past
   pub repeat : open_repeat (says ∷ past) ≡ open_repeat past
@@ -137,7 +138,7 @@ outside : (numbers : List ℕ) (repeat : Option Opened) → (numbers ≡ []) ⊎
 outside numbers repeat (inl none) = inl (ap (drop 1) none)
 outside numbers repeat (inr none) = inr none
 
-repeating : (many empty : Bool) (numbers : List ℕ) (o : Opened) → (many && not (is_empty numbers)) ≡ false
+repeating : (many empty : Bool) (numbers : List ℕ) (o : Opened) → (many && not (is_left_out numbers)) ≡ false
     → (numbers ≡ []) ⊎ (cond many (Some o) None ≡ None)
 repeating true empty [] o h = inl refl
 repeating true empty (n ∷ outer) o h = absurd cc
@@ -167,7 +168,7 @@ stay_apart (Says (DefineAperture text) ∷ older) h =
     record {
       numbers = before.numbers;
       entries =
-          defining older (definition_of text) (macros_in older) (unit_or_mm (unit_in older)) met.1.0 before.entries;
+          defining older (template_form text) (macros_in older) (unit_or_mm (unit_in older)) met.1.0 before.entries;
       repeat = before.repeat;
     }
 stay_apart (Says (SetRepeat repeat) ∷ older) h =
@@ -177,7 +178,7 @@ stay_apart (Says (SetRepeat repeat) ∷ older) h =
       numbers = before.numbers;
       entries = before.entries;
       repeat =
-          repeating (is_repeated repeat) (is_repeated repeat) (open_blocks older) (opened older repeat) met.1.1.0;
+          repeating (has_copies repeat) (has_copies repeat) (open_blocks older) (repeat_opened older repeat) met.1.1.0;
     }
 stay_apart (Says CloseRepeat ∷ older) h = let before = stay_apart older h.1 in
     record { numbers = before.numbers; entries = before.entries; repeat = inr refl }
@@ -195,9 +196,9 @@ others_stay past says n (m ∷ outer) j h e =
     let parts = or_parts (eqb m n) (has n outer) e in
     let away : made_at (InBlock m) past says ≡ [] =
     elsewhere (InBlock m) past says (rw h (ne_eqb n m (λ k. eqb-false m n parts.0 (sym k)))) in
-    let objects : objects_of (InBlock m) (says ∷ past) ≡ objects_of (InBlock m) past = j.objects (InBlock m)
-    ∙ ap (λ all. objects_of (InBlock m) past ++ all) away ∙ append-nil _ in
-    let leaves : leaves_of (InBlock m) (says ∷ past) ≡ leaves_of (InBlock m) past =
+    let objects : home_objects (InBlock m) (says ∷ past) ≡ home_objects (InBlock m) past = j.objects (InBlock m)
+    ∙ ap (λ all. home_objects (InBlock m) past ++ all) away ∙ append-nil _ in
+    let leaves : home_leaves (InBlock m) (says ∷ past) ≡ home_leaves (InBlock m) past =
     omega (arith, j.leaves (InBlock m), ap (block_count (weight_in (entries_in past))) away) in
     rw (objects, leaves, others_stay past says n outer j h parts.1) refl
 
@@ -211,8 +212,8 @@ not_home n (m ∷ outer) repeat h = (or_parts (eqb m n) (has n outer) h).0
 
 -- nothing was made at its home
 pub record IsUnused (n : ℕ) (past : Past) : Type 0 where
-  pub objects : objects_of (InBlock n) past ≡ []
-  pub leaves : leaves_of (InBlock n) past ≡ 0
+  pub objects : home_objects (InBlock n) past ≡ []
+  pub leaves : home_leaves (InBlock n) past ≡ 0
 
 still_unused : (n : ℕ) (past : Past) (says : Statement) → IsMaker says → has n (open_blocks past) ≡ false → IsUnused n past
     → IsUnused n (says ∷ past)
@@ -276,9 +277,9 @@ unused n (Says CloseBlock ∷ older) h = let u = unused n older (before_close n 
 unused n (Says (DefineAperture text) ∷ older) h =
     let parts = or_parts
     (is_some (lookup (nat_eq n)
-    (entries_in older ++ defined_by (definition_of text) (macros_in older) (unit_or_mm (unit_in older))))) _ h in
+    (entries_in older ++ defined_by (template_form text) (macros_in older) (unit_or_mm (unit_in older))))) _ h in
     let u = unused n older
-    (rw (before_definition n older (definition_of text) (macros_in older) (unit_or_mm (unit_in older)) parts.0, parts.1) refl) in
+    (rw (before_definition n older (template_form text) (macros_in older) (unit_or_mm (unit_in older)) parts.0, parts.1) refl) in
     record { objects = u.objects; leaves = u.leaves }
 unused n (_ ∷ older) h = let u = unused n older h in record { objects = u.objects; leaves = u.leaves }
 

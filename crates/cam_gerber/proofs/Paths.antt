@@ -5,10 +5,11 @@ use Rattle.std.specs.Ordering.{int_eq}
 use Rattle.std.proofs.lemmas.Bool.Decides.{Decides-int_eq, nat_tests}
 use Rattle.cam_refusals.specs.declared.refusal.Refusal.{Refusal}
 use Rattle.cam_refusals.specs.declared.refusal.Refusal.TheVariants.{OutOfBoard, ZeroRadius}
-use Rattle.cam_refusals.specs.Checks.{first}
+use Rattle.cam_refusals.specs.Checks.{first_holding}
 use Rattle.cam_units.specs.Board.{IsOnBoard}
 use Rattle.cam_units.specs.declared.point.Point.{Point}
-use Rattle.cam_gerber.specs.Faults.{is_on_board, is_same_point, path_faults}
+use Rattle.cam_gerber.specs.Faults.{is_same_point, path_faults}
+use Rattle.cam_objects.specs.Soundness.{is_on_board}
 
 both : (a b : Bool) → (a && b) ≡ true → (a ≡ true) × (b ≡ true)
 both true b h = (refl, h)
@@ -33,7 +34,7 @@ on_board_test p h = grind (arith, nat_tests, h.x, h.y)
 
 -- a centre outside the board is told where arcs may be plotted
 pub centre_outside : (arcs : Bool) (from to centre : Point) → arcs ≡ true → is_on_board from ≡ true → is_on_board centre ≡ false
-    → first (path_faults true arcs from to centre) ≡ Some OutOfBoard
+    → first_holding (path_faults true arcs from to centre) ≡ Some OutOfBoard
 centre_outside arcs from to centre a h k = rw (a, apart from centre h k, k) (by_or (is_on_board to))
   where
     by_or : (b : Bool) → cond {A = Option Refusal} (not b || true) (Some OutOfBoard) None ≡ Some OutOfBoard
@@ -41,14 +42,14 @@ centre_outside arcs from to centre a h k = rw (a, apart from centre h k, k) (by_
     by_or false = refl
 
 pub no_radius : (arcs : Bool) (from to centre : Point) → arcs ≡ true → is_same_point from centre ≡ true
-    → first (path_faults true arcs from to centre) ≡ Some ZeroRadius
+    → first_holding (path_faults true arcs from to centre) ≡ Some ZeroRadius
 no_radius arcs from to centre a h = rw (a, h) refl
 
 pub end_outside : (arcs : Bool) (from to centre : Point) → arcs ≡ true → is_same_point from centre ≡ false → is_on_board to ≡ false
-    → first (path_faults true arcs from to centre) ≡ Some OutOfBoard
+    → first_holding (path_faults true arcs from to centre) ≡ Some OutOfBoard
 end_outside arcs from to centre a h k = rw (a, h, k) refl
 
 pub no_fault : (arcs : Bool) (from to centre : Point) → arcs ≡ true → is_same_point from centre ≡ false → is_on_board to ≡ true
     → is_on_board centre ≡ true
-    → first (path_faults true arcs from to centre) ≡ None
+    → first_holding (path_faults true arcs from to centre) ≡ None
 no_fault arcs from to centre a h k l = rw (a, h, k, l) refl

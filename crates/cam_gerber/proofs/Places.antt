@@ -9,26 +9,26 @@ use Rattle.cam_words.specs.Heads.{is_comment}
 use Rattle.cam_words.specs.Cutting.{Command, WordCommand, ExtendedCommand, IsCommand, IsPiece, Piece, Blank, Whole}
 use Rattle.cam_words.specs.Cutting.{bytes_of, bytes_of_command, word_of, words_of}
 use Rattle.cam_words.specs.Laws.{BeginsCommand, HasCutFront, HasCutting, TellsFault}
-use Rattle.cam_words.specs.Reading.{Answer, reading, told}
+use Rattle.cam_words.specs.Reading.{WordAnswer, reading, words_told}
 use Rattle.cam_words.specs.declared.word.Kind.TheVariants.{Plain, Comment}
 use Rattle.cam_words.specs.declared.word.TextFault.{TextFault}
 use Rattle.cam_words.proofs.Cuttings.{reads_its_words}
 use Rattle.cam_words.proofs.Longest.{stops_at_the_longest_front}
-use Rattle.cam_commands.specs.Syntax.{command_of, place_of, place_by}
+use Rattle.cam_commands.specs.Syntax.{command_of, start_of, place_by}
 use Rattle.cam_gerber.specs.State.{Past}
 use Rattle.cam_gerber.specs.Reading.{is_end, places_from}
-use Rattle.cam_gerber.specs.Computing.{statement_of, told_of}
+use Rattle.cam_gerber.specs.Computing.{statement_said, told_of}
 
 -- the answers to a text that is cut, as those that a fault would follow
-read_whole : (text : List ℕ) (cut : HasCutting text) → reading 0 text ≡ told (words_of 0 cut.0) ++ []
-read_whole text cut = reads_its_words text cut.0 cut.1 ∙ sym (append-nil (told (words_of 0 cut.0)))
+read_whole : (text : List ℕ) (cut : HasCutting text) → reading 0 text ≡ words_told (words_of 0 cut.0) ++ []
+read_whole text cut = reads_its_words text cut.0 cut.1 ∙ sym (append-nil (words_told (words_of 0 cut.0)))
 
 -- ---- what holds of the words of commands and of the faults of the cutting holds of all answers
 
-module _ (P : Answer → Type 0) (of_word : (at : ℕ) (command : Command) → IsCommand command → P (Ok (word_of at command)))
+module _ (P : WordAnswer → Type 0) (of_word : (at : ℕ) (command : Command) → IsCommand command → P (Ok (word_of at command)))
     (of_fault : (fault : TextFault) (text : List ℕ) → TellsFault fault.code text → P (Err fault)) where
-  all_words : (at : ℕ) (pieces : List Piece) (rest : List Answer) → AllByRecursion IsPiece pieces → AllByRecursion P rest
-      → AllByRecursion P (told (words_of at pieces) ++ rest)
+  all_words : (at : ℕ) (pieces : List Piece) (rest : List WordAnswer) → AllByRecursion IsPiece pieces → AllByRecursion P rest
+      → AllByRecursion P (words_told (words_of at pieces) ++ rest)
   all_words at [] rest h k = k
   all_words at (Blank run ∷ pieces) rest h k = all_words (at + length run) pieces rest h.1 k
   all_words at (Whole command ∷ pieces) rest h k =
@@ -43,10 +43,10 @@ module _ (P : Answer → Type 0) (of_word : (at : ℕ) (command : Command) → I
 
 -- ---- places
 
-place_of_command : (at : ℕ) (command : Command) → place_of (word_of at command) ≡ at
-place_of_command at (WordCommand text) =
+start_of_command : (at : ℕ) (command : Command) → start_of (word_of at command) ≡ at
+start_of_command at (WordCommand text) =
     elim (is_comment text) as (λ b. place_by (cond b Comment Plain) at ≡ at) [ true ↦ refl | false ↦ refl ]
-place_of_command at (ExtendedCommand text tail) = omega arith
+start_of_command at (ExtendedCommand text tail) = omega arith
 
 some_bytes : (command : Command) → 0 < length (bytes_of_command command)
 some_bytes (WordCommand text) = omega (arith, length-append text (star ∷ []))
@@ -56,26 +56,26 @@ some_behind : (text : List ℕ) → BeginsCommand text → 0 < length text
 some_behind [] h = absurd h
 some_behind (byte ∷ text) h = omega arith
 
-abbrev Ascend : ℕ → ℕ → List Answer → Type 0
+abbrev Ascend : ℕ → ℕ → List WordAnswer → Type 0
 Ascend len low answers = (past : Past) → AscendFrom low (places_from len past (map told_of answers))
 
-ascend_words : (len low at end : ℕ) (pieces : List Piece) (rest : List Answer) → low ≤ at
+ascend_words : (len low at end : ℕ) (pieces : List Piece) (rest : List WordAnswer) → low ≤ at
     → at + length (flat_map bytes_of pieces) ≡ end → ((low : ℕ) → low ≤ end → Ascend len low rest)
-    → Ascend len low (told (words_of at pieces) ++ rest)
+    → Ascend len low (words_told (words_of at pieces) ++ rest)
 ascend_words len low at end [] rest le ends behind = behind low (omega (arith, le, ends))
 ascend_words len low at end (Blank run ∷ pieces) rest le ends behind =
     ascend_words len low (at + length run) end pieces rest (omega (arith, le))
     (omega (arith, ends, length-append run (flat_map bytes_of pieces))) behind
 ascend_words len low at end (Whole command ∷ pieces) rest le ends behind = λ past.
-    let is = place_of_command at command in
+    let is = start_of_command at command in
     let next = at + length (bytes_of_command command) in
-    let says = statement_of (command_of (word_of at command)) in (
+    let says = statement_said (command_of (word_of at command)) in (
       omega (arith, is, le),
       elim (is_end says)
-          as (λ b. AscendFrom (place_of (word_of at command) + 1)
-          (cond b [] (places_from len (says ∷ past) (map told_of (told (words_of next pieces) ++ rest))))) [
+          as (λ b. AscendFrom (start_of (word_of at command) + 1)
+          (cond b [] (places_from len (says ∷ past) (map told_of (words_told (words_of next pieces) ++ rest))))) [
             | true ↦ tt
-            | false ↦ ascend_words len (place_of (word_of at command) + 1) next end pieces rest
+            | false ↦ ascend_words len (start_of (word_of at command) + 1) next end pieces rest
                 (omega (arith, is, some_bytes command))
                 (omega (arith, ends, length-append (bytes_of_command command) (flat_map bytes_of pieces))) behind (says ∷ past)
           ],

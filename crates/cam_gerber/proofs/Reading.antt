@@ -9,7 +9,7 @@ use Rattle.cam_refusals.specs.declared.read_fault.ReadFault.{ReadFault}
 use Rattle.cam_refusals.specs.declared.refusal.Refusal.{Refusal}
 use Rattle.cam_refusals.specs.Checks.{least}
 use Rattle.cam_refusals.specs.Refusals.{number_of}
-use Rattle.cam_words.specs.Reading.{Answer, reading}
+use Rattle.cam_words.specs.Reading.{WordAnswer, reading}
 use Rattle.cam_macros.specs.declared.part.Part.{Part}
 use Rattle.cam_macros.specs.Parsing.{parts_of}
 use Rattle.cam_macros.specs.Parsing as parsing
@@ -19,57 +19,57 @@ use Rattle.cam_macros.proofs.Parsed.{parsed_by_the_grammar}
 use Rattle.cam_commands.specs.Commands.{Command, DefineMacro}
 use Rattle.cam_commands.specs.Syntax.{command_of}
 use Rattle.cam_objects.specs.Contents.{Content}
-use Rattle.cam_gerber.specs.Statements.{Statement, Says, NamesMacro, Uncut, IsReadAs, IsMacroOf, IsSaidBy, Told, IsTold}
+use Rattle.cam_gerber.specs.Statements.{Statement, Says, NamesMacro, Uncut, IsMacroRead, IsMacroOf, IsSaidBy, Told, IsCommandTold}
 use Rattle.cam_gerber.specs.State.{Past}
 use Rattle.cam_gerber.specs.Layers.{layer_in}
 use Rattle.cam_gerber.specs.Faults.{faults}
 use Rattle.cam_gerber.specs.Reading.{AreTold, Leads, Means, given, is_end}
-use Rattle.cam_gerber.specs.Computing.{MeansItsReading, lead_of, reading_of, statement_of, told_of}
+use Rattle.cam_gerber.specs.Computing.{MeansItsReading, lead_of, reading_of, statement_said, told_of}
 use Rattle.cam_gerber.specs.Laws.{AreEndless, AreFaultless, behind, MeansOneThing}
 
 -- ---- what is told is computed
 
-read_as : (text : List ℕ) (parts : Option (List Part)) → parsing.IsReadAs text parts → IsReadAs text (first (pieces text)) parts
+read_as : (text : List ℕ) (parts : Option (List Part)) → parsing.IsReadAs text parts → IsMacroRead text (first (pieces text)) parts
 read_as text (Some parts) h = h
 read_as text None h = λ parts. h (first (pieces text)) parts
 
-pub said : (command : Command) → IsSaidBy command (statement_of command)
+pub said : (command : Command) → IsSaidBy command (statement_said command)
 said (DefineMacro text) = (refl, read_as text (parts_of text) (parsed_by_the_grammar text))
 said _ = refl
 
-told : (answer : Answer) → IsTold answer (told_of answer)
+told : (answer : WordAnswer) → IsCommandTold answer (told_of answer)
 told (Ok word) = (said (command_of word), refl)
 told (Err fault) = (refl, refl)
 
-pub are_told : (answers : List Answer) → AreTold answers (map told_of answers)
+pub are_told : (answers : List WordAnswer) → AreTold answers (map told_of answers)
 are_told [] = tt
 are_told (answer ∷ answers) = (told answer, are_told answers)
 
 -- ---- nothing else is told
 
-same_parts : (text name : List ℕ) (a b : Option (List Part)) → IsReadAs text name a → IsReadAs text name b → a ≡ b
+same_parts : (text name : List ℕ) (a b : Option (List Part)) → IsMacroRead text name a → IsMacroRead text name b → a ≡ b
 same_parts text name (Some a) (Some b) h k = ap Some (one_reading text name name a b h k).1
 same_parts text name (Some a) None h k = absurd (k a h)
 same_parts text name None (Some b) h k = absurd (h b k)
 same_parts text name None None h k = refl
 
-same_macro : (text : List ℕ) (says : Statement) → IsMacroOf text says → says ≡ statement_of (DefineMacro text)
+same_macro : (text : List ℕ) (says : Statement) → IsMacroOf text says → says ≡ statement_said (DefineMacro text)
 same_macro text (Says command) h = absurd h
 same_macro text (Uncut refusal) h = absurd h
 same_macro text (NamesMacro name parts) h =
-    let read = subst (λ name. IsReadAs text name parts) h.0 h.1 in
+    let read = subst (λ name. IsMacroRead text name parts) h.0 h.1 in
     ap₂ (λ name parts. NamesMacro name parts) h.0
     (same_parts text (first (pieces text)) parts (parts_of text) read (read_as text (parts_of text) (parsed_by_the_grammar text)))
 
-pub same_said : (command : Command) (says : Statement) → IsSaidBy command says → says ≡ statement_of command
+pub same_said : (command : Command) (says : Statement) → IsSaidBy command says → says ≡ statement_said command
 same_said (DefineMacro text) says h = same_macro text says h
 same_said _ says h = h
 
-same_told : (answer : Answer) (t : Told) → IsTold answer t → t ≡ told_of answer
+same_told : (answer : WordAnswer) (t : Told) → IsCommandTold answer t → t ≡ told_of answer
 same_told (Ok word) t h = ap₂ (λ says at. record { says = says; at = at }) (same_said (command_of word) t.says h.0) h.1
 same_told (Err fault) t h = ap₂ (λ says at. record { says = says; at = at }) h.0 h.1
 
-pub all_told : (answers : List Answer) (commands : List Told) → AreTold answers commands → commands ≡ map told_of answers
+pub all_told : (answers : List WordAnswer) (commands : List Told) → AreTold answers commands → commands ≡ map told_of answers
 all_told [] [] h = refl
 all_told [] (command ∷ commands) h = absurd h
 all_told (answer ∷ answers) [] h = absurd h
@@ -78,11 +78,11 @@ all_told (answer ∷ answers) (command ∷ commands) h =
 
 -- ---- what a file means is computed
 
-leads_is : (len : ℕ) (past : Past) (answers : List Answer) (result : Result Content ReadFault) → Leads len past answers result
+leads_is : (len : ℕ) (past : Past) (answers : List WordAnswer) (result : Result Content ReadFault) → Leads len past answers result
     → result ≡ lead_of len past answers
 leads_is len past answers result h = h.2 ∙ ap (given len past) (all_told answers h.0 h.1)
 
-leads : (len : ℕ) (past : Past) (answers : List Answer) (result : Result Content ReadFault) → result ≡ lead_of len past answers
+leads : (len : ℕ) (past : Past) (answers : List WordAnswer) (result : Result Content ReadFault) → result ≡ lead_of len past answers
     → Leads len past answers result
 leads len past answers result e = (map told_of answers, are_told answers, e)
 
@@ -130,7 +130,7 @@ behind_front len past (command ∷ front) later endless none =
     goes_on len past command (front ++ later) (none_told command.at (least number_of (faults past command.says)) none.0) parts.0
     ∙ behind_front len (command.says ∷ past) front later parts.1 none.1
 
-module _ (len : ℕ) (past : Past) (front rest : List Answer) (commands : List Told) (are : AreTold front commands)
+module _ (len : ℕ) (past : Past) (front rest : List WordAnswer) (commands : List Told) (are : AreTold front commands)
     (endless : AreEndless commands) (none : AreFaultless past commands) where
   same_lead : lead_of len past (front ++ rest) ≡ lead_of len (behind past commands) rest
   same_lead = ap (given len past) (map-append told_of front rest ∙ ap (λ all. all ++ map told_of rest) (sym (all_told front commands are)))

@@ -4,35 +4,36 @@ use Rattle.std.proofs.Common.{refl, sym, ap, ap₂, subst, ◌∙◌, arith}
 use Rattle.std.specs.Prelude.{ℤ, map, ◌||◌, ◌&&◌, not}
 use Rattle.std.specs.Option.{option_map}
 use Rattle.std.specs.declared.collections.VecDeque.{VecDeque}
-use Rattle.cam_refusals.specs.Checks.{first}
+use Rattle.cam_refusals.specs.Checks.{first_holding}
 use Rattle.cam_objects.specs.declared.object.Object.{Object}
 use Rattle.cam_commands.specs.declared.parts.Repeat.{Repeat}
 use Rattle.cam_commands.specs.declared.parts.Slot.{Slot}
 use Rattle.cam_commands.specs.declared.parts.Slot.TheVariants.{Omitted, Malformed, Written}
 use Rattle.cam_units.specs.declared.length.Unit.{Unit as FileUnit}
-use Rattle.cam_units.specs.Nearest.{fix9_of}
+use Rattle.cam_units.specs.Nearest.{fix9_of, unit_or_mm}
 use Rattle.cam_commands.specs.Commands.{SetRepeat}
 use Rattle.cam_gerber.specs.declared.frames.OpenBlock.{OpenBlock}
 use Rattle.cam_gerber.specs.declared.frames.OpenRepeat.{OpenRepeat}
 use Rattle.cam_gerber.specs.declared.running.Running.{Running}
 use Rattle.cam_gerber.specs.Statements.{Says}
-use Rattle.cam_gerber.specs.State.{Past, in_region, unit_in, unit_or_mm}
-use Rattle.cam_gerber.specs.Homes.{count_of, is_repeated, open_blocks, open_repeat, opened, step_of}
-use Rattle.cam_gerber.specs.Faults.{closing_faults, command_faults, has_short_steps, is_empty, is_malformed, is_short}
+use Rattle.cam_gerber.specs.State.{Past, in_region, unit_in}
+use Rattle.cam_gerber.specs.Homes.{copies_written, has_copies, open_blocks, open_repeat, repeat_opened, step_written}
+use Rattle.cam_gerber.specs.Faults.{closing_faults, command_faults, has_steps_on_board, is_left_out, is_malformed}
+use Rattle.cam_objects.specs.Soundness.{is_short}
 use Rattle.cam_gerber.specs.Machinery.Tracking.{IsSettled, Tracks, TracksModal, TracksRegion, block_of, repeat_of}
 use Rattle.cam_gerber.specs.Machinery.Closing.{opened_by, step_by}
 use Rattle.cam_gerber.proofs.UnusedRepeats.{unused_repeat}
 
-empty_map : (past : Past) (numbers : List ℕ) → is_empty (map (block_of past) numbers) ≡ is_empty numbers
+empty_map : (past : Past) (numbers : List ℕ) → is_left_out (map (block_of past) numbers) ≡ is_left_out numbers
 empty_map past [] = refl
 empty_map past (n ∷ outer) = refl
 
-no_blocks : (past : Past) (old : Running) → Tracks past old → is_empty old.frames.blocks.items ≡ is_empty (open_blocks past)
-no_blocks past old t = ap is_empty t.frames.blocks ∙ empty_map past (open_blocks past)
+no_blocks : (past : Past) (old : Running) → Tracks past old → is_left_out old.frames.blocks.items ≡ is_left_out (open_blocks past)
+no_blocks past old t = ap is_left_out t.frames.blocks ∙ empty_map past (open_blocks past)
 
 -- ---- faults before the close
 
-step_same : (past : Past) (unit : FileUnit) (slot : Slot ℤ) → unit_in past ≡ Some unit → step_by unit slot ≡ step_of past slot
+step_same : (past : Past) (unit : FileUnit) (slot : Slot ℤ) → unit_in past ≡ Some unit → step_by unit slot ≡ step_written past slot
 step_same past unit Omitted e = refl
 step_same past unit Malformed e = refl
 step_same past unit (Written n) e = ap (λ u. fix9_of n (unit_or_mm u)) (sym e)
@@ -41,37 +42,37 @@ step_same past unit (Written n) e = ap (λ u. fix9_of n (unit_or_mm u)) (sym e)
 pub record IsSettable (old : Running) (unit : FileUnit) (repeat : Repeat) : Type 0 where
   pub formed : (is_malformed repeat.columns || is_malformed repeat.rows || is_malformed repeat.i || is_malformed repeat.j) ≡ false
   pub known : old.modal.unit ≡ Some unit
-  pub nested : (is_repeated repeat && not (is_empty old.frames.blocks.items)) ≡ false
+  pub nested : (has_copies repeat && not (is_left_out old.frames.blocks.items)) ≡ false
   pub outside : old.region.inside ≡ false
 
 pub opening_checks : (past : Past) (old : Running) (unit : FileUnit) (repeat : Repeat) (short : Bool) → Tracks past old
     → IsSettable old unit repeat
     → (is_short (step_by unit repeat.i) && is_short (step_by unit repeat.j)) ≡ short
-    → first (command_faults past (SetRepeat repeat)) ≡ first (closing_faults past short)
+    → first_holding (command_faults past (SetRepeat repeat)) ≡ first_holding (closing_faults past short)
 opening_checks past old unit repeat short t s e =
     let set : unit_in past ≡ Some unit = sym t.modal.unit ∙ s.known in
-    let nested : (is_repeated repeat && not (is_empty (open_blocks past))) ≡ false =
-    ap (λ b. is_repeated repeat && not b) (sym (no_blocks past old t)) ∙ s.nested in
+    let nested : (has_copies repeat && not (is_left_out (open_blocks past))) ≡ false =
+    ap (λ b. has_copies repeat && not b) (sym (no_blocks past old t)) ∙ s.nested in
     let out : in_region past ≡ false = sym t.region.inside ∙ s.outside in
-    let steps : has_short_steps past repeat ≡ short =
+    let steps : has_steps_on_board past repeat ≡ short =
     ap₂ (λ i j. is_short i && is_short j) (sym (step_same past unit repeat.i set)) (sym (step_same past unit repeat.j set)) ∙ e in
     rw (s.formed, set, nested, out, steps) refl
 
 -- ---- a repeat that is opened has no object yet
 
 opened_same : (past : Past) (unit : FileUnit) (repeat : Repeat) → unit_in past ≡ Some unit
-    → opened_by unit repeat ≡ repeat_of (Says (SetRepeat repeat) ∷ past) (opened past repeat)
+    → opened_by unit repeat ≡ repeat_of (Says (SetRepeat repeat) ∷ past) (repeat_opened past repeat)
 opened_same past unit repeat e =
     let none = unused_repeat past (length past) (omega arith) in
     ap₂ (λ (i j : ℤ).
-    record { columns = count_of repeat.columns; rows = count_of repeat.rows; i = i; j = j; objects = []; leaves = 0 })
+    record { columns = copies_written repeat.columns; rows = copies_written repeat.rows; i = i; j = j; objects = []; leaves = 0 })
     (step_same past unit repeat.i e) (step_same past unit repeat.j e)
     ∙ ap₂ (λ (objects : List Object) (leaves : ℕ).
     record {
-      columns = count_of repeat.columns;
-      rows = count_of repeat.rows;
-      i = step_of past repeat.i;
-      j = step_of past repeat.j;
+      columns = copies_written repeat.columns;
+      rows = copies_written repeat.rows;
+      i = step_written past repeat.i;
+      j = step_written past repeat.j;
       objects = objects;
       leaves = min 4000001 leaves;
     })
@@ -112,18 +113,18 @@ set_tracks past old new repeat opens t settled is =
     }
 
 pub set_one : (past : Past) (old new : Running) (unit : FileUnit) (repeat : Repeat) → Tracks past old → IsSettable old unit repeat
-    → (is_short (step_by unit repeat.i) && is_short (step_by unit repeat.j)) ≡ true → is_repeated repeat ≡ false
-    → (first (closing_faults past true) ≡ None) × IsSettled past old new
-    → (first (command_faults past (SetRepeat repeat)) ≡ None) × Tracks (Says (SetRepeat repeat) ∷ past) new
+    → (is_short (step_by unit repeat.i) && is_short (step_by unit repeat.j)) ≡ true → has_copies repeat ≡ false
+    → (first_holding (closing_faults past true) ≡ None) × IsSettled past old new
+    → (first_holding (command_faults past (SetRepeat repeat)) ≡ None) × Tracks (Says (SetRepeat repeat) ∷ past) new
 set_one past old new unit repeat t s short one (none, settled) =
     (opening_checks past old unit repeat true t s short ∙ none, set_tracks past old new repeat new.frames.repeat t settled (settled.repeat ∙ rw one refl))
 
 pub set_many : (past : Past) (old new : Running) (unit : FileUnit) (repeat : Repeat) (opens : OpenRepeat) → Tracks past old
     → IsSettable old unit repeat
-    → (is_short (step_by unit repeat.i) && is_short (step_by unit repeat.j)) ≡ true → is_repeated repeat ≡ true
+    → (is_short (step_by unit repeat.i) && is_short (step_by unit repeat.j)) ≡ true → has_copies repeat ≡ true
     → opens ≡ opened_by unit repeat
-    → (first (closing_faults past true) ≡ None) × IsSettled past old new
-    → (first (command_faults past (SetRepeat repeat)) ≡ None)
+    → (first_holding (closing_faults past true) ≡ None) × IsSettled past old new
+    → (first_holding (command_faults past (SetRepeat repeat)) ≡ None)
     × Tracks (Says (SetRepeat repeat) ∷ past) (record new { frames = record new.frames { repeat = Some opens } })
 set_many past old new unit repeat opens t s short many made (none, settled) = (
   opening_checks past old unit repeat true t s short ∙ none,

@@ -9,14 +9,14 @@ use Rattle.cam_units.specs.Board.{IsOnBoard}
 use Rattle.cam_units.specs.declared.point.Point.{Point}
 use Rattle.cam_shapes.specs.declared.segments.Seg.{Seg}
 use Rattle.cam_shapes.specs.declared.segments.Seg.TheVariants.{Line, Curve}
-use Rattle.cam_objects.specs.Soundness.{have_radii, is_apart, points_of_seg}
+use Rattle.cam_objects.specs.Soundness.{have_radii, is_apart, points_of_seg, is_on_board}
 use Rattle.cam_objects.proofs.SoundItems.{HaveRadii}
 use Rattle.cam_commands.specs.declared.parts.Mode.{Mode}
 use Rattle.cam_commands.specs.declared.parts.Mode.TheVariants.{Linear, Clockwise, Counterclockwise}
 use Rattle.cam_commands.specs.declared.parts.OperationCode.{OperationCode}
 use Rattle.cam_commands.specs.declared.parts.OperationCode.TheVariants.{Plot, Move, Flash}
 use Rattle.cam_gerber.specs.Making.{segment, segments_by, start_by}
-use Rattle.cam_gerber.specs.Faults.{is_arc, is_on_board, is_same_point, path_faults}
+use Rattle.cam_gerber.specs.Faults.{is_arc, is_same_point, path_faults}
 use Rattle.cam_gerber.proofs.Least.{ArePassed}
 use Rattle.cam_gerber.proofs.JoiningParts.{told, on_board}
 

@@ -16,11 +16,11 @@ use Rattle.cam_macros.specs.declared.primitive.MacroPrimitive.{MacroPrimitive}
 use Rattle.cam_macros.specs.Expansion.{expansion_of}
 use Rattle.cam_apertures.specs.declared.aperture.Aperture.{Aperture}
 use Rattle.cam_apertures.specs.declared.aperture.Aperture.TheVariants.{Prims}
-use Rattle.cam_apertures.specs.Definition.{Definition, aperture_of, by_macro, circle, faults_of, has_sizes}
-use Rattle.cam_apertures.specs.Definition.{is_between, macro_faults, named, obround, painted, rect, standard_faults}
+use Rattle.cam_apertures.specs.Definition.{Definition, template_aperture, by_macro, circle, faults_of, has_sizes}
+use Rattle.cam_apertures.specs.Definition.{is_size_between, macro_faults, named, obround, primitives_aperture, rect, standard_faults}
 use Rattle.cam_apertures.specs.Definition.{template_faults, values_of}
 use Rattle.cam_numbers.specs.Numbers.{defined_number, natural}
-use Rattle.cam_apertures.specs.Soundness.{IsSide, IsSoundAperture}
+use Rattle.cam_apertures.specs.Soundness.{IsSideLength, IsSoundAperture}
 use Rattle.cam_apertures.proofs.Expansions.{expanded_sound}
 use Rattle.cam_objects.specs.declared.entry.Entry.{Entry}
 use Rattle.cam_objects.specs.Soundness.{IsSoundEntry}
@@ -44,12 +44,12 @@ numbers_within (Some n) = within n (nat_lt n 10) (nat_lt 2147483647 n) refl refl
 
 -- ---- apertures
 
-sized : (z : ℤ) → is_between (pos 0) z ≡ true → IsSize z
+sized : (z : ℤ) → is_size_between (pos 0) z ≡ true → IsSize z
 sized (pos n) h = let on = and_parts (leb 0 n) (leb n 200000000) h in let high = leb-true n 200000000 on.1 in
     (omega (arith, ints), omega (arith, ints, high))
 sized (negsuc n) h = absurd cc
 
-sided : (z : ℤ) → is_between (pos 1) z ≡ true → IsSide z
+sided : (z : ℤ) → is_size_between (pos 1) z ≡ true → IsSideLength z
 sided (pos n) h =
     let on = and_parts (leb 1 n) (leb n 200000000) h in
     let low = leb-true 1 n on.0 in
@@ -57,13 +57,13 @@ sided (pos n) h =
     (omega (arith, ints, low), omega (arith, ints, high))
 sided (negsuc n) h = absurd cc
 
-circles : (d h : ℤ) → (is_between (pos 0) d && is_between (pos 0) h) ≡ true → IsSize d × IsSize h
-circles d h e = let on = and_parts (is_between (pos 0) d) (is_between (pos 0) h) e in (sized d on.0, sized h on.1)
+circles : (d h : ℤ) → (is_size_between (pos 0) d && is_size_between (pos 0) h) ≡ true → IsSize d × IsSize h
+circles d h e = let on = and_parts (is_size_between (pos 0) d) (is_size_between (pos 0) h) e in (sized d on.0, sized h on.1)
 
-sides : (w h k : ℤ) → (is_between (pos 1) w && (is_between (pos 1) h && is_between (pos 0) k)) ≡ true → IsSide w × IsSide h × IsSize k
+sides : (w h k : ℤ) → (is_size_between (pos 1) w && (is_size_between (pos 1) h && is_size_between (pos 0) k)) ≡ true → IsSideLength w × IsSideLength h × IsSize k
 sides w h k e =
-    let on = and_parts (is_between (pos 1) w) (is_between (pos 1) h && is_between (pos 0) k) e in
-    let rest = and_parts (is_between (pos 1) h) (is_between (pos 0) k) on.1 in (sided w on.0, sided h rest.0, sized k rest.1)
+    let on = and_parts (is_size_between (pos 1) w) (is_size_between (pos 1) h && is_size_between (pos 0) k) e in
+    let rest = and_parts (is_size_between (pos 1) h) (is_size_between (pos 0) k) on.1 in (sided w on.0, sided h rest.0, sized k rest.1)
 
 abbrev IfMade : Option Aperture → Type 0
 IfMade o = IfSome o IsSoundAperture
@@ -74,17 +74,17 @@ by_test true s t a c h k all = h all
 by_test false s t a c h k all = k all
 
 of_made : (made : Result (List MacroPrimitive) MacroFault)
-    → ((prims : List MacroPrimitive) → made ≡ Ok prims → IsSoundAperture (Prims prims)) → IfMade (painted made)
+    → ((prims : List MacroPrimitive) → made ≡ Ok prims → IsSoundAperture (Prims prims)) → IfMade (primitives_aperture made)
 of_made (Ok prims) h = h prims refl
 of_made (Err fault) h = tt
 
 of_macro : (found : Option Macro) (unit : FileUnit) (values : List ℤ)
-    → IfMade (by_macro found None (λ m. painted (expansion_of unit values m.parts)))
+    → IfMade (by_macro found None (λ m. primitives_aperture (expansion_of unit values m.parts)))
 of_macro None unit values = tt
 of_macro (Some m) unit values = of_made (expansion_of unit values m.parts) (λ prims e. expanded_sound unit values m.parts prims e)
 
 sound_template : (name : List ℕ) (macros : List Macro) (unit : FileUnit) (count : ℕ) (values : List ℤ)
-    → ArePassed (template_faults name macros unit count values) → IfMade (aperture_of name macros unit values)
+    → ArePassed (template_faults name macros unit count values) → IfMade (template_aperture name macros unit values)
 sound_template name macros unit count values =
     by_test (bytes_eq name (codes "C")) (standard_faults 1 count (circle unit values)) _ (Some (circle unit values)) _
     (λ all. circles _ _ (told (has_sizes (circle unit values)) all.1.1.0))
@@ -94,7 +94,7 @@ sound_template name macros unit count values =
     (λ all. sides _ _ _ (told (has_sizes (obround unit values)) all.1.1.0))
     (by_test (bytes_eq name (codes "P")) ((TemplateRefused, true) ∷ [])
     (by_macro (named macros name) ((TemplateRefused, true) ∷ []) (λ m. macro_faults (expansion_of unit values m.parts))) None
-    (by_macro (named macros name) None (λ m. painted (expansion_of unit values m.parts))) (λ all. tt)
+    (by_macro (named macros name) None (λ m. primitives_aperture (expansion_of unit values m.parts))) (λ all. tt)
     (λ all. of_macro (named macros name) unit values))))
 
 -- an entry that a definition makes
@@ -112,7 +112,7 @@ pub sound_definition : (d : Option Definition) (macros : List Macro) (unit : Fil
 sound_definition None macros unit all = tt
 sound_definition (Some d) macros unit all =
     let values = unwrap_or (values_of d.parameters) [] in
-    by (defined_number d.number) (aperture_of d.name macros unit values) (numbers_within (natural d.number))
+    by (defined_number d.number) (template_aperture d.name macros unit values) (numbers_within (natural d.number))
     (sound_template d.name macros unit (length d.parameters) values all.1.1)
   where
     by : (n : Option ℕ) (a : Option Aperture) → IfSome n IsEntryNumber → IfMade a → AreDefined (numbered_aperture n a)

@@ -5,14 +5,14 @@ use Rattle.std.specs.Map.{lookup}
 use Rattle.cam_units.specs.declared.length.Unit.{Unit as FileUnit}
 use Rattle.cam_macros.specs.declared.aperture_macro.Macro.{Macro}
 use Rattle.cam_apertures.specs.declared.aperture.Aperture.{Aperture}
-use Rattle.cam_apertures.specs.Definition.{IsDefined, definition_of, faults_of}
+use Rattle.cam_apertures.specs.Definition.{IsDefined, template_form, faults_of}
 use Rattle.cam_objects.specs.declared.entry.Entry.{Entry}
 use Rattle.cam_objects.specs.declared.entry.Entry.TheVariants as entry
 use Rattle.cam_objects.specs.Soundness.{MayAddEntry}
 use Rattle.cam_gerber.specs.declared.frames.OpenBlock.{OpenBlock as Frame}
 use Rattle.cam_gerber.specs.declared.running.Running.{Running}
 use Rattle.cam_gerber.specs.Homes.{InBlock, open_blocks}
-use Rattle.cam_gerber.specs.Making.{objects_of}
+use Rattle.cam_gerber.specs.Making.{home_objects}
 use Rattle.cam_gerber.specs.Machinery.Tracking.{HasPast, block_of}
 use Rattle.cam_gerber.proofs.Least.{passed_by}
 use Rattle.cam_gerber.proofs.SoundDefinitions.{AreDefined, sound_definition}
@@ -30,7 +30,7 @@ closing_may_add old block rest h is = go (open_blocks h.0) refl
         let joined : block ∷ rest ≡ block_of h.0 n ∷ map (block_of h.0) outer = sym is ∙ h.2.frames.blocks ∙ ap (map (block_of h.0)) e in
         let top : block ≡ block_of h.0 n = cc in
         subst (λ (b : Frame). MayAddEntry old.built.layer.apertures b.number (entry.Block b.objects)) (sym top)
-        (subst (λ es. MayAddEntry es n (entry.Block (objects_of (InBlock n) h.0))) (sym h.2.built.entries)
+        (subst (λ es. MayAddEntry es n (entry.Block (home_objects (InBlock n) h.0))) (sym h.2.built.entries)
         (block_may_join h.0 n outer h.1 h.3 e))
 
 -- what a definition defines
@@ -39,6 +39,6 @@ pub definition_may_add : (es : List (ℕ × Entry)) (text : List ℕ) (macros : 
     → MayAddEntry es n (entry.Aperture a)
 definition_may_add es text macros unit n a d free =
     let sound = subst AreDefined (defined_entry text macros unit n a d)
-    (sound_definition (definition_of text) macros unit
-    (passed_by (faults_of (definition_of text) macros unit) d.faultless)) in
+    (sound_definition (template_form text) macros unit
+    (passed_by (faults_of (template_form text) macros unit) d.faultless)) in
     record { least = sound.0.0; greatest = sound.0.1; absent = free; sound = sound.1 es }

@@ -6,8 +6,8 @@ use Rattle.cam_objects.specs.declared.entry.Entry.TheVariants.{Block}
 use Rattle.cam_objects.specs.Soundness.{MayAddEntry}
 use Rattle.cam_gerber.specs.State.{Past}
 use Rattle.cam_gerber.specs.Homes.{InBlock, open_blocks}
-use Rattle.cam_gerber.specs.Making.{objects_of}
-use Rattle.cam_gerber.specs.Layers.{entries_in, leaves_of}
+use Rattle.cam_gerber.specs.Making.{home_objects}
+use Rattle.cam_gerber.specs.Layers.{entries_in, home_leaves}
 use Rattle.cam_gerber.specs.Laws.{IsFaultless}
 use Rattle.cam_gerber.specs.Machinery.OpenNumbers.{AreWithin}
 use Rattle.cam_gerber.proofs.Pasts.{AreFree, stay_apart}
@@ -21,7 +21,7 @@ sound_past (says ∷ past) faultless within = sound_step past says within.0 faul
 
 -- the innermost open block
 pub block_may_join : (past : Past) (n : ℕ) (outer : List ℕ) → IsFaultless past → AreWithin past → open_blocks past ≡ n ∷ outer
-    → MayAddEntry (entries_in past) n (Block (objects_of (InBlock n) past))
+    → MayAddEntry (entries_in past) n (Block (home_objects (InBlock n) past))
 block_may_join past n outer faultless within e =
     let s = sound_past past faultless within in
     let blocks = subst (λ ns. AllByRecursion (IsBlockView (entries_in past)) (map (block_at past) ns)) e s.blocks in
@@ -30,5 +30,5 @@ block_may_join past n outer faultless within e =
       least = blocks.0.0.0;
       greatest = blocks.0.0.1;
       absent = no_some (lookup (nat_eq n) (entries_in past)) free.0;
-      sound = closed (entries_in past) (objects_of (InBlock n) past) (leaves_of (InBlock n) past) blocks.0.1;
+      sound = closed (entries_in past) (home_objects (InBlock n) past) (home_leaves (InBlock n) past) blocks.0.1;
     }

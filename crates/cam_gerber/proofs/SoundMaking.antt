@@ -12,7 +12,7 @@ use Rattle.cam_objects.specs.declared.object.Object.{Object}
 use Rattle.cam_objects.specs.declared.object.Object.TheVariants as object
 use Rattle.cam_objects.specs.declared.item.Item.TheVariants.{One}
 use Rattle.cam_objects.specs.Leaves.{meaning_in, object_leaves, origin}
-use Rattle.cam_objects.specs.Soundness.{AreOnBoard, points_of_seg}
+use Rattle.cam_objects.specs.Soundness.{AreOnBoard, points_of_seg, is_on_board}
 use Rattle.cam_objects.proofs.SoundItems.{HasNumber}
 use Rattle.cam_commands.specs.declared.parts.Mode.{Mode}
 use Rattle.cam_commands.specs.declared.parts.Mode.TheVariants.{Linear, Clockwise, Counterclockwise}
@@ -21,11 +21,11 @@ use Rattle.cam_commands.specs.declared.parts.OperationCode.{OperationCode}
 use Rattle.cam_commands.specs.declared.parts.OperationCode.TheVariants.{Plot, Move, Flash}
 use Rattle.cam_commands.specs.Commands.{Operate}
 use Rattle.cam_gerber.specs.Statements.{Says}
-use Rattle.cam_gerber.specs.State.{Past, aperture_in, centre_of, dark_in, has_arcs, mode_in, point_in, turn_in}
+use Rattle.cam_gerber.specs.State.{Past, aperture_in, arc_centre, dark_in, has_arcs, mode_in, point_in, turn_in}
 use Rattle.cam_gerber.specs.Homes.{Home, InBlock, InRepeat, InLayer, home}
-use Rattle.cam_gerber.specs.Making.{number_in, operated, region_by, region_in, segments_in, start_in, stroke, stroke_of}
+use Rattle.cam_gerber.specs.Making.{number_in, operated, region_by, region_ended, segments_in, start_in, stroke, stroke_of}
 use Rattle.cam_gerber.specs.Layers.{entries_in}
-use Rattle.cam_gerber.specs.Faults.{can_draw, holds_of_one, is_arc, is_full, is_on_board, is_outside_at, is_unfit, operated_faults}
+use Rattle.cam_gerber.specs.Faults.{can_draw, holds_of_one, is_arc, is_full, is_outside_at, is_unfit, operated_faults}
 use Rattle.cam_gerber.proofs.Least.{ArePassed}
 use Rattle.cam_gerber.proofs.StandingLeaves.{IsNoFlash, leaves_stand}
 use Rattle.cam_gerber.proofs.SoundParts.{Pairs, IsMade}
@@ -115,7 +115,7 @@ fit_number past arc (Some n) some h = told (can_draw arc (meaning_in (entries_in
 -- ---- regions
 
 pub fit_region : (past : Past) → IsSoundContour (start_in past) (segments_in past)
-    → holds_of_one (is_full (home past) past) (region_in past) ≡ false → AreFit past (region_in past) (home past)
+    → holds_of_one (is_full (home past) past) (region_ended past) ≡ false → AreFit past (region_ended past) (home past)
 fit_region past c room = by (start_in past) (segments_in past) c room
   where
     by : (start : Point) (segs : List Seg) → IsSoundContour start segs
@@ -144,7 +144,7 @@ pub record IsDone (past : Past) (operation : Operation) (code : OperationCode) (
   pub to_on : IsOnBoard (point_in (Says (Operate operation) ∷ past))
   pub turn : region ≡ true
       → IsTurnOf code (mode_in (Says (Operate operation) ∷ past)) (point_in past) (point_in (Says (Operate operation) ∷ past))
-      (centre_of past operation) (segments_in past)
+      (arc_centre past operation) (segments_in past)
 
 never : {A : Type 0} → false ≡ true → A
 never e = absurd cc
@@ -154,11 +154,11 @@ pub done : (code : OperationCode) (region : Bool) (past : Past) (operation : Ope
 done Plot false past operation s pass =
     let now = Says (Operate operation) ∷ past in
     let paths = pass.1.1 in
-    let path = path_of (mode_in now) (has_arcs past) (point_in past) (point_in now) (centre_of past operation)
+    let path = path_of (mode_in now) (has_arcs past) (point_in past) (point_in now) (arc_centre past operation)
     (paths.0, (paths.1.0, (paths.1.1.0, tt))) in
     record {
       fit = fit_mark past (stroke_of past operation)
-          (stroked (entries_in past) (mode_in now) (number_in past) (point_in past) (point_in now) (centre_of past operation)
+          (stroked (entries_in past) (mode_in now) (number_in past) (point_in past) (point_in now) (arc_centre past operation)
           (turn_in past) (dark_in past)
           (known_number (entries_in past) (aperture_in past) pass.0 s.aperture)
           (fit_number past (is_arc (mode_in now)) (aperture_in past) pass.0 pass.1.0) s.point path)
@@ -168,7 +168,7 @@ done Plot false past operation s pass =
     }
 done Plot true past operation s pass =
     let now = Says (Operate operation) ∷ past in
-    let path = path_of (mode_in now) (has_arcs past) (point_in past) (point_in now) (centre_of past operation)
+    let path = path_of (mode_in now) (has_arcs past) (point_in past) (point_in now) (arc_centre past operation)
     (pass.0, (pass.1.0, (pass.1.1.0, tt))) in
     record { fit = tt; to_on = path.to_on; turn = λ e. (path, leb-false 1000000 (length (segments_in past)) pass.1.1.1.0) }
 done Move false past operation s pass =

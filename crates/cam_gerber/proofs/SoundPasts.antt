@@ -14,7 +14,7 @@ use Rattle.cam_macros.specs.declared.aperture_macro.Macro.{Macro}
 use Rattle.cam_units.specs.declared.length.Unit.{Unit as FileUnit}
 use Rattle.cam_apertures.specs.declared.aperture.Aperture.{Aperture}
 use Rattle.cam_numbers.specs.Numbers.{defined_number}
-use Rattle.cam_apertures.specs.Definition.{Definition, aperture_of, definition_of, numbered, values_of}
+use Rattle.cam_apertures.specs.Definition.{Definition, template_aperture, template_form, numbered, values_of}
 use Rattle.cam_objects.specs.declared.entry.Entry.TheVariants.{Block}
 use Rattle.cam_objects.specs.declared.object.Object.{Object}
 use Rattle.cam_objects.specs.Weights.{object_depth, weight_in}
@@ -27,13 +27,15 @@ use Rattle.cam_commands.specs.Commands.{SetMirror, SetRotation, SetScale, OpenBl
 use Rattle.cam_commands.specs.Commands.{KeepText, NeutralOld, RefusedOld, SetMode, SingleQuadrant, MultiQuadrant}
 use Rattle.cam_commands.specs.Commands.{BeginRegion, EndRegion, Nothing, Select, Operate, End, Unknown}
 use Rattle.cam_gerber.specs.Statements.{Statement, Says, NamesMacro, Uncut}
-use Rattle.cam_gerber.specs.State.{Past, centre_of, code_of, in_region, mode_in, point_in, unit_in, unit_or_mm}
-use Rattle.cam_gerber.specs.Homes.{InBlock, InRepeat, count_of, is_repeated, open_blocks, open_repeat, opened, step_of}
-use Rattle.cam_gerber.specs.Making.{made, objects_of, region_in, segments_in, start_in}
+use Rattle.cam_gerber.specs.State.{Past, arc_centre, code_of, in_region, mode_in, point_in, unit_in}
+use Rattle.cam_units.specs.Nearest.{unit_or_mm}
+use Rattle.cam_gerber.specs.Homes.{InBlock, InRepeat, copies_written, has_copies, open_blocks, open_repeat, repeat_opened, step_written}
+use Rattle.cam_gerber.specs.Making.{made, home_objects, region_ended, segments_in, start_in}
 use Rattle.cam_gerber.specs.Layers.{closed_block, closed_leaves, closed_repeat, defined, defined_by, entries_in}
-use Rattle.cam_gerber.specs.Layers.{items_in, leaves_in, leaves_of, macros_in, numbered_aperture}
-use Rattle.cam_gerber.specs.Faults.{faults, has_short_steps, holds_of_one, is_defined, is_empty, is_layer_full}
-use Rattle.cam_gerber.specs.Faults.{is_outside, is_short, is_taken, is_taken_again}
+use Rattle.cam_gerber.specs.Layers.{items_in, leaves_in, home_leaves, macros_in, numbered_aperture}
+use Rattle.cam_gerber.specs.Faults.{faults, has_steps_on_board, holds_of_one, is_defined, is_left_out, is_layer_full}
+use Rattle.cam_gerber.specs.Faults.{is_outside, is_taken, is_taken_again}
+use Rattle.cam_objects.specs.Soundness.{is_short}
 use Rattle.cam_gerber.specs.Laws.{IsFaultless}
 use Rattle.cam_gerber.specs.Machinery.OpenNumbers.{IsEntryNumber, StatesWithin}
 use Rattle.cam_gerber.proofs.Least.{pass_least}
@@ -71,7 +73,7 @@ operates past operation s h =
       aperture = s.aperture;
       point = d.to_on;
       contour = turned (in_region past) (code_of operation) (mode_in now) (start_in past) (point_in past) (point_in now)
-          (centre_of past operation) (segments_in past) s.contour d.turn;
+          (arc_centre past operation) (segments_in past) s.contour d.turn;
     }
 
 ends_region : (past : Past) → Sound past → least number_of (faults past (Says EndRegion)) ≡ None → Sound (Says EndRegion ∷ past)
@@ -80,9 +82,9 @@ ends_region past s h =
     let fit = fit_region past s.contour.sound pass.1.0 in
     record {
       dictionary = s.dictionary;
-      built = made_layer past (region_in past) fit s.built;
-      blocks = made_blocks past (region_in past) fit (open_blocks past) s.blocks;
-      repeat = made_repeat past (region_in past) fit (open_repeat past) s.repeat;
+      built = made_layer past (region_ended past) fit s.built;
+      blocks = made_blocks past (region_ended past) fit (open_blocks past) s.blocks;
+      repeat = made_repeat past (region_ended past) fit (open_repeat past) s.repeat;
       aperture = s.aperture;
       point = s.point;
       contour = record {
@@ -140,7 +142,7 @@ opens past (Some n) within s h =
       blocks = (
         (
           within,
-          no_objects (entries_in past) (objects_of (InBlock n) past) (leaves_of (InBlock n) past) none.objects none.leaves,
+          no_objects (entries_in past) (home_objects (InBlock n) past) (home_leaves (InBlock n) past) none.objects none.leaves,
         ),
         s.blocks,
       );
@@ -154,7 +156,7 @@ opens past (Some n) within s h =
 abbrev closed_view : Past → List ℕ → View
 closed_view past ns = record (view past) { entries = entries_in past ++ closed_block past ns; blocks = map (block_at past) (drop 1 ns) }
 
-closes_at : (past : Past) (ns : List ℕ) → is_empty ns ≡ false → AreFree (entries_in past) ns
+closes_at : (past : Past) (ns : List ℕ) → is_left_out ns ≡ false → AreFree (entries_in past) ns
     → AllByRecursion (IsBlockView (entries_in past)) (map (block_at past) ns) → Sound past
     → IsSoundView (closed_view past ns)
 closes_at past [] some free blocks s = absurd cc
@@ -168,19 +170,19 @@ closes_at past (n ∷ ns) some free blocks s =
       point = s.point;
       contour = s.contour;
     } in
-    grown (record (view past) { blocks = map (block_at past) ns }) n (Block (objects_of (InBlock n) past))
+    grown (record (view past) { blocks = map (block_at past) ns }) n (Block (home_objects (InBlock n) past))
     (record {
       least = blocks.0.0.0;
       greatest = blocks.0.0.1;
       absent = no_some (lookup (nat_eq n) (entries_in past)) free.0;
-      sound = closed (entries_in past) (objects_of (InBlock n) past) (leaves_of (InBlock n) past) blocks.0.1;
+      sound = closed (entries_in past) (home_objects (InBlock n) past) (home_leaves (InBlock n) past) blocks.0.1;
     })
     rest
 
 closes : (past : Past) → IsFaultless past → Sound past → least number_of (faults past (Says CloseBlock)) ≡ None → Sound (Says CloseBlock ∷ past)
 closes past faultless s h =
     let pass = pass_least (faults past (Says CloseBlock)) h in
-    closes_at past (open_blocks past) (or_parts (in_region past) (is_empty (open_blocks past)) pass.0).1
+    closes_at past (open_blocks past) (or_parts (in_region past) (is_left_out (open_blocks past)) pass.0).1
     (stay_apart past faultless).entries s.blocks s
 
 -- ---- definitions
@@ -189,7 +191,7 @@ pub defined_free : (past : Past) (d : Option Definition) (macros : List Macro) (
     → AllByRecursion (λ e. is_taken past e.0 ≡ false) (defined_by d macros unit)
 defined_free past None macros unit h = tt
 defined_free past (Some d) macros unit h =
-    by (defined_number d.number) (aperture_of d.name macros unit (unwrap_or (values_of d.parameters) [])) h
+    by (defined_number d.number) (template_aperture d.name macros unit (unwrap_or (values_of d.parameters) [])) h
   where
     by : (n : Option ℕ) (a : Option Aperture) → is_taken_again past n ≡ false
         → AllByRecursion (λ e. is_taken past e.0 ≡ false) (numbered_aperture n a)
@@ -211,8 +213,8 @@ defines_at : (past : Past) (text : List ℕ) → Sound past → least number_of 
 defines_at past text s h =
     let pass = pass_least (faults past (Says (DefineAperture text))) h in
     let unit = unit_or_mm (unit_in past) in
-    defines (view past) (defined past text) (sound_definition (definition_of text) (macros_in past) unit pass.1.1.1)
-    (all_absent past (defined past text) (defined_free past (definition_of text) (macros_in past) unit pass.1.0)) s
+    defines (view past) (defined past text) (sound_definition (template_form text) (macros_in past) unit pass.1.1.1)
+    (all_absent past (defined past text) (defined_free past (template_form text) (macros_in past) unit pass.1.0)) s
 
 -- ---- repeats
 
@@ -223,7 +225,7 @@ settled_view past r =
 
 settles_to : (past : Past) (r : Option RepeatView) (short : Bool)
     → (not short || holds_of_one (is_outside past) (closed_repeat past)) ≡ false
-    → (not (is_empty (closed_repeat past)) && is_layer_full past (closed_leaves past)) ≡ false → IsRepeatView (entries_in past) r
+    → (not (is_left_out (closed_repeat past)) && is_layer_full past (closed_leaves past)) ≡ false → IsRepeatView (entries_in past) r
     → Sound past → IsSoundView (settled_view past r)
 settles_to past r short out full repeat s = record {
   dictionary = s.dictionary;
@@ -241,9 +243,9 @@ no_repeated es objects leaves e k =
     subst (λ (p : List Object × ℕ). IsSoundRepeated es p.0 p.1) (λ i. (sym e i, sym k i))
     (record { each = All-nil (IsMade es); few = lit≤ tt; count = refl })
 
-short_steps : (past : Past) (repeat : Repeat) → has_short_steps past repeat ≡ true
-    → (unsigned_abs (step_of past repeat.i) < 1000000000) × (unsigned_abs (step_of past repeat.j) < 1000000000)
-short_steps past repeat h = let parts = and_parts (is_short (step_of past repeat.i)) (is_short (step_of past repeat.j)) h in
+short_steps : (past : Past) (repeat : Repeat) → has_steps_on_board past repeat ≡ true
+    → (unsigned_abs (step_written past repeat.i) < 1000000000) × (unsigned_abs (step_written past repeat.j) < 1000000000)
+short_steps past repeat h = let parts = and_parts (is_short (step_written past repeat.i)) (is_short (step_written past repeat.j)) h in
     (ltb-true _ _ parts.0, ltb-true _ _ parts.1)
 
 repeats : (past : Past) (repeat : Repeat) → Sound past → least number_of (faults past (Says (SetRepeat repeat))) ≡ None
@@ -253,20 +255,20 @@ repeats past repeat s h =
     let closing = pass.1.1.1.1 in
     let none = unused_repeat past (length past) (omega arith) in
     let steps = short_steps past repeat
-    (told (has_short_steps past repeat)
-    (or_parts (not (has_short_steps past repeat)) (holds_of_one (is_outside past) (closed_repeat past)) closing.0).0) in
+    (told (has_steps_on_board past repeat)
+    (or_parts (not (has_steps_on_board past repeat)) (holds_of_one (is_outside past) (closed_repeat past)) closing.0).0) in
     settles_to past (option_map (repeat_at (Says (SetRepeat repeat) ∷ past)) (open_repeat (Says (SetRepeat repeat) ∷ past)))
-    (has_short_steps past repeat) closing.0 closing.1.0
-    (by (is_repeated repeat) refl
-    (no_repeated (entries_in past) (objects_of (InRepeat (length past)) past)
-    (leaves_of (InRepeat (length past)) past) none.objects none.leaves) steps) s
+    (has_steps_on_board past repeat) closing.0 closing.1.0
+    (by (has_copies repeat) refl
+    (no_repeated (entries_in past) (home_objects (InRepeat (length past)) past)
+    (home_leaves (InRepeat (length past)) past) none.objects none.leaves) steps) s
   where
-    by : (b : Bool) → is_repeated repeat ≡ b
-        → IsSoundRepeated (entries_in past) (objects_of (InRepeat (length past)) past) (leaves_of (InRepeat (length past)) past)
-        → (unsigned_abs (step_of past repeat.i) < 1000000000) × (unsigned_abs (step_of past repeat.j) < 1000000000)
-        → IsRepeatView (entries_in past) (option_map (repeat_at (Says (SetRepeat repeat) ∷ past)) (cond b (Some (opened past repeat)) None))
+    by : (b : Bool) → has_copies repeat ≡ b
+        → IsSoundRepeated (entries_in past) (home_objects (InRepeat (length past)) past) (home_leaves (InRepeat (length past)) past)
+        → (unsigned_abs (step_written past repeat.i) < 1000000000) × (unsigned_abs (step_written past repeat.j) < 1000000000)
+        → IsRepeatView (entries_in past) (option_map (repeat_at (Says (SetRepeat repeat) ∷ past)) (cond b (Some (repeat_opened past repeat)) None))
     by true is none steps =
-        (record { copies = ltb-true 1 (count_of repeat.columns * count_of repeat.rows) is; steps_i = steps.0; steps_j = steps.1 }, none)
+        (record { copies = ltb-true 1 (copies_written repeat.columns * copies_written repeat.rows) is; steps_i = steps.0; steps_j = steps.1 }, none)
     by false is none steps = tt
 
 closes_repeat : (past : Past) → Sound past → least number_of (faults past (Says CloseRepeat)) ≡ None → Sound (Says CloseRepeat ∷ past)

@@ -2,7 +2,7 @@
 use Rattle.std.proofs.Common.{◌≡◌, ℕ, List, [], ◌∷◌, length, map, Bool, true, false, cond, Option, Some, None, Ok, Err, refl, subst, arith}
 use Rattle.std.specs.List.{AllByRecursion}
 use Rattle.std.specs.Option.{option_map, option_or}
-use Rattle.cam_words.specs.Reading.{Answer, reading}
+use Rattle.cam_words.specs.Reading.{WordAnswer, reading}
 use Rattle.cam_objects.specs.Attributes.{AreAttributes}
 use Rattle.cam_objects.specs.Soundness.{IsSoundContent}
 use Rattle.cam_commands.specs.Commands.{Command, DefineMacro}
@@ -10,7 +10,7 @@ use Rattle.cam_commands.specs.Syntax.{command_of}
 use Rattle.cam_objects.specs.Contents.{Content, content_of}
 use Rattle.cam_refusals.specs.declared.refusal.Refusal.{Refusal}
 use Rattle.cam_refusals.specs.Checks.{least}
-use Rattle.cam_refusals.specs.FileFaults.{told}
+use Rattle.cam_refusals.specs.FileFaults.{first_told}
 use Rattle.cam_refusals.specs.Refusals.{number_of}
 use Rattle.cam_gerber.specs.Statements.{Statement}
 use Rattle.cam_gerber.specs.State.{Past}
@@ -18,7 +18,7 @@ use Rattle.cam_gerber.specs.Attributes.{attributes_in}
 use Rattle.cam_gerber.specs.Layers.{layer_in}
 use Rattle.cam_gerber.specs.Faults.{faults}
 use Rattle.cam_gerber.specs.Reading.{Means, is_end, layer_unless, past_from, places_from}
-use Rattle.cam_gerber.specs.Computing.{lead_of, reading_of, statement_of, told_of}
+use Rattle.cam_gerber.specs.Computing.{lead_of, reading_of, statement_said, told_of}
 use Rattle.cam_gerber.specs.Laws.{GivesSoundLayers, IsFaultless}
 use Rattle.cam_gerber.specs.Machinery.OpenNumbers.{OpensWithin, StatesWithin}
 use Rattle.cam_gerber.proofs.AttributeTexts.{IsClean, attributes_step, clean_answers, no_attributes, told_text}
@@ -28,11 +28,11 @@ use Rattle.cam_gerber.proofs.SoundPasts.{Sound, at_start, sound_step}
 
 -- ---- what is told names numbers of entries
 
-pub stated_within : (command : Command) → OpensWithin command → StatesWithin (statement_of command)
+pub stated_within : (command : Command) → OpensWithin command → StatesWithin (statement_said command)
 stated_within (DefineMacro text) within = tt
 stated_within command within = within
 
-told_within : (answer : Answer) → StatesWithin (told_of answer).says
+told_within : (answer : WordAnswer) → StatesWithin (told_of answer).says
 told_within (Ok word) = stated_within (command_of word) (opens_within word)
 told_within (Err fault) = tt
 
@@ -50,7 +50,7 @@ record IsSoundAnswer (content : Content) : Type 0 where
   lists : IsSoundContent content.entries content.items
   attributes : AreAttributes content.attributes
 
-sound_from : (len : ℕ) (past : Past) (answers : List Answer) (content : Content) → AllByRecursion IsClean answers → IsFaultless past
+sound_from : (len : ℕ) (past : Past) (answers : List WordAnswer) (content : Content) → AllByRecursion IsClean answers → IsFaultless past
     → Sound past → AreAttributes (attributes_in past) → Ok content ≡ lead_of len past answers → IsSoundAnswer content
 sound_from len past [] content clean a s at e = absurd cc
 sound_from len past (answer ∷ answers) content clean a s at e =
@@ -65,7 +65,7 @@ sound_from len past (answer ∷ answers) content clean a s at e =
     go : (o : Option Refusal) → least number_of (faults past says) ≡ o → (ends : Bool)
         → Ok content ≡ layer_unless
         (option_or (option_map (λ refusal. record { code = refusal; at = (told_of answer).at }) o)
-        (told (cond ends [] (places_from len now (map told_of answers)))))
+        (first_told (cond ends [] (places_from len now (map told_of answers)))))
         (layer_in (cond ends now (past_from now (map told_of answers))))
         → (IsFaultless now → Sound now → AreAttributes (attributes_in now) → Ok content ≡ lead_of len now answers → IsSoundAnswer content)
         → IsSoundAnswer content

@@ -19,9 +19,9 @@ use Rattle.cam_objects.proofs.SoundItems.{HasNumber}
 use Rattle.cam_objects.specs.Weights.{block_count, weight_in}
 use Rattle.cam_gerber.specs.State.{Past, aperture_in, point_in, in_region}
 use Rattle.cam_gerber.specs.Homes.{Home, InBlock, InRepeat, InLayer, Opened, open_blocks, open_repeat, home, is_same_home}
-use Rattle.cam_gerber.specs.Making.{objects_of, segments_in, start_in}
-use Rattle.cam_gerber.specs.Layers.{entries_in, items_in, leaves_in, leaves_of, closed_by, copied_leaves, repeat_by}
-use Rattle.cam_gerber.specs.Faults.{are_on_board, is_outside, is_layer_full, is_empty, holds_of_one}
+use Rattle.cam_gerber.specs.Making.{home_objects, segments_in, start_in}
+use Rattle.cam_gerber.specs.Layers.{entries_in, items_in, leaves_in, home_leaves, closed_by, copied_leaves, repeat_by}
+use Rattle.cam_gerber.specs.Faults.{are_leaves_on_board, is_outside, is_layer_full, is_left_out, holds_of_one}
 use Rattle.cam_gerber.specs.Machinery.OpenNumbers.{IsEntryNumber}
 use Rattle.cam_gerber.proofs.GrownEntries.{known_more, sound_grows}
 use Rattle.cam_gerber.proofs.SoundParts.{Pairs, IsSoundOpen, IsSoundRepeated, IsSoundBuilt, open_more, repeated_more, built_more}
@@ -54,10 +54,10 @@ pub record View : Type 0 where
   pub region : Bool
 
 abbrev pub block_at : Past → ℕ → OpenView
-block_at past n = record { number = n; objects = objects_of (InBlock n) past; leaves = leaves_of (InBlock n) past }
+block_at past n = record { number = n; objects = home_objects (InBlock n) past; leaves = home_leaves (InBlock n) past }
 
 abbrev pub repeat_at : Past → Opened → RepeatView
-repeat_at past o = record { opened = o; objects = objects_of (InRepeat o.before) past; leaves = leaves_of (InRepeat o.before) past }
+repeat_at past o = record { opened = o; objects = home_objects (InRepeat o.before) past; leaves = home_leaves (InRepeat o.before) past }
 
 abbrev pub view : Past → View
 view past = record {
@@ -147,9 +147,9 @@ block_with past more n =
     let added = cond (is_same_home (home past) (InBlock n)) more [] in
     record {
       number = n;
-      objects = objects_of (InBlock n) past ++ added;
+      objects = home_objects (InBlock n) past ++ added;
       leaves =
-          leaves_of (InBlock n) past + block_count (weight_in (entries_in past)) added;
+          home_leaves (InBlock n) past + block_count (weight_in (entries_in past)) added;
     }
 
 pub made_blocks : (past : Past) (more : List Object) → AreFit past more (home past) → (ns : List ℕ)
@@ -166,9 +166,9 @@ repeat_with past more o =
     let added = cond (is_same_home (home past) (InRepeat o.before)) more [] in
     record {
       opened = o;
-      objects = objects_of (InRepeat o.before) past ++ added;
+      objects = home_objects (InRepeat o.before) past ++ added;
       leaves =
-          leaves_of (InRepeat o.before) past + block_count (weight_in (entries_in past)) added;
+          home_leaves (InRepeat o.before) past + block_count (weight_in (entries_in past)) added;
     }
 
 pub made_repeat : (past : Past) (more : List Object) → AreFit past more (home past) → (r : Option Opened)
@@ -188,16 +188,16 @@ pub inside : (past : Past) (item : Item) → is_outside past item ≡ false → 
 unfolding is_outside
 inside past item h =
     leaves_on_board (item_leaves (meaning_in (entries_in past)) item)
-    (told (are_on_board (item_leaves (meaning_in (entries_in past)) item)) h)
+    (told (are_leaves_on_board (item_leaves (meaning_in (entries_in past)) item)) h)
 
 closable : (past : Past) (o : Opened) (objects : List Object) → holds_of_one (is_outside past) (repeat_by o objects) ≡ false
-    → is_empty (repeat_by o objects) ≡ false → IsClosable (entries_in past) o objects
+    → is_left_out (repeat_by o objects) ≡ false → IsClosable (entries_in past) o objects
 closable past o [] h some = absurd cc
 closable past o (x ∷ xs) h some = inside past (Repeat o.columns o.rows o.i o.j (x ∷ xs)) h
 
 pub settles : (past : Past) (r : Option Opened) → IsRepeatView (entries_in past) (option_map (repeat_at past) r)
     → holds_of_one (is_outside past) (closed_by past r) ≡ false
-    → (not (is_empty (closed_by past r)) && is_layer_full past (copied_leaves past r)) ≡ false
+    → (not (is_left_out (closed_by past r)) && is_layer_full past (copied_leaves past r)) ≡ false
     → IsSoundBuilt (entries_in past) (items_in past) (leaves_in past)
     → IsSoundBuilt (entries_in past) (items_in past ++ closed_by past r) (leaves_in past + copied_leaves past r)
 settles past None h out full s =
@@ -206,16 +206,16 @@ settles past None h out full s =
     zero_more : leaves_in past ≡ leaves_in past + 0
     zero_more = omega arith
 settles past (Some o) h out full s =
-    settled (entries_in past) (items_in past) (leaves_in past) o (objects_of (InRepeat o.before) past)
-    (leaves_of (InRepeat o.before) past) h.0 h.1 s room
+    settled (entries_in past) (items_in past) (leaves_in past) o (home_objects (InRepeat o.before) past)
+    (home_leaves (InRepeat o.before) past) h.0 h.1 s room
   where
-    room : is_empty (closed_by past (Some o)) ≡ false
-        → IsClosable (entries_in past) o (objects_of (InRepeat o.before) past) × (length (items_in past) < 1000000)
-        × (leaves_in past + o.columns * o.rows * leaves_of (InRepeat o.before) past ≤ 4000000)
+    room : is_left_out (closed_by past (Some o)) ≡ false
+        → IsClosable (entries_in past) o (home_objects (InRepeat o.before) past) × (length (items_in past) < 1000000)
+        × (leaves_in past + o.columns * o.rows * home_leaves (InRepeat o.before) past ≤ 4000000)
     room some =
         let counts = or_parts (leb 1000000 (length (items_in past))) _
-        (under (is_empty (closed_by past (Some o))) (is_layer_full past (copied_leaves past (Some o))) full some) in (
-          closable past o (objects_of (InRepeat o.before) past) out some,
+        (under (is_left_out (closed_by past (Some o))) (is_layer_full past (copied_leaves past (Some o))) full some) in (
+          closable past o (home_objects (InRepeat o.before) past) out some,
           leb-false 1000000 (length (items_in past)) counts.0,
-          ltb-false 4000000 (leaves_in past + o.columns * o.rows * leaves_of (InRepeat o.before) past) counts.1,
+          ltb-false 4000000 (leaves_in past + o.columns * o.rows * home_leaves (InRepeat o.before) past) counts.1,
         )

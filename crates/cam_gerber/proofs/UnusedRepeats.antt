@@ -7,19 +7,19 @@ use Rattle.cam_objects.specs.Weights.{block_count, weight_in}
 use Rattle.cam_commands.specs.Commands.{SetRepeat, CloseRepeat, End, EndRegion, Operate}
 use Rattle.cam_gerber.specs.Statements.{Says}
 use Rattle.cam_gerber.specs.State.{Past}
-use Rattle.cam_gerber.specs.Homes.{Home, InRepeat, Opened, open_blocks, open_repeat, opened, is_repeated, home, home_by, is_same_home}
-use Rattle.cam_gerber.specs.Making.{made, objects_of}
-use Rattle.cam_gerber.specs.Layers.{entries_in, leaves_of}
+use Rattle.cam_gerber.specs.Homes.{Home, InRepeat, Opened, open_blocks, open_repeat, repeat_opened, has_copies, home, home_by, is_same_home}
+use Rattle.cam_gerber.specs.Making.{made, home_objects}
+use Rattle.cam_gerber.specs.Layers.{entries_in, home_leaves}
 
 -- a home without objects
 pub record IsEmptyHome (past : Past) (h : Home) : Type 0 where
-  pub objects : objects_of h past ≡ []
-  pub leaves : leaves_of h past ≡ 0
+  pub objects : home_objects h past ≡ []
+  pub leaves : home_leaves h past ≡ 0
 
 none_added : (past : Past) (h : Home) (more : List Object) (b : Bool) → b ≡ false → IsEmptyHome past h
-    → (objects_of h past ++ cond b more [] ≡ []) × (leaves_of h past + block_count (weight_in (entries_in past)) (cond b more []) ≡ 0)
+    → (home_objects h past ++ cond b more [] ≡ []) × (home_leaves h past + block_count (weight_in (entries_in past)) (cond b more []) ≡ 0)
 none_added past h more true e u = absurd cc
-none_added past h more false e u = (append-nil (objects_of h past) ∙ u.objects, omega (arith, u.leaves))
+none_added past h more false e u = (append-nil (home_objects h past) ∙ u.objects, omega (arith, u.leaves))
 
 -- the open repeat was opened behind fewer commands
 abbrev IsOpenedBefore : ℕ → Option Opened → Type 0
@@ -32,9 +32,9 @@ later m n (Some o) le h = omega (arith, le, h)
 
 opened_before : (past : Past) → IsOpenedBefore (length past) (open_repeat past)
 opened_before [] = tt
-opened_before (Says (SetRepeat repeat) ∷ past) = by (is_repeated repeat)
+opened_before (Says (SetRepeat repeat) ∷ past) = by (has_copies repeat)
   where
-    by : (b : Bool) → IsOpenedBefore (length (Says (SetRepeat repeat) ∷ past)) (cond b (Some (opened past repeat)) None)
+    by : (b : Bool) → IsOpenedBefore (length (Says (SetRepeat repeat) ∷ past)) (cond b (Some (repeat_opened past repeat)) None)
     by true = omega arith
     by false = tt
 opened_before (Says CloseRepeat ∷ past) = tt

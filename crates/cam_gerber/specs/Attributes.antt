@@ -14,11 +14,11 @@ abbrev pub is_comma : ℕ → Bool
 is_comma byte = byte == comma
 
 -- of what stands behind `TF` the name goes up to the first comma, and the fields begin with it
-abbrev pub name_of : List ℕ → List ℕ
-name_of text = before_first is_comma text
+abbrev pub attribute_name : List ℕ → List ℕ
+attribute_name text = before_first is_comma text
 
-abbrev pub fields_of : List ℕ → List ℕ
-fields_of text = drop (position_or_len is_comma text) text
+abbrev pub attribute_fields : List ℕ → List ℕ
+attribute_fields text = drop (position_or_len is_comma text) text
 
 -- ---- behind a past
 
@@ -28,12 +28,12 @@ with_name name names = if list_any (bytes_eq name) names then names else names +
 -- the names, in the order in which they first appear
 abbrev pub names_in : Past → List (List ℕ)
 names_in [] = []
-names_in (Says (KeepText FileAttribute text) ∷ older) = with_name (name_of text) (names_in older)
+names_in (Says (KeepText FileAttribute text) ∷ older) = with_name (attribute_name text) (names_in older)
 names_in (_ ∷ older) = names_in older
 
 -- what a command with this name writes
 abbrev pub fields_told : List ℕ → Command → Option (List ℕ)
-fields_told name (KeepText FileAttribute text) = if bytes_eq (name_of text) name then Some (fields_of text) else None
+fields_told name (KeepText FileAttribute text) = if bytes_eq (attribute_name text) name then Some (attribute_fields text) else None
 fields_told name _ = None
 
 -- what the newest one has written
@@ -47,4 +47,4 @@ attributes_in past = map (λ name. attribute_of name (fields_in past name)) (nam
 abbrev pub SetsItsAttribute : Type 0
 SetsItsAttribute =
     (past : Past) (text : List ℕ) → attributes_in (Says (KeepText FileAttribute text) ∷ past)
-    ≡ with_attribute (attribute_of (name_of text) (fields_of text)) (attributes_in past)
+    ≡ with_attribute (attribute_of (attribute_name text) (attribute_fields text)) (attributes_in past)

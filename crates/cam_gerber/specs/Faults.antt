@@ -1,7 +1,7 @@
 -- The faults of a command behind its past.
 use Rattle.std.specs.Prelude.{ℕ, ◌+◌, ℤ, pos, List, [], ◌∷◌, ◌++◌, length, codes, Option, Some, None, Result, Ok}
 use Rattle.std.specs.Prelude.{Err, Bool, true, false, ◌||◌, ◌&&◌, ◌==◌, not, nat_le, nat_lt, nat_eq, is_some, is_none}
-use Rattle.std.specs.Prelude.{unsigned_abs, if◌then◌else◌}
+use Rattle.std.specs.Prelude.{if◌then◌else◌}
 use Rattle.std.specs.List.{list_all, list_any}
 use Rattle.std.specs.Map.{lookup}
 use Rattle.std.specs.Ordering.{int_eq}
@@ -14,18 +14,18 @@ use Rattle.cam_refusals.specs.declared.refusal.Refusal.TheVariants.{WrongApertur
 use Rattle.cam_refusals.specs.declared.refusal.Refusal.TheVariants.{NotInRegion, NestedRepeat, StrayBlock, OutOfBoard}
 use Rattle.cam_refusals.specs.declared.refusal.Refusal.TheVariants.{TooMuch, OldRefused, MacroFault}
 use Rattle.cam_refusals.specs.Checks.{Checks}
-use Rattle.cam_refusals.specs.Limits.{attribute_limit, board_limit, count_limit, depth_limit, leaf_limit}
+use Rattle.cam_refusals.specs.Limits.{attribute_limit, count_limit, depth_limit, leaf_limit}
 use Rattle.cam_units.specs.declared.length.Unit.{Unit as FileUnit}
 use Rattle.cam_units.specs.declared.length.Unit.TheVariants.{Mm, Inch}
 use Rattle.cam_units.specs.declared.point.Point.{Point}
 use Rattle.cam_macros.specs.Expansion.{rotation}
-use Rattle.cam_macros.specs.Reading.{is_name}
-use Rattle.cam_apertures.specs.Definition.{definition_of, numbered, named, faults_of}
+use Rattle.cam_macros.specs.Reading.{is_macro_name}
+use Rattle.cam_apertures.specs.Definition.{template_form, numbered, named, faults_of}
 use Rattle.cam_objects.specs.declared.object.Object.{Object}
 use Rattle.cam_objects.specs.declared.item.Item.{Item}
 use Rattle.cam_objects.specs.declared.item.Item.TheVariants as item
 use Rattle.cam_objects.specs.Leaves.{Leaf, item_leaves, meaning_in, round_width}
-use Rattle.cam_objects.specs.Soundness.{points_of_shape}
+use Rattle.cam_objects.specs.Soundness.{points_of_shape, is_on_board, is_short}
 use Rattle.cam_objects.specs.Weights.{object_count, object_depth, weight_in}
 use Rattle.cam_commands.specs.declared.names.FreeText.TheVariants.{FileAttribute}
 use Rattle.cam_commands.specs.declared.parts.Format.{Format}
@@ -45,30 +45,24 @@ use Rattle.cam_commands.specs.Commands.{is_style_extended}
 use Rattle.cam_commands.specs.ExtendedCommands.{is_same_format}
 use Rattle.cam_gerber.specs.Statements.{Statement, Says, NamesMacro, Uncut}
 use Rattle.cam_gerber.specs.State.{Past, format_in, unit_in, aperture_in, mode_in, has_arcs, in_region, code_of}
-use Rattle.cam_gerber.specs.State.{code_in, point_in, centre_of, unit_or_mm}
+use Rattle.cam_gerber.specs.State.{code_in, point_in, arc_centre}
+use Rattle.cam_units.specs.Nearest.{unit_or_mm}
 use Rattle.cam_gerber.specs.Attributes.{names_in}
-use Rattle.cam_gerber.specs.Homes.{Home, InBlock, InRepeat, InLayer, open_blocks, open_repeat, home, is_repeated}
-use Rattle.cam_gerber.specs.Homes.{step_of}
-use Rattle.cam_gerber.specs.Making.{segments_in, region_in, stroke_of, flash_of, objects_of}
-use Rattle.cam_gerber.specs.Layers.{macros_in, entries_in, items_in, closed_repeat, closed_leaves, leaves_of, leaves_in}
+use Rattle.cam_gerber.specs.Homes.{Home, InBlock, InRepeat, InLayer, open_blocks, open_repeat, home, has_copies}
+use Rattle.cam_gerber.specs.Homes.{step_written}
+use Rattle.cam_gerber.specs.Making.{segments_in, region_ended, stroke_of, flash_of, home_objects}
+use Rattle.cam_gerber.specs.Layers.{macros_in, entries_in, items_in, closed_repeat, closed_leaves, home_leaves, leaves_in}
 use Rattle.cam_objects.specs.declared.tip.Tip.{Tip}
 
 -- ---- the board
 
--- under a metre in absolute value
-abbrev pub is_short : ℤ → Bool
-is_short n = nat_lt (unsigned_abs n) board_limit
-
-abbrev pub is_on_board : Point → Bool
-is_on_board p = is_short p.x && is_short p.y
-
 -- every control point of the leaves lies on the board
-abbrev pub are_on_board : List Leaf → Bool
-are_on_board leaves = list_all (λ leaf. list_all is_on_board (points_of_shape leaf.shape)) leaves
+abbrev pub are_leaves_on_board : List Leaf → Bool
+are_leaves_on_board leaves = list_all (λ leaf. list_all is_on_board (points_of_shape leaf.shape)) leaves
 
 -- where it stands in the file, an item has a leaf outside the board
 unfoldable pub is_outside : Past → Item → Bool
-is_outside past stands = not (are_on_board (item_leaves (meaning_in (entries_in past)) stands))
+is_outside past stands = not (are_leaves_on_board (item_leaves (meaning_in (entries_in past)) stands))
 
 -- ---- what holds behind a past
 
@@ -128,9 +122,9 @@ abbrev pub holds_of : {A : Type 0} → (A → Bool) → Option A → Bool
 holds_of test None = false
 holds_of test (Some a) = test a
 
-abbrev pub is_empty : {A : Type 0} → List A → Bool
-is_empty [] = true
-is_empty (x ∷ xs) = false
+abbrev pub is_left_out : {A : Type 0} → List A → Bool
+is_left_out [] = true
+is_left_out (x ∷ xs) = false
 
 -- ---- counts
 
@@ -141,14 +135,14 @@ is_layer_full past leaves = nat_le count_limit (length (items_in past)) || nat_l
 -- an open block has no room for one object more
 abbrev pub is_block_full : Past → ℕ → Object → Bool
 is_block_full past n object =
-    nat_le count_limit (length (objects_of (InBlock n) past))
-    || nat_lt leaf_limit (leaves_of (InBlock n) past + object_count (weight_in (entries_in past)) object)
+    nat_le count_limit (length (home_objects (InBlock n) past))
+    || nat_lt leaf_limit (home_leaves (InBlock n) past + object_count (weight_in (entries_in past)) object)
     || nat_le depth_limit (object_depth (weight_in (entries_in past)) object)
 
 -- the home of the next object has no room for it
 abbrev pub is_full : Home → Past → Object → Bool
 is_full (InBlock n) past object = is_block_full past n object
-is_full (InRepeat before) past object = nat_le count_limit (length (objects_of (InRepeat before) past))
+is_full (InRepeat before) past object = nat_le count_limit (length (home_objects (InRepeat before) past))
 is_full InLayer past object = is_layer_full past (object_count (weight_in (entries_in past)) object)
 
 -- of what is made or closed, at most one, this holds
@@ -166,15 +160,15 @@ in_region_fault past = (StrayBlock, in_region past) ∷ []
 abbrev pub closing_faults : Past → Bool → Checks Refusal
 closing_faults past short_steps =
     (OutOfBoard, not short_steps || holds_of_one (is_outside past) (closed_repeat past))
-    ∷ (TooMuch, not (is_empty (closed_repeat past)) && is_layer_full past (closed_leaves past)) ∷ []
+    ∷ (TooMuch, not (is_left_out (closed_repeat past)) && is_layer_full past (closed_leaves past)) ∷ []
 
 abbrev pub is_malformed : {A : Type 0} → Slot A → Bool
 is_malformed Omitted = false
 is_malformed Malformed = true
 is_malformed (Written n) = false
 
-abbrev pub has_short_steps : Past → Repeat → Bool
-has_short_steps past repeat = is_short (step_of past repeat.i) && is_short (step_of past repeat.j)
+abbrev pub has_steps_on_board : Past → Repeat → Bool
+has_steps_on_board past repeat = is_short (step_written past repeat.i) && is_short (step_written past repeat.j)
 
 abbrev pub repeat_faults : Past → Repeat → Checks Refusal
 repeat_faults past repeat = (
@@ -183,17 +177,17 @@ repeat_faults past repeat = (
       || is_malformed repeat.j,
 )
     ∷ (NoUnit, is_none (unit_in past))
-    ∷ (NestedRepeat, is_repeated repeat && not (is_empty (open_blocks past)))
+    ∷ (NestedRepeat, has_copies repeat && not (is_left_out (open_blocks past)))
     ∷ (StrayBlock, in_region past)
-    ∷ closing_faults past (has_short_steps past repeat)
+    ∷ closing_faults past (has_steps_on_board past repeat)
 
 abbrev pub is_written : {A : Type 0} → Slot A → Bool
 is_written Omitted = false
 is_written Malformed = true
 is_written (Written n) = true
 
-abbrev pub has_coordinate : Operation → Bool
-has_coordinate operation =
+abbrev pub has_any_coordinate : Operation → Bool
+has_any_coordinate operation =
     is_written operation.x || is_written operation.y || is_written operation.i || is_written operation.j
 
 abbrev pub has_malformed : Operation → Bool
@@ -228,7 +222,7 @@ abbrev pub plot_faults : Past → Operation → Checks Refusal
 plot_faults past operation =
     let now = Says (Operate operation)
     ∷ past in path_faults (is_arc (mode_in now)) (has_arcs past) (point_in past) (point_in now)
-    (centre_of past operation)
+    (arc_centre past operation)
 
 -- in a repeat the leaves of a flash are judged when it is closed
 abbrev pub is_outside_at : Home → Past → Object → Bool
@@ -248,7 +242,7 @@ operated_faults Move false past operation =
     (OutOfBoard, not (is_on_board (point_in (Says (Operate operation) ∷ past)))) ∷ []
 operated_faults Move true past operation =
     (OutOfBoard, not (is_on_board (point_in (Says (Operate operation) ∷ past))))
-    ∷ (TooMuch, holds_of_one (is_full (home past) past) (region_in past)) ∷ []
+    ∷ (TooMuch, holds_of_one (is_full (home past) past) (region_ended past)) ∷ []
 operated_faults Flash false past operation =
     (NoneSelected, is_none (aperture_in past))
     ∷ (
@@ -263,8 +257,8 @@ operated_faults Flash true past operation = (FlashInRegion, true) ∷ []
 abbrev pub leading_faults : Past → Operation → Checks Refusal
 leading_faults past operation =
     (UnknownCommand, lacks_code past operation) ∷ (BadNumber, has_malformed operation)
-    ∷ (NoFormat, has_coordinate operation && is_none (format_in past))
-    ∷ (NoUnit, has_coordinate operation && is_none (unit_in past)) ∷ []
+    ∷ (NoFormat, has_any_coordinate operation && is_none (format_in past))
+    ∷ (NoUnit, has_any_coordinate operation && is_none (unit_in past)) ∷ []
 
 abbrev pub operation_faults : Past → Operation → Checks Refusal
 operation_faults past operation =
@@ -276,9 +270,9 @@ command_faults past RefusedFormat = (FormatRefused, true) ∷ []
 command_faults past (SetUnit unit style) =
     (SetAgain, is_other_unit (unit_in past) unit) ∷ (StrayBlock, is_style_extended style && in_region past) ∷ []
 command_faults past (DefineAperture text) =
-    (NoUnit, is_none (unit_in past)) ∷ (Redefined, is_taken_again past (numbered (definition_of text)))
+    (NoUnit, is_none (unit_in past)) ∷ (Redefined, is_taken_again past (numbered (template_form text)))
     ∷ (StrayBlock, in_region past)
-    ∷ faults_of (definition_of text) (macros_in past) (unit_or_mm (unit_in past))
+    ∷ faults_of (template_form text) (macros_in past) (unit_or_mm (unit_in past))
 command_faults past (SetPolarity polarity) = in_region_fault past
 command_faults past (SetMirror mirror) = in_region_fault past
 command_faults past (SetRotation angle) =
@@ -293,7 +287,7 @@ command_faults past (OpenBlock number) =
           || is_some (open_repeat past),
     )
     ∷ (TooMuch, nat_le depth_limit (length (open_blocks past))) ∷ []
-command_faults past CloseBlock = (StrayBlock, in_region past || is_empty (open_blocks past)) ∷ []
+command_faults past CloseBlock = (StrayBlock, in_region past || is_left_out (open_blocks past)) ∷ []
 command_faults past (SetRepeat repeat) = repeat_faults past repeat
 command_faults past CloseRepeat = (StrayBlock, in_region past) ∷ closing_faults past true
 command_faults past (KeepText FileAttribute text) =
@@ -303,10 +297,10 @@ command_faults past (RefusedOld style) =
     (StrayBlock, is_style_extended style && in_region past) ∷ (OldRefused, true) ∷ []
 command_faults past BeginRegion = in_region_fault past
 command_faults past EndRegion =
-    (NotInRegion, not (in_region past)) ∷ (TooMuch, holds_of_one (is_full (home past) past) (region_in past)) ∷ []
+    (NotInRegion, not (in_region past)) ∷ (TooMuch, holds_of_one (is_full (home past) past) (region_ended past)) ∷ []
 command_faults past (Select number) = (BadNumber, is_none number) ∷ (UnknownAperture, is_undefined past number) ∷ []
 command_faults past (Operate operation) = operation_faults past operation
-command_faults past End = (StrayBlock, in_region past || not (is_empty (open_blocks past))) ∷ closing_faults past true
+command_faults past End = (StrayBlock, in_region past || not (is_left_out (open_blocks past))) ∷ closing_faults past true
 command_faults past Unknown = (UnknownCommand, true) ∷ []
 command_faults past _ = []
 
@@ -314,6 +308,6 @@ command_faults past _ = []
 abbrev pub faults : Past → Statement → Checks Refusal
 faults past (Says command) = command_faults past command
 faults past (NamesMacro name parts) =
-    (UnknownCommand, not (is_name name)) ∷ (Redefined, is_some (named (macros_in past) name) || is_reserved name)
+    (UnknownCommand, not (is_macro_name name)) ∷ (Redefined, is_some (named (macros_in past) name) || is_reserved name)
     ∷ (StrayBlock, in_region past) ∷ (MacroFault, is_none parts) ∷ []
 faults past (Uncut refusal) = (refusal, true) ∷ []

@@ -2,7 +2,7 @@
 use Rattle.std.specs.Prelude.{◌≡◌, ◌≢◌, ◌↔◌, ℕ, List, [], ◌∷◌, ◌++◌, length, Some, None, Result, Ok, Err, ◌⊎◌, true}
 use Rattle.std.specs.Prelude.{ℤ, false, not}
 use Rattle.std.specs.List.{list_all, AllByRecursion, AllPairs}
-use Rattle.cam_words.specs.Reading.{Answer, reading}
+use Rattle.cam_words.specs.Reading.{WordAnswer, reading}
 use Rattle.cam_objects.specs.declared.layer.Layer.{Layer}
 use Rattle.cam_objects.specs.Soundness.{IsSound}
 use Rattle.cam_commands.specs.Commands.{SetFormat, SetUnit, SetPolarity, SetMirror, SetRotation, SetMode, Select}
@@ -25,7 +25,7 @@ use Rattle.cam_gerber.specs.Homes.{open_blocks, open_repeat, home}
 use Rattle.cam_gerber.specs.Making.{contour_in}
 use Rattle.cam_gerber.specs.Layers.{macros_in, layer_in}
 use Rattle.cam_gerber.specs.Faults.{faults, is_defined}
-use Rattle.cam_gerber.specs.Reading.{AreTold, Leads, Means, fault_of, is_end, places_from}
+use Rattle.cam_gerber.specs.Reading.{AreTold, Leads, Means, fault_told, is_end, places_from}
 
 -- ---- what a file means
 
@@ -49,8 +49,8 @@ pub record IsFault (bytes : List ℕ) (fault : ReadFault) : Type 0 where
   pub is : IsFileFault (places_from (length bytes) [] commands) fault
 
 -- the fault that is told is one of the file's, of the least place, and there of the least number
-abbrev pub TellsLeastFault : Type 0
-TellsLeastFault =
+abbrev pub TellsLeastGerberFault : Type 0
+TellsLeastGerberFault =
     (bytes : List ℕ) (f : ReadFault) → Means bytes (Err f) → IsFault bytes f × ((g : ReadFault) → IsFault bytes g
     → IsNotBehind f g)
 
@@ -71,12 +71,12 @@ GivesSoundLayers = (bytes : List ℕ) (layer : Layer) → Means bytes (Ok (conte
 -- no statement has a fault behind those before it
 abbrev pub AreFaultless : Past → List Told → Type 0
 AreFaultless past [] = Unit {0}
-AreFaultless past (command ∷ later) = (fault_of past command ≡ None) × AreFaultless (command.says ∷ past) later
+AreFaultless past (command ∷ later) = (fault_told past command ≡ None) × AreFaultless (command.says ∷ past) later
 
 -- a front without end and without fault leads where the rest leads behind it
 abbrev pub GoesOnBehindItsFront : Type 0
 GoesOnBehindItsFront =
-    (len : ℕ) (past : Past) (front rest : List Answer) (told : List Told) (result : Result Content ReadFault)
+    (len : ℕ) (past : Past) (front rest : List WordAnswer) (told : List Told) (result : Result Content ReadFault)
     → AreTold front told → AreEndless told → AreFaultless past told
     → Leads len past (front ++ rest) result ↔ Leads len (behind past told) rest result
 

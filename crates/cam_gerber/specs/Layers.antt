@@ -4,7 +4,7 @@ use Rattle.std.specs.Prelude.{ℕ, ◌+◌, ◌*◌, List, [], ◌∷◌, ◌++�
 use Rattle.cam_units.specs.declared.length.Unit.{Unit as FileUnit}
 use Rattle.cam_macros.specs.declared.aperture_macro.Macro.{Macro}
 use Rattle.cam_apertures.specs.declared.aperture.Aperture.{Aperture}
-use Rattle.cam_apertures.specs.Definition.{Definition, definition_of, values_of, aperture_of}
+use Rattle.cam_apertures.specs.Definition.{Definition, template_form, values_of, template_aperture}
 use Rattle.cam_numbers.specs.Numbers.{defined_number}
 use Rattle.cam_objects.specs.declared.object.Object.{Object}
 use Rattle.cam_objects.specs.declared.entry.Entry.{Entry}
@@ -15,10 +15,11 @@ use Rattle.cam_objects.specs.Contents.{Content}
 use Rattle.cam_objects.specs.Weights.{block_count, weight_in}
 use Rattle.cam_commands.specs.Commands.{DefineAperture, CloseBlock, SetRepeat, CloseRepeat, End, EndRegion, Operate}
 use Rattle.cam_gerber.specs.Statements.{Statement, Says, NamesMacro}
-use Rattle.cam_gerber.specs.State.{Past, unit_in, unit_or_mm}
+use Rattle.cam_gerber.specs.State.{Past, unit_in}
+use Rattle.cam_units.specs.Nearest.{unit_or_mm}
 use Rattle.cam_gerber.specs.Attributes.{attributes_in}
 use Rattle.cam_gerber.specs.Homes.{Home, InBlock, InRepeat, InLayer, Opened, open_blocks, open_repeat}
-use Rattle.cam_gerber.specs.Making.{made_at, objects_of}
+use Rattle.cam_gerber.specs.Making.{made_at, home_objects}
 
 -- ---- the dictionary
 
@@ -37,16 +38,16 @@ numbered_aperture (Some n) (Some aperture) = (n, entry.Aperture aperture) ∷ []
 abbrev pub defined_by : Option Definition → List Macro → FileUnit → List (ℕ × Entry)
 defined_by None macros unit = []
 defined_by (Some d) macros unit =
-    numbered_aperture (defined_number d.number) (aperture_of d.name macros unit (unwrap_or
+    numbered_aperture (defined_number d.number) (template_aperture d.name macros unit (unwrap_or
     (values_of d.parameters) []))
 
 abbrev pub defined : Past → List ℕ → List (ℕ × Entry)
-defined past text = defined_by (definition_of text) (macros_in past) (unit_or_mm (unit_in past))
+defined past text = defined_by (template_form text) (macros_in past) (unit_or_mm (unit_in past))
 
 -- the innermost block, which is closed behind a past
 abbrev pub closed_block : Past → List ℕ → List (ℕ × Entry)
 closed_block past [] = []
-closed_block past (n ∷ outer) = (n, entry.Block (objects_of (InBlock n) past)) ∷ []
+closed_block past (n ∷ outer) = (n, entry.Block (home_objects (InBlock n) past)) ∷ []
 
 abbrev pub entries_in : Past → List (ℕ × Entry)
 entries_in [] = []
@@ -63,20 +64,20 @@ repeat_by o (x ∷ xs) = item.Repeat o.columns o.rows o.i o.j (x ∷ xs) ∷ []
 
 abbrev pub closed_by : Past → Option Opened → List Item
 closed_by past None = []
-closed_by past (Some o) = repeat_by o (objects_of (InRepeat o.before) past)
+closed_by past (Some o) = repeat_by o (home_objects (InRepeat o.before) past)
 
 -- the repeat that is closed behind a past
 abbrev pub closed_repeat : Past → List Item
 closed_repeat past = closed_by past (open_repeat past)
 
 -- what is made behind a past, where it is at home in the layer
-abbrev pub item_at : Past → Statement → List Item
-item_at past says = map item.One (made_at InLayer past says)
+abbrev pub item_made : Past → Statement → List Item
+item_made past says = map item.One (made_at InLayer past says)
 
 abbrev pub items_in : Past → List Item
 items_in [] = []
-items_in (Says (Operate operation) ∷ older) = items_in older ++ item_at older (Says (Operate operation))
-items_in (Says EndRegion ∷ older) = items_in older ++ item_at older (Says EndRegion)
+items_in (Says (Operate operation) ∷ older) = items_in older ++ item_made older (Says (Operate operation))
+items_in (Says EndRegion ∷ older) = items_in older ++ item_made older (Says EndRegion)
 items_in (Says (SetRepeat repeat) ∷ older) = items_in older ++ closed_repeat older
 items_in (Says CloseRepeat ∷ older) = items_in older ++ closed_repeat older
 items_in (Says End ∷ older) = items_in older ++ closed_repeat older
@@ -91,15 +92,15 @@ abbrev pub made_leaves : Home → Past → Statement → ℕ
 made_leaves h past says = block_count (weight_in (entries_in past)) (made_at h past says)
 
 -- how many leaves the objects of a home have
-abbrev pub leaves_of : Home → Past → ℕ
-leaves_of h [] = 0
-leaves_of h (Says (Operate operation) ∷ older) = leaves_of h older + made_leaves h older (Says (Operate operation))
-leaves_of h (Says EndRegion ∷ older) = leaves_of h older + made_leaves h older (Says EndRegion)
-leaves_of h (_ ∷ older) = leaves_of h older
+abbrev pub home_leaves : Home → Past → ℕ
+home_leaves h [] = 0
+home_leaves h (Says (Operate operation) ∷ older) = home_leaves h older + made_leaves h older (Says (Operate operation))
+home_leaves h (Says EndRegion ∷ older) = home_leaves h older + made_leaves h older (Says EndRegion)
+home_leaves h (_ ∷ older) = home_leaves h older
 
 abbrev pub copied_leaves : Past → Option Opened → ℕ
 copied_leaves past None = 0
-copied_leaves past (Some o) = o.columns * o.rows * leaves_of (InRepeat o.before) past
+copied_leaves past (Some o) = o.columns * o.rows * home_leaves (InRepeat o.before) past
 
 -- of the repeat that is closed behind a past, in all its copies
 abbrev pub closed_leaves : Past → ℕ

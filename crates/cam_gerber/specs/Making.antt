@@ -16,7 +16,7 @@ use Rattle.cam_commands.specs.declared.parts.OperationCode.{OperationCode}
 use Rattle.cam_commands.specs.declared.parts.OperationCode.TheVariants.{Plot, Move, Flash}
 use Rattle.cam_commands.specs.Commands.{BeginRegion, EndRegion, Operate}
 use Rattle.cam_gerber.specs.Statements.{Statement, Says}
-use Rattle.cam_gerber.specs.State.{Past, dark_in, turn_in, aperture_in, mode_in, in_region, code_of, point_in, centre_of}
+use Rattle.cam_gerber.specs.State.{Past, dark_in, turn_in, aperture_in, mode_in, in_region, code_of, point_in, arc_centre}
 use Rattle.cam_gerber.specs.Homes.{Home, home, is_same_home}
 
 -- ---- contours
@@ -38,7 +38,7 @@ segments_in [] = []
 segments_in (Says (Operate operation) ∷ older) =
     let now = Says (Operate operation) ∷ older in
     if in_region older then segments_by (code_of operation) (segments_in older) (segment (mode_in now)
-    (point_in now) (centre_of older operation))
+    (point_in now) (arc_centre older operation))
     else segments_in older
 segments_in (Says BeginRegion ∷ older) = []
 segments_in (Says EndRegion ∷ older) = []
@@ -67,8 +67,8 @@ region_by start [] dark = []
 region_by start (seg ∷ segs) dark = object.Region (record { start = start; segs = seg ∷ segs }) dark ∷ []
 
 -- the region of the contour that ends behind a past
-abbrev pub region_in : Past → List Object
-region_in past = region_by (start_in past) (segments_in past) (dark_in past)
+abbrev pub region_ended : Past → List Object
+region_ended past = region_by (start_in past) (segments_in past) (dark_in past)
 
 -- ---- objects
 
@@ -84,7 +84,7 @@ number_in past = unwrap_or (aperture_in past) 0
 abbrev pub stroke_of : Past → Operation → Object
 stroke_of past operation =
     let now = Says (Operate operation) ∷ past in
-    stroke (mode_in now) (number_in past) (point_in past) (point_in now) (centre_of past operation) (turn_in past)
+    stroke (mode_in now) (number_in past) (point_in past) (point_in now) (arc_centre past operation) (turn_in past)
     (dark_in past)
 
 abbrev pub flash_of : Past → Operation → Object
@@ -96,13 +96,13 @@ abbrev pub operated : OperationCode → Bool → Past → Operation → List Obj
 operated Plot false past operation = stroke_of past operation ∷ []
 operated Plot true past operation = []
 operated Move false past operation = []
-operated Move true past operation = region_in past
+operated Move true past operation = region_ended past
 operated Flash region past operation = flash_of past operation ∷ []
 
 -- what a statement makes behind a past
 abbrev pub made : Past → Statement → List Object
 made past (Says (Operate operation)) = operated (code_of operation) (in_region past) past operation
-made past (Says EndRegion) = region_in past
+made past (Says EndRegion) = region_ended past
 made past _ = []
 
 -- it may make an object
@@ -116,8 +116,8 @@ abbrev pub made_at : Home → Past → Statement → List Object
 made_at h past says = if is_same_home (home past) h then made past says else []
 
 -- the objects that belong to a home, in order
-abbrev pub objects_of : Home → Past → List Object
-objects_of h [] = []
-objects_of h (Says (Operate operation) ∷ older) = objects_of h older ++ made_at h older (Says (Operate operation))
-objects_of h (Says EndRegion ∷ older) = objects_of h older ++ made_at h older (Says EndRegion)
-objects_of h (_ ∷ older) = objects_of h older
+abbrev pub home_objects : Home → Past → List Object
+home_objects h [] = []
+home_objects h (Says (Operate operation) ∷ older) = home_objects h older ++ made_at h older (Says (Operate operation))
+home_objects h (Says EndRegion ∷ older) = home_objects h older ++ made_at h older (Says EndRegion)
+home_objects h (_ ∷ older) = home_objects h older

@@ -2,13 +2,13 @@
 use Rattle.std.specs.Prelude.{◌≡◌, ℕ, List, [], ◌∷◌, length, Option, Some, None, Result, Ok, Err, ◌⊎◌, Bool, true}
 use Rattle.std.specs.Prelude.{false, if◌then◌else◌}
 use Rattle.cam_refusals.specs.declared.read_fault.ReadFault.{ReadFault}
-use Rattle.cam_refusals.specs.declared.refusal.Refusal.TheVariants.{NoEnd, NoMemory}
-use Rattle.cam_refusals.specs.FileFaults.{Place, told, told_at}
-use Rattle.cam_words.specs.Reading.{Answer, reading}
+use Rattle.cam_refusals.specs.declared.refusal.Refusal.TheVariants.{NoEnd}
+use Rattle.cam_refusals.specs.FileFaults.{Place, first_told, told_at, no_memory}
+use Rattle.cam_words.specs.Reading.{WordAnswer, reading}
 use Rattle.cam_objects.specs.declared.layer.Layer.{Layer}
 use Rattle.cam_commands.specs.Commands.{Command, End}
 use Rattle.cam_objects.specs.Contents.{Content, content_of}
-use Rattle.cam_gerber.specs.Statements.{Statement, Says, Told, IsTold}
+use Rattle.cam_gerber.specs.Statements.{Statement, Says, Told, IsCommandTold}
 use Rattle.cam_gerber.specs.State.{Past}
 use Rattle.cam_gerber.specs.Layers.{layer_in}
 use Rattle.cam_gerber.specs.Faults.{faults}
@@ -29,8 +29,8 @@ abbrev pub place_behind : Past → Told → Place
 place_behind past command = record { at = command.at; checks = faults past command.says }
 
 -- the fault that it tells
-abbrev pub fault_of : Past → Told → Option ReadFault
-fault_of past command = told_at (place_behind past command)
+abbrev pub fault_told : Past → Told → Option ReadFault
+fault_told past command = told_at (place_behind past command)
 
 -- the places of the rest of a file of so many bytes, behind a past: its commands up to and with the first M02, or else
 -- its end; what stands behind M02 is not read
@@ -54,30 +54,27 @@ layer_unless (Some fault) layer = Err fault
 
 -- what commands give that are the rest of a file of so many bytes, behind a past without a fault
 abbrev pub given : ℕ → Past → List Told → Result Content ReadFault
-given len past commands = layer_unless (told (places_from len past commands)) (layer_in (past_from past commands))
+given len past commands = layer_unless (first_told (places_from len past commands)) (layer_in (past_from past commands))
 
 -- each answer tells one of these commands
-abbrev pub AreTold : List Answer → List Told → Type 0
+abbrev pub AreTold : List WordAnswer → List Told → Type 0
 AreTold [] [] = Unit {0}
-AreTold (answer ∷ answers) (command ∷ commands) = IsTold answer command × AreTold answers commands
+AreTold (answer ∷ answers) (command ∷ commands) = IsCommandTold answer command × AreTold answers commands
 AreTold [] (command ∷ commands) = ⊥
 AreTold (answer ∷ answers) [] = ⊥
 
 -- what the rest of a file of so many bytes gives, behind a past without a fault
-abbrev pub Leads : ℕ → Past → List Answer → Result Content ReadFault → Type 0
+abbrev pub Leads : ℕ → Past → List WordAnswer → Result Content ReadFault → Type 0
 Leads len past answers result = (commands : List Told) × AreTold answers commands × (result ≡ given len past commands)
 
 -- a file gives a layer, or a fault
 unfoldable pub Means : List ℕ → Result Content ReadFault → Type 0
 Means bytes result = Leads (length bytes) [] (reading 0 bytes) result
 
-abbrev pub no_memory : ReadFault
-no_memory = record { code = NoMemory; at = 0 }
-
-abbrev pub answer_of : Result Layer ReadFault → Result Content ReadFault
-answer_of (Ok layer) = Ok (content_of layer)
-answer_of (Err fault) = Err fault
+abbrev pub layer_answer : Result Layer ReadFault → Result Content ReadFault
+layer_answer (Ok layer) = Ok (content_of layer)
+layer_answer (Err fault) = Err fault
 
 -- the reader's answer: what the file means, but where memory was refused
 abbrev pub IsReading : List ℕ → Result Layer ReadFault → Type 0
-IsReading bytes result = Means bytes (answer_of result) ⊎ (result ≡ Err no_memory)
+IsReading bytes result = Means bytes (layer_answer result) ⊎ (result ≡ Err no_memory)

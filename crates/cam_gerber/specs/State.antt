@@ -4,11 +4,10 @@ use Rattle.std.specs.Prelude.{ℕ, ℤ, pos, ◌+ℤ◌, List, [], ◌∷◌, Op
 use Rattle.std.specs.Option.{option_or, option_map}
 use Rattle.std.specs.Prelude.{Result, Ok, Err}
 use Rattle.cam_units.specs.declared.length.Unit.{Unit as FileUnit}
-use Rattle.cam_units.specs.declared.length.Unit.TheVariants.{Mm}
 use Rattle.cam_units.specs.declared.point.Point.{Point}
 use Rattle.cam_units.specs.declared.turn.Turn.{Turn}
 use Rattle.cam_units.specs.declared.turn.Turn.TheVariants.{R0, R180, M0, M180}
-use Rattle.cam_units.specs.Nearest.{coord_of}
+use Rattle.cam_units.specs.Nearest.{coord_of, unit_or_mm}
 use Rattle.cam_macros.specs.declared.fault.MacroFault.{MacroFault}
 use Rattle.cam_macros.specs.Expansion.{rotation}
 use Rattle.cam_objects.specs.Turning.{after}
@@ -147,23 +146,20 @@ code_told _ = None
 abbrev pub code_in : Past → Option OperationCode
 code_in past = newest code_told past
 
-abbrev pub value_of : Slot ℤ → Option ℤ
-value_of Omitted = None
-value_of Malformed = None
-value_of (Written n) = Some n
+abbrev pub slot_value : Slot ℤ → Option ℤ
+slot_value Omitted = None
+slot_value Malformed = None
+slot_value (Written n) = Some n
 
 abbrev pub x_told : Command → Option ℤ
-x_told (Operate operation) = value_of operation.x
+x_told (Operate operation) = slot_value operation.x
 x_told _ = None
 
 abbrev pub y_told : Command → Option ℤ
-y_told (Operate operation) = value_of operation.y
+y_told (Operate operation) = slot_value operation.y
 y_told _ = None
 
 -- lengths before the unit are as in mm, and coordinates before the format as whole units; both are faults
-abbrev pub unit_or_mm : Option FileUnit → FileUnit
-unit_or_mm unit = unwrap_or unit Mm
-
 abbrev pub decimals_of : Option Format → ℕ
 decimals_of None = 0
 decimals_of (Some format) = format.decimals
@@ -185,9 +181,9 @@ point_in past = record { x = newest_nm x_told past; y = newest_nm y_told past }
 
 -- how far an offset goes, in nm; an omitted one is 0
 abbrev pub offset_nm : Past → Slot ℤ → ℤ
-offset_nm past slot = unwrap_or (option_map (coordinate_nm (format_in past) (unit_in past)) (value_of slot)) (pos 0)
+offset_nm past slot = unwrap_or (option_map (coordinate_nm (format_in past) (unit_in past)) (slot_value slot)) (pos 0)
 
 -- the centre of an arc from the current point
-abbrev pub centre_of : Past → Operation → Point
-centre_of past operation =
+abbrev pub arc_centre : Past → Operation → Point
+arc_centre past operation =
     record { x = (point_in past).x +ℤ offset_nm past operation.i; y = (point_in past).y +ℤ offset_nm past operation.j }

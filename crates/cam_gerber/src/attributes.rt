@@ -1,20 +1,20 @@
 //! The file attributes so far.
 
 ghost use Rattle.std.specs.Prelude.{◌≡◌, ℕ, List, ◌++◌, ◌∷◌, [], None, OnErr, OnOk, length, nat_lt};
-ghost use Rattle.cam_objects.specs.Attributes.{attribute_of, place_of, with_attribute};
+ghost use Rattle.cam_objects.specs.Attributes.{attribute_of, attribute_place, with_attribute};
 ghost use Rattle.cam_refusals.specs.Limits.{attribute_limit};
 ghost use Rattle.cam_commands.specs.Commands as command;
 ghost use Rattle.cam_commands.specs.declared.names.FreeText.TheVariants.{FileAttribute};
-ghost use Rattle.cam_gerber.specs.Attributes.{fields_of, name_of};
+ghost use Rattle.cam_gerber.specs.Attributes.{attribute_fields, attribute_name};
 ghost use Rattle.cam_gerber.specs.Machinery.Tracking.{Takes};
 
-use crate::definitions::place_of;
 use crate::running::Running;
 use cam_commands::FreeText;
 use cam_objects::Attribute;
 use cam_refusals::limits::ATTRIBUTE_LIMIT;
 use cam_refusals::{Refusal, Stop};
 use cam_units::Items;
+use cam_words::len_before;
 use indexmap::IndexSet;
 use std::alloc::{AllocError, Global};
 use std::marker::Model;
@@ -59,7 +59,7 @@ impl Attributes {
 
     /// The place of the attribute with this name, counted from 0.
     pub fn place(&self, name: &[u8]) -> Option<usize>
-        ensures { result ≡ place_of name.now self.now }
+        ensures { result ≡ attribute_place name.now self.now }
     {
         self.names.get_index_of(name)
     }
@@ -90,7 +90,7 @@ impl Attributes {
 
     /// Adds an attribute of another name behind the others.
     fn push(&mut self, alloc: Global, name: &[u8], fields: &[u8]) -> Result<(), AllocError>
-        requires { place_of name.now self.old ≡ None }
+        requires { attribute_place name.now self.old ≡ None }
         ensures { OnOk result (self.new ≡ self.old ++ attribute_of name.now fields.now ∷ []) }
     {
         self.names.insert(Vec::from_slice(alloc, name)?)?;
@@ -130,10 +130,10 @@ fn add(
 
 /// The name of a file attribute, and its fields, of what stands behind `TF`.
 fn split(text: &[u8]) -> (&[u8], &[u8])
-    ensures name { result.0.now ≡ name_of text.now }
-    ensures fields { result.1.now ≡ fields_of text.now }
+    ensures name { result.0.now ≡ attribute_name text.now }
+    ensures fields { result.1.now ≡ attribute_fields text.now }
 {
-    let comma = place_of(b',', text);
+    let comma = len_before(b',', text);
     (&text[..comma], &text[comma..])
 }
 

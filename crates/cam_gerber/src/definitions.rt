@@ -1,7 +1,7 @@
 //! Definitions of apertures and macros.
 
 ghost use Rattle.std.specs.Prelude.{◌≡◌, ◌==◌, ◌≤◌, length, ◌∷◌, ◌||◌, is_none, Some, IfOk, is_some, if◌then◌else◌};
-ghost use Rattle.std.specs.List.{before_first, position_or_len};
+ghost use Rattle.std.specs.List.{before_first};
 ghost use Rattle.cam_words.specs.Heads.{packed};
 ghost use Rattle.cam_words.specs.Bytes.{is_star};
 ghost use Rattle.cam_apertures.specs.Definition.{named};
@@ -20,7 +20,7 @@ use cam_macros::{Macro, MacroFault};
 use cam_objects::Entry;
 use cam_refusals::{Refusal, Stop};
 use cam_units::Unit;
-use cam_words::is_skipped;
+use cam_words::{is_skipped, len_before};
 use std::alloc::{AllocError, Global};
 
 /// The lower of a fault that is told and of another one, where that holds.
@@ -63,24 +63,11 @@ fn pack(alloc: Global, text: &[u8]) -> Result<Vec<u8>, AllocError>
         .collect(alloc)
 }
 
-/// Where the byte first stands, or the text's length.
-pub fn place_of(byte: u8, text: &[u8]) -> usize
-    ensures value { result ≡ position_or_len (λ b. b == byte) text.now }
-    ensures within { result ≤ length text.now }
-{
-    for (place, here) in text.iter().enumerate() {
-        if *here == byte {
-            return place;
-        }
-    }
-    text.len()
-}
-
 /// What stands before the first star.
 fn before_star(text: &[u8]) -> &[u8]
     ensures { result.now ≡ before_first is_star text.now }
 {
-    &text[..place_of(b'*', text)]
+    &text[..len_before(b'*', text)]
 }
 
 impl Running {

@@ -3,7 +3,7 @@
 ghost use Rattle.std.specs.Prelude.{◌≡◌, ◌&&◌, IfNone, IfSome, false, is_some, true};
 ghost use Rattle.cam_commands.specs.Commands as command;
 ghost use Rattle.cam_commands.specs.declared.parts.OperationCode.TheVariants as code;
-ghost use Rattle.cam_gerber.specs.Faults.{is_empty, is_outside_at};
+ghost use Rattle.cam_gerber.specs.Faults.{is_left_out, is_outside_at};
 ghost use Rattle.cam_gerber.specs.Homes.{home};
 ghost use Rattle.cam_gerber.specs.State.{Past};
 ghost use Rattle.cam_gerber.specs.Machinery.WellMade.{IsWellMade};
@@ -30,7 +30,7 @@ impl Running {
 
     /// Whether the next object belongs to a repeat.
     fn is_in_repeat(&self) -> bool
-        ensures { result ≡ (is_empty self.now.frames.blocks.items && is_some self.now.frames.repeat) }
+        ensures { result ≡ (is_left_out self.now.frames.blocks.items && is_some self.now.frames.repeat) }
     {
         if !self.frames.blocks.is_empty() {
             return false;

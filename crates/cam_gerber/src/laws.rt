@@ -11,7 +11,7 @@ ghost use Rattle.cam_gerber.specs.Laws.{
   KeepsHomesApart,
   MeansOneThing,
   SameSettingsChangeNothing,
-  TellsLeastFault,
+  TellsLeastGerberFault,
 };
 
 /// A file means one thing at most: one layer, or one fault.
@@ -40,8 +40,8 @@ pub fn no_fault_of_memory()
 {}
 
 /// The fault that is told is one of the file's, of the least place, and there of the least number.
-pub fn the_least_fault_is_told()
-    ensures { TellsLeastFault }
+pub fn the_least_gerber_fault_is_told()
+    ensures { TellsLeastGerberFault }
 {}
 
 /// A file that gives a layer has no fault.

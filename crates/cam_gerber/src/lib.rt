@@ -48,6 +48,6 @@ pub use laws::{
     attributes_follow_the_rule, files_go_on_behind_their_front, files_mean_one_thing,
     files_mean_what_is_computed, homes_stay_apart, layers_are_sound,
     layers_come_from_faultless_files, no_fault_of_memory, same_settings_change_nothing,
-    the_least_fault_is_told,
+    the_least_gerber_fault_is_told,
 };
 pub use reader::read_gerber;

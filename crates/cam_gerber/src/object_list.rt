@@ -1,7 +1,7 @@
 //! Objects that are made one after the other.
 
 ghost use Rattle.std.specs.Prelude.{◌≡◌, ◌++◌, ◌∷◌, [], length, OnOk};
-ghost use Rattle.cam_gerber.specs.Faults.{is_empty};
+ghost use Rattle.cam_gerber.specs.Faults.{is_left_out};
 
 use cam_objects::{Object, Objects};
 use std::alloc::{AllocError, Global};
@@ -41,7 +41,7 @@ impl ObjectList {
 
     /// Whether there is no object.
     pub fn is_empty(&self) -> bool
-        ensures { result ≡ is_empty self.now }
+        ensures { result ≡ is_left_out self.now }
     {
         self.objects.is_empty()
     }

@@ -7,7 +7,7 @@ ghost use Rattle.cam_gerber.specs.Reading.{IsReading, is_end_command};
 ghost use Rattle.cam_gerber.specs.Machinery.Tracking.{Reads, Tracks};
 
 use crate::running::Running;
-use cam_commands::{Command, command_of, place_of};
+use cam_commands::{Command, command_of, start_of};
 use cam_objects::Layer;
 use cam_refusals::{ReadFault, Refusal, Stop};
 use cam_words::Words;
@@ -46,7 +46,7 @@ impl Running {
                 Err(Stop::Fault(code)) => {
                     return Err(ReadFault {
                         code,
-                        at: place_of(word),
+                        at: start_of(word),
                     });
                 }
             }

@@ -4,8 +4,9 @@ ghost use Rattle.std.specs.Prelude.{◌≡◌, ◌*◌, ◌||◌, ◌&&◌, min,
 ghost use Rattle.cam_commands.specs.Commands as command;
 ghost use Rattle.cam_objects.specs.Leaves.{item_leaves, meaning_in};
 ghost use Rattle.cam_objects.specs.declared.item.Item.TheVariants as item;
-ghost use Rattle.cam_gerber.specs.Faults.{are_on_board, is_empty, is_malformed, is_short};
-ghost use Rattle.cam_gerber.specs.Homes.{count_of, is_repeated};
+ghost use Rattle.cam_gerber.specs.Faults.{are_leaves_on_board, is_left_out, is_malformed};
+ghost use Rattle.cam_objects.specs.Soundness.{is_short};
+ghost use Rattle.cam_gerber.specs.Homes.{copies_written, has_copies};
 ghost use Rattle.cam_gerber.specs.Machinery.Closing.{Adds, opened_by, step_by};
 ghost use Rattle.cam_gerber.specs.Machinery.Tracking.{HasPast, Settles, Takes};
 ghost use Rattle.cam_gerber.specs.Machinery.WellMade.{IsWellMadeItem};
@@ -24,8 +25,8 @@ use cam_units::{Nm, Unit, fix9_nm};
 use std::alloc::Global;
 
 /// One column or row where none are written.
-fn count_of(slot: Slot<u32>) -> u32
-    ensures { result ≡ count_of slot }
+fn copies_written(slot: Slot<u32>) -> u32
+    ensures { result ≡ copies_written slot }
 {
     match slot {
         Slot::Written(n) => n,
@@ -57,10 +58,10 @@ fn is_short(step: Nm) -> bool
 }
 
 /// Whether there is more than one copy.
-fn is_repeated(repeat: &Repeat) -> bool
-    ensures { result ≡ is_repeated repeat.now }
+fn has_copies(repeat: &Repeat) -> bool
+    ensures { result ≡ has_copies repeat.now }
 {
-    u64::from(count_of(repeat.columns)) * u64::from(count_of(repeat.rows)) > 1
+    u64::from(copies_written(repeat.columns)) * u64::from(copies_written(repeat.rows)) > 1
 }
 
 /// Whether a number of the repeat does not fit its grammar.
@@ -84,7 +85,7 @@ fn copied_leaves(columns: u32, rows: u32, leaves: u64) -> u64
 }
 
 /// Whether the steps are under a metre.
-fn has_short_steps(unit: Unit, repeat: &Repeat) -> bool
+fn has_steps_on_board(unit: Unit, repeat: &Repeat) -> bool
     ensures { result ≡ (is_short (step_by unit repeat.now.i) && is_short (step_by unit repeat.now.j)) }
 {
     if !is_short(step(unit, &repeat.i)) {
@@ -99,8 +100,8 @@ impl OpenRepeat {
         ensures { result ≡ opened_by unit repeat.now }
     {
         OpenRepeat {
-            columns: count_of(repeat.columns),
-            rows: count_of(repeat.rows),
+            columns: copies_written(repeat.columns),
+            rows: copies_written(repeat.rows),
             i: step(unit, &repeat.i).0,
             j: step(unit, &repeat.j).0,
             objects: ObjectList::new(alloc),
@@ -126,7 +127,7 @@ impl Built {
     /// Whether a leaf of the item lies outside the board.
     fn is_outside(&self, item: &Item) -> bool
         requires { IsWellMadeItem self.now.layer.apertures item.now }
-        ensures { result ≡ not (are_on_board (item_leaves (meaning_in self.now.layer.apertures) item.now)) }
+        ensures { result ≡ not (are_leaves_on_board (item_leaves (meaning_in self.now.layer.apertures) item.now)) }
     {
         is_of_board(&self.layer.check_item(item))
     }
@@ -169,9 +170,9 @@ impl Running {
 
     /// Whether the repeat would lie in a block.
     fn is_nested(&self, repeat: &Repeat) -> bool
-        ensures { result ≡ (is_repeated repeat.now && not (is_empty self.now.frames.blocks.items)) }
+        ensures { result ≡ (has_copies repeat.now && not (is_left_out self.now.frames.blocks.items)) }
     {
-        if !is_repeated(repeat) {
+        if !has_copies(repeat) {
             return false;
         }
         !self.frames.blocks.is_empty()
@@ -194,13 +195,13 @@ impl Running {
         if self.region.inside {
             return Err(Stop::Fault(Refusal::StrayBlock));
         }
-        if !has_short_steps(unit, repeat) {
+        if !has_steps_on_board(unit, repeat) {
             return Err(Stop::Fault(Refusal::OutOfBoard));
         }
         if let Err(stop) = self.settle() {
             return Err(stop);
         }
-        if is_repeated(repeat) {
+        if has_copies(repeat) {
             self.frames.repeat = Some(OpenRepeat::new(self.alloc, unit, repeat));
         }
         Ok(())

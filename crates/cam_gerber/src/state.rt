@@ -4,14 +4,16 @@ ghost use Rattle.std.specs.Prelude.{◌≡◌, ◌++◌, ◌≤◌, ◌<◌, ◌
 ghost use Rattle.std.specs.Prelude.{MatchOption, IfOk};
 ghost use Rattle.cam_objects.specs.Turning.{after};
 ghost use Rattle.cam_units.specs.Board.{IsOnBoard};
-ghost use Rattle.cam_gerber.specs.Faults.{has_coordinate, has_malformed, is_arc, is_malformed, is_on_board};
+ghost use Rattle.cam_gerber.specs.Faults.{has_any_coordinate, has_malformed, is_arc, is_malformed};
+ghost use Rattle.cam_objects.specs.Soundness.{is_on_board};
 ghost use Rattle.cam_gerber.specs.Faults.{is_same_point, is_written, lacks_code, leading_faults, path_faults};
 ghost use Rattle.cam_shapes.specs.declared.segments.Seg.TheVariants.{Line, Curve};
 ghost use Rattle.cam_gerber.specs.Making.{segment};
-ghost use Rattle.cam_gerber.specs.State.{Past, code_of, decimals_of, unit_or_mm};
+ghost use Rattle.cam_gerber.specs.State.{Past, code_of, decimals_of};
+ghost use Rattle.cam_units.specs.Nearest.{unit_or_mm};
 ghost use Rattle.cam_gerber.specs.Machinery.Tracking.{IsJudged, IsOperated, StopsAtFirst, TracksModal, centre_by};
 ghost use Rattle.cam_gerber.specs.Machinery.Tracking.{mode_by, moved, moved_point, path_faults_by, stroke_along};
-ghost use Rattle.cam_refusals.specs.Checks.{first};
+ghost use Rattle.cam_refusals.specs.Checks.{first_holding};
 
 use crate::modal::Modal;
 use cam_commands::{Mode, Operation, OperationCode, Slot};
@@ -64,8 +66,8 @@ fn has_malformed(operation: &Operation) -> bool
 }
 
 /// Whether the operation writes a coordinate.
-fn has_coordinate(operation: &Operation) -> bool
-    ensures { result ≡ has_coordinate operation.now }
+fn has_any_coordinate(operation: &Operation) -> bool
+    ensures { result ≡ has_any_coordinate operation.now }
 {
     is_written(operation.x)
         || is_written(operation.y)
@@ -163,7 +165,7 @@ impl Modal {
     /// What any operation may be refused for.
     pub fn leading_fault(&self, operation: &Operation) -> Option<Refusal>
         ensures { (past : Past) → TracksModal past self.now
-            → result ≡ first (leading_faults past operation.now) }
+            → result ≡ first_holding (leading_faults past operation.now) }
     {
         if self.lacks_code(operation) {
             return Some(Refusal::UnknownCommand);
@@ -171,7 +173,7 @@ impl Modal {
         if has_malformed(operation) {
             return Some(Refusal::BadNumber);
         }
-        if !has_coordinate(operation) {
+        if !has_any_coordinate(operation) {
             return None;
         }
         if self.format.is_none() {

@@ -8,7 +8,7 @@ use Rattle.std.proofs.lemmas.List.Splits.{slice_split_first, slice_split_none}
 use Rattle.std.proofs.lemmas.List.Sums.{fails_before_first}
 use Rattle.std.proofs.lemmas.Bool.Decides.{nat_tests}
 use Rattle.std.specs.List.{onto_first}
-use Rattle.cam_script.specs.Words.{is_blank, is_filled, words}
+use Rattle.cam_script.specs.Words.{is_word_gap, is_filled, words}
 
 place_told : (n m i : ℕ) → cond (nat_lt n m) (Some n) None ≡ Some i → (n < m) × (i ≡ n)
 place_told n m i e = (grind (arith, nat_tests), grind (arith, nat_tests))
@@ -36,13 +36,13 @@ two_filtered p x xs = by_test (p x)
     by_test true = refl
     by_test false = refl
 
-pub words_there : (xs : List ℕ) (i : ℕ) → position is_blank xs ≡ Some i
+pub words_there : (xs : List ℕ) (i : ℕ) → position is_word_gap xs ≡ Some i
     → words xs ≡ filter is_filled (take i xs ∷ []) ++ words (drop (i + 1) xs)
 words_there xs i e =
-    ap (filter is_filled) (split_there is_blank xs i e) ∙ two_filtered is_filled (take i xs) (slice_split is_blank (drop (i + 1) xs))
+    ap (filter is_filled) (split_there is_word_gap xs i e) ∙ two_filtered is_filled (take i xs) (slice_split is_word_gap (drop (i + 1) xs))
 
-pub words_nowhere : (xs : List ℕ) → position is_blank xs ≡ None → words xs ≡ filter is_filled (xs ∷ []) ++ words []
-words_nowhere xs e = ap (filter is_filled) (split_nowhere is_blank xs e) ∙ two_filtered is_filled xs ([] ∷ [])
+pub words_nowhere : (xs : List ℕ) → position is_word_gap xs ≡ None → words xs ≡ filter is_filled (xs ∷ []) ++ words []
+words_nowhere xs e = ap (filter is_filled) (split_nowhere is_word_gap xs e) ∙ two_filtered is_filled xs ([] ∷ [])
 
 -- a piece with another behind it is a line
 abbrev Filled : List (List ℕ) → Type 0
@@ -128,12 +128,12 @@ filled_first x (part ∷ parts) =
 -- no more words than bytes
 few : (xs : List ℕ) → length (words xs) ≤ length xs
 few [] = omega arith
-few (x ∷ xs) = by_test (is_blank x) (few xs)
+few (x ∷ xs) = by_test (is_word_gap x) (few xs)
   where
-    by_test : (b : Bool) → length (filter is_filled (slice_split is_blank xs)) ≤ length xs
-        → length (filter is_filled (cond b ([] ∷ slice_split is_blank xs) (onto_first x (slice_split is_blank xs)))) ≤ suc (length xs)
+    by_test : (b : Bool) → length (filter is_filled (slice_split is_word_gap xs)) ≤ length xs
+        → length (filter is_filled (cond b ([] ∷ slice_split is_word_gap xs) (onto_first x (slice_split is_word_gap xs)))) ≤ suc (length xs)
     by_test true rest = omega (arith, rest)
-    by_test false rest = omega (arith, rest, filled_first x (slice_split is_blank xs))
+    by_test false rest = omega (arith, rest, filled_first x (slice_split is_word_gap xs))
 
 pub few_words : (xs : List ℕ) → length (words xs) < 1 + length xs
 few_words xs = omega (arith, few xs)

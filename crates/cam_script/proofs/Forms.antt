@@ -6,7 +6,7 @@ use Rattle.cam_refusals.specs.Limits.{line_limit}
 use Rattle.cam_script.specs.declared.line.Line.{Line}
 use Rattle.cam_script.specs.declared.line.LineFault.{LineFault}
 use Rattle.cam_script.specs.Words.{words}
-use Rattle.cam_script.specs.Parsing.{parsed, some_line, kept, line_in, is_no_memory}
+use Rattle.cam_script.specs.Parsing.{parsed, some_line, line_or_refusal, line_in, is_no_memory}
 use Rattle.cam_script.specs.Parsing.{load_line, window_line, redraw_line, plot_line, write_line}
 use Rattle.cam_script.specs.Parsing.{delete_change, move_change, reorder_change, aperture_change, polarity_change}
 use Rattle.cam_script.specs.Parsing.{tool_change, diameter_change, drop_change}
@@ -135,13 +135,13 @@ no_hit (a ∷ b ∷ c ∷ d ∷ more) h = refl
 -- a line that is not too long, of a first word that begins no comment and the words behind it
 module _ (line verb : List ℕ) (rest : List (List ℕ)) (short : length line ≤ line_limit)
     (words_are : words line ≡ verb ∷ rest) (no_comment : slice_index verb 0 ≢ 35) where
-  by_words : (no_memory : Bool) → parsed line no_memory ≡ some_line (kept (line_in verb rest) no_memory)
+  by_words : (no_memory : Bool) → parsed line no_memory ≡ some_line (line_or_refusal (line_in verb rest) no_memory)
   by_words no_memory = rw (le-ltb line_limit (length line) short, words_are, ne_eqb (slice_index verb 0) 35 no_comment) refl
 
-  pub line_read : (said : Line) → kept (line_in verb rest) false ≡ Ok said → parsed line false ≡ Ok (Some said)
+  pub line_read : (said : Line) → line_or_refusal (line_in verb rest) false ≡ Ok said → parsed line false ≡ Ok (Some said)
   line_read said e = by_words false ∙ ap some_line e
 
-  pub line_refused : (f : LineFault) → kept (line_in verb rest) (is_no_memory {T = Line} (Err f)) ≡ Err f
+  pub line_refused : (f : LineFault) → line_or_refusal (line_in verb rest) (is_no_memory {T = Line} (Err f)) ≡ Err f
       → parsed line (is_no_memory {T = Line} (Err f)) ≡ Err f
   line_refused f e = by_words (is_no_memory {T = Line} (Err f)) ∙ ap some_line e
 

@@ -21,7 +21,7 @@ use Rattle.cam_refusals.specs.Limits.{line_limit}
 use Rattle.cam_script.specs.declared.line.LineFault.TheVariants.{Memory}
 use Rattle.cam_script.specs.Words.{is_name, is_name_byte, words}
 use Rattle.cam_script.specs.Items.{item_in, region_of}
-use Rattle.cam_script.specs.Parsing.{parsed, said_by}
+use Rattle.cam_script.specs.Parsing.{parsed, line_said_by}
 use Rattle.cam_script.specs.Spelling.{IsSayable, IsSayableDrilling, WordsReadBack, drill_form, drill_item_text, drill_words, insertion, insertion_text, object_form, object_text, object_words, point_words, spaced}
 use Rattle.cam_script.proofs.Spelled.{both_hold, decimal_word, is_solid, is_word, words_spelled}
 use Rattle.cam_script.proofs.ReadBack.{
@@ -73,7 +73,7 @@ short_line n h = grind (arith, nat_tests)
 
 insertion_said : (name : List ℕ) (k : ℕ) (item : NewItem) (form : List ℕ) (rest : List (List ℕ)) (no_memory : Bool)
     → is_name name ≡ true → k < 2 ^ 32 → item_in form rest ≡ Some item
-    → said_by (codes "insert" ∷ name ∷ decimal k ∷ form ∷ rest) no_memory
+    → line_said_by (codes "insert" ∷ name ∷ decimal k ∷ form ∷ rest) no_memory
     ≡ (if no_memory then Err Memory else Ok (Some (insertion name k item)))
 insertion_said name k item form rest true named small read = rw (named, count_reads k small, read) refl
 insertion_said name k item form rest false named small read = rw (named, count_reads k small, read) refl
@@ -90,7 +90,7 @@ insertion_read name k item form rest no_memory named small form_word rest_words 
     (both_hold (is_word (decimal k)) (list_all is_word (form ∷ rest)) (decimal_word k (omega arith))
     (both_hold (is_word form) (list_all is_word rest) form_word rest_words))) in
     rw (short_line (length (insertion_text name k (form ++ spaced rest))) short)
-    (ap (λ ws. said_by ws no_memory) cut ∙ insertion_said name k item form rest no_memory named small read)
+    (ap (λ ws. line_said_by ws no_memory) cut ∙ insertion_said name k item form rest no_memory named small read)
 
 -- ---- objects
 

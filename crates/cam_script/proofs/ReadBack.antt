@@ -20,7 +20,7 @@ use Rattle.cam_shapes.specs.declared.segments.Seg.{Seg}
 use Rattle.cam_shapes.specs.declared.segments.Seg.TheVariants.{Line, Curve}
 use Rattle.cam_objects.specs.Soundness.{points_of_seg}
 use Rattle.cam_script.specs.Words.{count_in, length_in, numeral_to, tool_in}
-use Rattle.cam_script.specs.Items.{direction_in, is_line, point_in, points_in, polarity_in, segs_in, turn_in}
+use Rattle.cam_script.specs.Items.{direction_in, is_line, point_read, points_in, polarity_read, segs_in, turn_read}
 use Rattle.cam_script.specs.Spelling.{direction_word, point_words, polarity_word, seg_words, turn_word}
 use Rattle.cam_script.proofs.FirstSegments.{straight}
 use Rattle.cam_script.proofs.Spelled.{digits_of_decimal, filled_tells, is_word, signed_word}
@@ -60,7 +60,7 @@ length_reads (pos n) h =
     rw (f.0, f.1, numeral_reads 4000000000 n (omega (arith, h)) (omega (arith, h))) refl
 length_reads (negsuc n) h = rw (numeral_reads 4000000000 (suc n) (omega (arith, h)) (omega (arith, h))) refl
 
-pub turn_reads : (turn : Turn) → turn_in (turn_word turn) ≡ Some turn
+pub turn_reads : (turn : Turn) → turn_read (turn_word turn) ≡ Some turn
 turn_reads R0 = refl
 turn_reads R90 = refl
 turn_reads R180 = refl
@@ -80,7 +80,7 @@ turn_is_word M90 = refl
 turn_is_word M180 = refl
 turn_is_word M270 = refl
 
-pub polarity_reads : (dark : Bool) → polarity_in (polarity_word dark) ≡ Some dark
+pub polarity_reads : (dark : Bool) → polarity_read (polarity_word dark) ≡ Some dark
 polarity_reads true = refl
 polarity_reads false = refl
 
@@ -100,7 +100,7 @@ no_line : (ccw : Bool) → is_line (direction_word ccw) ≡ false
 no_line true = refl
 no_line false = refl
 
-pub point_reads : (p : Point) → IsOnBoard p → point_in (signed_decimal p.x) (signed_decimal p.y) ≡ Some p
+pub point_reads : (p : Point) → IsOnBoard p → point_read (signed_decimal p.x) (signed_decimal p.y) ≡ Some p
 point_reads p on = rw (length_reads p.x on.x, length_reads p.y on.y) refl
 
 pub x_is_word : (p : Point) → IsOnBoard p → is_word (signed_decimal p.x) ≡ true

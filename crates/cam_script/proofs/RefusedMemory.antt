@@ -11,7 +11,7 @@ use Rattle.cam_script.specs.declared.line.LineFault.TheVariants.{LineTooLong, Ba
 use Rattle.cam_script.specs.Commands.{changing}
 use Rattle.cam_script.specs.Words.{count_in, is_name}
 use Rattle.cam_script.specs.Items.{item_in}
-use Rattle.cam_script.specs.Parsing.{is_no_memory, insert_change, edit_line, kept, names_a_layer}
+use Rattle.cam_script.specs.Parsing.{is_no_memory, insert_change, edit_line, line_or_refusal, names_a_layer}
 use Rattle.cam_script.specs.Machinery.Reading.{unless_refused}
 
 -- a part was refused, and so is the whole
@@ -56,13 +56,13 @@ module _ (change : List (List ℕ) → Option Change) (words : List (List ℕ)) 
   edit_read = rw (cut, named) refl
 
   pub edit_refused : (fault : LineFault) → unless_refused (change rest) (is_no_memory {T = Change} (Err fault)) ≡ Err fault
-      → kept (edit_line change words) (is_no_memory {T = Line} (Err fault)) ≡ Err fault
+      → line_or_refusal (edit_line change words) (is_no_memory {T = Line} (Err fault)) ≡ Err fault
   unfolding edit_of
   edit_refused fault e = rw edit_read (by_change (change rest) fault e)
     where
       by_change : (read : Option Change) (fault : LineFault)
           → unless_refused read (is_no_memory {T = Change} (Err fault)) ≡ Err fault
-          → kept (edit_of read) (is_no_memory {T = Line} (Err fault)) ≡ Err fault
+          → line_or_refusal (edit_of read) (is_no_memory {T = Line} (Err fault)) ≡ Err fault
       by_change None LineTooLong e = cc
       by_change None BadLine e = refl
       by_change None Memory e = cc
@@ -71,10 +71,10 @@ module _ (change : List (List ℕ) → Option Change) (words : List (List ℕ)) 
       by_change (Some read) Memory e = rw (names_edited name read) refl
 
   pub edit_starved : (made : Change) → unless_refused (change rest) false ≡ Ok made
-      → kept (edit_line change words) true ≡ Err Memory
+      → line_or_refusal (edit_line change words) true ≡ Err Memory
   unfolding edit_of
   edit_starved made e = rw edit_read (by_change (change rest) e)
     where
-      by_change : (read : Option Change) → unless_refused read false ≡ Ok made → kept (edit_of read) true ≡ Err Memory
+      by_change : (read : Option Change) → unless_refused read false ≡ Ok made → line_or_refusal (edit_of read) true ≡ Err Memory
       by_change None e = cc
       by_change (Some read) e = rw (names_edited name read) refl

@@ -19,7 +19,7 @@ use Rattle.cam_objects.specs.declared.item.Item.TheVariants.{One}
 use Rattle.cam_objects.specs.declared.layer.Layer.{Layer}
 use Rattle.cam_objects.specs.declared.object.Object.{Object}
 use Rattle.cam_objects.specs.declared.object.Object.TheVariants.{Flash, Draw, Arc, Region}
-use Rattle.cam_script.specs.Spelling.{IsSayable, IsSayableDrilling, SoundItemsCanBeSaid, number_of}
+use Rattle.cam_script.specs.Spelling.{IsSayable, IsSayableDrilling, SoundItemsCanBeSaid, aperture_number}
 
 -- a number that is found is one of the list
 found_below : {X : Type 0} (n most : ℕ) (entries : List (ℕ × X)) → All (λ (e : ℕ × X). e.0 ≤ most) entries
@@ -48,7 +48,7 @@ module _ (l : Layer) (sound : IsSound l) where
   numbers_below : All (λ (e : ℕ × Entry). e.0 ≤ last_number) l.apertures
   numbers_below = λ k d lt. (sound.content.entries k d lt).greatest
 
-  known_below : (object : Object) → IsKnown l.apertures object → number_of object ≤ last_number
+  known_below : (object : Object) → IsKnown l.apertures object → aperture_number object ≤ last_number
   known_below (Flash n at turn dark) known = found_below n last_number l.apertures numbers_below known
   known_below (Draw n from to turn dark) known = found_below n last_number l.apertures numbers_below known
   known_below (Arc ccw dark n from to centre) known = found_below n last_number l.apertures numbers_below known

@@ -12,12 +12,12 @@ use Rattle.std.proofs.lemmas.List.Sums.{AllPass-from_list_all}
 use Rattle.std.proofs.lemmas.Bool.Decides.{nat_tests}
 use Rattle.std.proofs.lemmas.Fmt.{digits_decimal, decimal_nonempty}
 use Rattle.std.proofs.lemmas.Str.Parse.{IsNumeralModel, numerals_by_value, tells_all_ascii_digits}
-use Rattle.cam_script.specs.Words.{is_blank, is_filled, words}
+use Rattle.cam_script.specs.Words.{is_word_gap, is_filled, words}
 use Rattle.cam_script.specs.Spelling.{spaced}
 
 -- a byte of a word
 abbrev pub is_solid : ℕ → Bool
-is_solid b = not (is_blank b)
+is_solid b = not (is_word_gap b)
 
 -- a word: a byte or more, none of them blank
 abbrev pub is_word : List ℕ → Bool
@@ -34,7 +34,7 @@ no_blank : (b : Bool) → not b ≡ true → b ≡ false
 no_blank true e = cc
 no_blank false e = refl
 
-solid_all : (word : List ℕ) → list_all is_solid word ≡ true → All (λ b. is_blank b ≡ false) word
+solid_all : (word : List ℕ) → list_all is_solid word ≡ true → All (λ b. is_word_gap b ≡ false) word
 solid_all word e = λ k d lt. no_blank _ (AllPass-from_list_all is_solid word e k d lt)
 
 kept_word : (word : List ℕ) (more : List (List ℕ)) → is_filled word ≡ true → filter is_filled (word ∷ more) ≡ word ∷ filter is_filled more
@@ -45,12 +45,12 @@ pub words_spelled : (word : List ℕ) (more : List (List ℕ)) → is_word word 
     → words (word ++ spaced more) ≡ word ∷ more
 words_spelled word [] e all =
     let parts = both (is_filled word) (list_all is_solid word) e in
-    rw append-nil (ap (filter is_filled) (slice_split_none is_blank word (solid_all word parts.1)) ∙ kept_word word [] parts.0)
+    rw append-nil (ap (filter is_filled) (slice_split_none is_word_gap word (solid_all word parts.1)) ∙ kept_word word [] parts.0)
 words_spelled word (next ∷ more) e all =
     let parts = both (is_filled word) (list_all is_solid word) e in
     let rest = both (is_word next) (list_all is_word more) all in
-    ap (filter is_filled) (slice_split_at is_blank word 32 (next ++ spaced more) (solid_all word parts.1) refl)
-    ∙ kept_word word (slice_split is_blank (next ++ spaced more)) parts.0
+    ap (filter is_filled) (slice_split_at is_word_gap word 32 (next ++ spaced more) (solid_all word parts.1) refl)
+    ∙ kept_word word (slice_split is_word_gap (next ++ spaced more)) parts.0
     ∙ ap (λ ws. word ∷ ws) (words_spelled next more rest.0 rest.1)
 
 -- ---- numbers

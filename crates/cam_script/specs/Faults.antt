@@ -4,7 +4,7 @@ use Rattle.cam_refusals.specs.declared.refusal.Refusal.TheVariants as refusals
 use Rattle.cam_script.specs.declared.line.LineFault.{LineFault}
 use Rattle.cam_script.specs.declared.line.LineFault.TheVariants.{LineTooLong, BadLine, Memory}
 
-abbrev pub refusal_of : LineFault → Refusal
-refusal_of LineTooLong = refusals.LineTooLong
-refusal_of BadLine = refusals.BadLine
-refusal_of Memory = refusals.NoMemory
+abbrev pub line_refusal : LineFault → Refusal
+line_refusal LineTooLong = refusals.LineTooLong
+line_refusal BadLine = refusals.BadLine
+line_refusal Memory = refusals.NoMemory

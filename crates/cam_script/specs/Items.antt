@@ -20,15 +20,15 @@ abbrev pub reads : {T U : Type 0} → (List ℕ → Option T) → List ℕ → (
 reads value word follows = option_and_then follows (value word)
 
 -- X Y
-abbrev pub point_in : List ℕ → List ℕ → Option Point
-point_in x y = reads length_in x (λ x. reads length_in y (λ y. Some (record { x = x; y = y })))
+abbrev pub point_read : List ℕ → List ℕ → Option Point
+point_read x y = reads length_in x (λ x. reads length_in y (λ y. Some (record { x = x; y = y })))
 
 abbrev pub reads_point : {U : Type 0} → List ℕ → List ℕ → (Point → Option U) → Option U
-reads_point x y follows = option_and_then follows (point_in x y)
+reads_point x y follows = option_and_then follows (point_read x y)
 
 -- TURN: a mirror, as m, and quarter turns in degrees
-abbrev pub turn_in : List ℕ → Option Turn
-turn_in word =
+abbrev pub turn_read : List ℕ → Option Turn
+turn_read word =
     if bytes_eq word (codes "r0") then Some R0
     else if bytes_eq word (codes "r90") then Some R90
     else if bytes_eq word (codes "r180") then Some R180
@@ -40,8 +40,8 @@ turn_in word =
     else None
 
 -- POL: whether an object is dark
-abbrev pub polarity_in : List ℕ → Option Bool
-polarity_in word =
+abbrev pub polarity_read : List ℕ → Option Bool
+polarity_read word =
     if bytes_eq word (codes "dark") then Some true
     else if bytes_eq word (codes "clear") then Some false
     else None
@@ -56,7 +56,7 @@ direction_in word =
 -- N X Y TURN POL
 abbrev pub flash_in : List (List ℕ) → Option Object
 flash_in (n ∷ x ∷ y ∷ turn ∷ polarity ∷ []) =
-    reads count_in n (λ n. reads_point x y (λ at. reads turn_in turn (λ turn. reads polarity_in polarity (λ dark.
+    reads count_in n (λ n. reads_point x y (λ at. reads turn_read turn (λ turn. reads polarity_read polarity (λ dark.
     Some (Flash n at turn dark)))))
 flash_in _ = None
 
@@ -64,14 +64,14 @@ flash_in _ = None
 abbrev pub draw_in : List (List ℕ) → Option Object
 draw_in (n ∷ x1 ∷ y1 ∷ x2 ∷ y2 ∷ turn ∷ polarity ∷ []) =
     reads count_in n (λ n. reads_point x1 y1 (λ from. reads_point x2 y2 (λ to.
-    reads turn_in turn (λ turn. reads polarity_in polarity (λ dark. Some (Draw n from to turn dark))))))
+    reads turn_read turn (λ turn. reads polarity_read polarity (λ dark. Some (Draw n from to turn dark))))))
 draw_in _ = None
 
 -- N X1 Y1 X2 Y2 CX CY DIR POL
 abbrev pub arc_in : List (List ℕ) → Option Object
 arc_in (n ∷ x1 ∷ y1 ∷ x2 ∷ y2 ∷ cx ∷ cy ∷ direction ∷ polarity ∷ []) =
     reads count_in n (λ n. reads_point x1 y1 (λ from. reads_point x2 y2 (λ to. reads_point cx cy (λ centre.
-    reads direction_in direction (λ ccw. reads polarity_in polarity (λ dark. Some (Arc ccw dark n from to centre)))))))
+    reads direction_in direction (λ ccw. reads polarity_read polarity (λ dark. Some (Arc ccw dark n from to centre)))))))
 arc_in _ = None
 
 -- what stands first in a list, where both can be read
@@ -108,11 +108,11 @@ region_of dark start [] = None
 region_of dark start (seg ∷ segs) = Some (Region (record { start = start; segs = seg ∷ segs }) dark)
 
 -- POL X Y and segments
-abbrev pub region_in : List (List ℕ) → Option Object
-region_in (polarity ∷ x ∷ y ∷ segs) =
-    reads polarity_in polarity (λ dark. reads_point x y (λ start.
+abbrev pub region_read : List (List ℕ) → Option Object
+region_read (polarity ∷ x ∷ y ∷ segs) =
+    reads polarity_read polarity (λ dark. reads_point x y (λ start.
     option_and_then (λ segs. region_of dark start segs) (segs_in segs)))
-region_in _ = None
+region_read _ = None
 
 -- T X Y
 abbrev pub hit_in : List (List ℕ) → Option NewItem
@@ -123,7 +123,7 @@ hit_in _ = None
 abbrev pub points_in : List (List ℕ) → Option (List Point)
 points_in [] = Some []
 points_in (x ∷ []) = None
-points_in (x ∷ y ∷ more) = joined (point_in x y) (points_in more)
+points_in (x ∷ y ∷ more) = joined (point_read x y) (points_in more)
 
 -- a rout has a point
 abbrev pub rout_of : ℕ → List Point → Option NewItem
@@ -145,7 +145,7 @@ item_in form words =
     if bytes_eq form (codes "flash") then as_item (flash_in words)
     else if bytes_eq form (codes "draw") then as_item (draw_in words)
     else if bytes_eq form (codes "arc") then as_item (arc_in words)
-    else if bytes_eq form (codes "region") then as_item (region_in words)
+    else if bytes_eq form (codes "region") then as_item (region_read words)
     else if bytes_eq form (codes "hit") then hit_in words
     else if bytes_eq form (codes "rout") then rout_in words
     else None

@@ -17,7 +17,7 @@ use Rattle.cam_script.specs.declared.line.Line.TheVariants as lines
 use Rattle.cam_script.specs.declared.line.LineFault.{LineFault}
 use Rattle.cam_script.specs.declared.line.LineFault.TheVariants.{LineTooLong, BadLine, Memory}
 use Rattle.cam_script.specs.Commands.{changing}
-use Rattle.cam_script.specs.Items.{item_in, polarity_in, reads}
+use Rattle.cam_script.specs.Items.{item_in, polarity_read, reads}
 use Rattle.cam_script.specs.Words.{words, is_name, is_path, count_in, length_in, tool_in}
 
 -- the kind of file that a word names
@@ -90,7 +90,7 @@ aperture_change _ = None
 -- polarity .. K dark, or polarity .. K clear
 abbrev pub polarity_change : List (List ℕ) → Option Change
 polarity_change (k ∷ polarity ∷ []) =
-    reads count_in k (λ k. reads polarity_in polarity (λ dark. Some (changes.Polarity k dark)))
+    reads count_in k (λ k. reads polarity_read polarity (λ dark. Some (changes.Polarity k dark)))
 polarity_change _ = None
 
 -- tool .. K T
@@ -195,23 +195,23 @@ names_a_layer (lines.Command commands.ListAll) = false
 names_a_layer _ = true
 
 -- the line that was read; where it is one, its memory may be refused
-abbrev pub kept : Option Line → Bool → Result Line LineFault
-kept None no_memory = Err BadLine
-kept (Some line) no_memory = if no_memory && names_a_layer line then Err Memory else Ok line
+abbrev pub line_or_refusal : Option Line → Bool → Result Line LineFault
+line_or_refusal None no_memory = Err BadLine
+line_or_refusal (Some line) no_memory = if no_memory && names_a_layer line then Err Memory else Ok line
 
 abbrev pub some_line : Result Line LineFault → Parsed
 some_line (Ok line) = Ok (Some line)
 some_line (Err fault) = Err fault
 
 -- a line without a word is empty, and one whose first word begins with '#' is a comment
-abbrev pub said_by : List (List ℕ) → Bool → Parsed
-said_by [] no_memory = Ok None
-said_by (verb ∷ rest) no_memory =
-    if slice_index verb 0 == 35 then Ok None else some_line (kept (line_in verb rest) no_memory)
+abbrev pub line_said_by : List (List ℕ) → Bool → Parsed
+line_said_by [] no_memory = Ok None
+line_said_by (verb ∷ rest) no_memory =
+    if slice_index verb 0 == 35 then Ok None else some_line (line_or_refusal (line_in verb rest) no_memory)
 
 -- what a line says, or why it says nothing
 abbrev pub parsed : List ℕ → Bool → Parsed
-parsed line no_memory = if nat_lt line_limit (length line) then Err LineTooLong else said_by (words line) no_memory
+parsed line no_memory = if nat_lt line_limit (length line) then Err LineTooLong else line_said_by (words line) no_memory
 
 -- whether the answer tells that memory was refused
 abbrev pub is_no_memory : {T : Type 0} → Result T LineFault → Bool

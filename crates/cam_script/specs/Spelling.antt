@@ -105,14 +105,14 @@ item_words (new_items.Drill item) = Some (drill_item_text item)
 -- ---- the law
 
 -- what a line can say of an object: an aperture's number below 2^32, points of the board, and of a contour a segment
-abbrev pub number_of : Object → ℕ
-number_of (Flash n at turn dark) = n
-number_of (Draw n from to turn dark) = n
-number_of (Arc ccw dark n from to centre) = n
-number_of (Region contour dark) = 0
+abbrev pub aperture_number : Object → ℕ
+aperture_number (Flash n at turn dark) = n
+aperture_number (Draw n from to turn dark) = n
+aperture_number (Arc ccw dark n from to centre) = n
+aperture_number (Region contour dark) = 0
 
 pub record IsSayable (object : Object) : Type 0 where
-  pub number : number_of object < 2 ^ 32
+  pub number : aperture_number object < 2 ^ 32
   pub points : All IsOnBoard (points_of object)
   pub formed : IsTrue (is_formed object)
 

@@ -8,15 +8,15 @@ use Rattle.std.specs.Str.{all_ascii_digits}
 use Rattle.std.specs.Str.Parse.{digits_value, starts_with_minus, without_leading_sign}
 
 -- a space or a tab
-abbrev pub is_blank : ℕ → Bool
-is_blank b = (b == 32) || (b == 9)
+abbrev pub is_word_gap : ℕ → Bool
+is_word_gap b = (b == 32) || (b == 9)
 
 abbrev pub is_filled : List ℕ → Bool
 is_filled piece = nat_lt 0 (length piece)
 
 -- the pieces between spaces and tabs that are not empty
 abbrev pub words : List ℕ → List (List ℕ)
-words line = filter is_filled (slice_split is_blank line)
+words line = filter is_filled (slice_split is_word_gap line)
 
 -- a letter, a digit, '_', '-' or '.'
 abbrev pub is_name_byte : ℕ → Bool

@@ -10,7 +10,7 @@ ghost use Rattle.cam_script.specs.Parsing.{
   edit_line,
   insert_change,
   is_no_memory,
-  kept,
+  line_or_refusal,
   move_change,
   polarity_change,
   reorder_change,
@@ -195,7 +195,7 @@ fn change(alloc: Global, form: ChangeForm, words: &mut Words<'_>) -> Result<Chan
 
 /// The edit of a form and of the words behind it. All words are judged before the name takes memory.
 pub fn edit(alloc: Global, form: ChangeForm, words: &mut Words<'_>) -> Result<Line, LineFault>
-    ensures { kept (edit_line (change_by form) words.old) (is_no_memory result) ≡ result }
+    ensures { line_or_refusal (edit_line (change_by form) words.old) (is_no_memory result) ≡ result }
 {
     let Some(name) = words.next() else {
         return Err(LineFault::BadLine);

@@ -8,7 +8,7 @@ ghost use Rattle.cam_script.specs.Items.{
   flash_in,
   hit_in,
   item_in,
-  region_in,
+  region_read,
   rout_in,
 };
 ghost use Rattle.cam_script.specs.Parsing.{is_no_memory};
@@ -94,7 +94,7 @@ fn arc(words: &mut Words<'_>) -> Option<Object>
 
 /// The words behind `region`. Its segments are counted, and so judged, before memory is asked for.
 fn region(alloc: Global, words: &mut Words<'_>) -> Result<Object, LineFault>
-    ensures { unless_refused (region_in words.old) (is_no_memory result) ≡ result }
+    ensures { unless_refused (region_read words.old) (is_no_memory result) ≡ result }
 {
     let Some(tone) = words.next() else {
         return Err(LineFault::BadLine);
@@ -162,7 +162,7 @@ fn object_item(object: Option<Object>) -> Result<NewItem, LineFault>
 
 /// The item of a region.
 fn region_item(alloc: Global, words: &mut Words<'_>) -> Result<NewItem, LineFault>
-    ensures { unless_refused (as_item (region_in words.old)) (is_no_memory result) ≡ result }
+    ensures { unless_refused (as_item (region_read words.old)) (is_no_memory result) ≡ result }
 {
     let object = region(alloc, words)?;
     Ok(NewItem::Gerber(Item::One(object)))

@@ -3,6 +3,21 @@
 //! [`Lines`] cuts a script into its lines, and [`parse_line`] reads what a line says, as `specs/Parsing.antt` has it.
 //! [`push_object_words`] and [`push_drill_item_words`] write an item in the words of a line that inserts it
 //! (`specs/Spelling.antt`). [`parse_question`] reads a question, in a grammar of its own (`specs/Questions.antt`).
+//!
+//! ```rust
+//! use cam_script::{Command, Line, LineFault, parse_line};
+//!
+//! let Some(Line::Command(command)) = parse_line(alloc, b"move top 3 500000 -250000")? else {
+//!     return Err(Fail::new("it is a command"));
+//! };
+//! let Command::Move { name, k, dx, dy } = command else {
+//!     return Err(Fail::new("it moves an item"));
+//! };
+//! assert!(rt; name.as_str() == "top" && k == 3 && dx == 500_000 && dy == -250_000);
+//! // a comment says nothing, and other words are refused
+//! assert!(rt; parse_line(alloc, b"# a comment")?.is_none());
+//! assert!(rt; parse_line(alloc, b"move top").err() == Some(LineFault::BadLine));
+//! ```
 #![tactic(auto)]
 
 mod asking;

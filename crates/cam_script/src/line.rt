@@ -2,7 +2,7 @@
 
 ghost use Rattle.std.specs.Prelude.{◌≡◌};
 ghost use Rattle.cam_refusals.specs.Refusals.{number_of};
-ghost use Rattle.cam_script.specs.Faults.{refusal_of};
+ghost use Rattle.cam_script.specs.Faults.{line_refusal};
 
 use crate::command::{Command, FileKind};
 use crate::path::FilePath;
@@ -50,7 +50,7 @@ pub enum LineFault {
 impl LineFault {
     /// The refusal that it is told as.
     pub fn refusal(self) -> Refusal
-        ensures { result ≡ refusal_of self }
+        ensures { result ≡ line_refusal self }
     {
         match self {
             LineFault::LineTooLong => Refusal::LineTooLong,
@@ -61,7 +61,7 @@ impl LineFault {
 
     /// The number by which it is told: 81, 80 or 30.
     pub fn number(self) -> u8
-        ensures { result ≡ number_of (refusal_of self) }
+        ensures { result ≡ number_of (line_refusal self) }
     {
         self.refusal().number()
     }

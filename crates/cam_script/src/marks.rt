@@ -1,7 +1,7 @@
 //! Words that stand for one of a few values.
 
 ghost use Rattle.std.specs.Prelude.{◌≡◌};
-ghost use Rattle.cam_script.specs.Items.{direction_in, is_line, polarity_in, turn_in};
+ghost use Rattle.cam_script.specs.Items.{direction_in, is_line, polarity_read, turn_read};
 ghost use Rattle.cam_script.specs.Parsing.{kind_in};
 
 use crate::command::FileKind;
@@ -23,7 +23,7 @@ pub fn kind(word: &[u8]) -> Option<FileKind>
 
 /// The mirror and the quarter turns that a word names.
 pub fn turn(word: &[u8]) -> Option<Turn>
-    ensures { result ≡ turn_in word.now }
+    ensures { result ≡ turn_read word.now }
 {
     if is(word, b"r0") {
         return Some(Turn::R0);
@@ -54,7 +54,7 @@ pub fn turn(word: &[u8]) -> Option<Turn>
 
 /// Whether an object is dark.
 pub fn polarity(word: &[u8]) -> Option<bool>
-    ensures { result ≡ polarity_in word.now }
+    ensures { result ≡ polarity_read word.now }
 {
     if is(word, b"dark") {
         return Some(true);

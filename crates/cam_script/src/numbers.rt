@@ -1,7 +1,7 @@
 //! The numbers that words write.
 
 ghost use Rattle.std.specs.Prelude.{◌≡◌};
-ghost use Rattle.cam_script.specs.Items.{point_in};
+ghost use Rattle.cam_script.specs.Items.{point_read};
 ghost use Rattle.cam_script.specs.Words.{numeral_to, count_in, length_in, tool_in};
 
 use crate::pieces::{behind_first, first_byte};
@@ -71,7 +71,7 @@ pub fn tool(word: &[u8]) -> Option<u16>
 
 /// A point of two lengths.
 pub fn point(words: (&[u8], &[u8])) -> Option<Point>
-    ensures { result ≡ point_in words.entry.0.now words.entry.1.now }
+    ensures { result ≡ point_read words.entry.0.now words.entry.1.now }
 {
     let x = length(words.0)?;
     let y = length(words.1)?;

@@ -5,7 +5,7 @@ ghost use Rattle.cam_script.specs.Parsing.{
   bare_command,
   bare_line,
   is_no_memory,
-  kept,
+  line_or_refusal,
   line_in,
   list_line,
   load_line,
@@ -31,7 +31,7 @@ use std::alloc::Global;
 /// The words behind `load`.
 #[tactic(auto, using(crate::proofs::Forms::no_load))]
 fn load(alloc: Global, words: &mut Words<'_>) -> Result<Line, LineFault>
-    ensures { kept (load_line words.old) (is_no_memory result) ≡ result }
+    ensures { line_or_refusal (load_line words.old) (is_no_memory result) ≡ result }
 {
     let Some((name, kind_word, path)) = words.three() else {
         return Err(LineFault::BadLine);
@@ -83,7 +83,7 @@ fn redraw(words: &mut Words<'_>) -> Option<Line>
 /// The words behind `plot`.
 #[tactic(auto, using(crate::proofs::Forms::no_plot))]
 fn plot(alloc: Global, words: &mut Words<'_>) -> Result<Line, LineFault>
-    ensures { kept (plot_line words.old) (is_no_memory result) ≡ result }
+    ensures { line_or_refusal (plot_line words.old) (is_no_memory result) ≡ result }
 {
     let Some((name, path)) = words.two() else {
         return Err(LineFault::BadLine);
@@ -102,7 +102,7 @@ fn plot(alloc: Global, words: &mut Words<'_>) -> Result<Line, LineFault>
 /// The words behind `write`.
 #[tactic(auto, using(crate::proofs::Forms::no_write))]
 fn write(alloc: Global, words: &mut Words<'_>) -> Result<Line, LineFault>
-    ensures { kept (write_line words.old) (is_no_memory result) ≡ result }
+    ensures { line_or_refusal (write_line words.old) (is_no_memory result) ≡ result }
 {
     let Some((name, path)) = words.two() else {
         return Err(LineFault::BadLine);
@@ -120,7 +120,7 @@ fn write(alloc: Global, words: &mut Words<'_>) -> Result<Line, LineFault>
 
 /// The words behind `list`.
 fn list(alloc: Global, words: &mut Words<'_>) -> Result<Line, LineFault>
-    ensures { kept (list_line words.old) (is_no_memory result) ≡ result }
+    ensures { line_or_refusal (list_line words.old) (is_no_memory result) ≡ result }
 {
     let Some(name) = words.next() else {
         return Ok(Line::Command(Command::ListAll));
@@ -169,14 +169,14 @@ fn bare(verb: &[u8], words: &mut Words<'_>) -> Option<Line>
 
 /// A line that takes no memory.
 fn plain(line: Option<Line>) -> Result<Line, LineFault>
-    ensures { result ≡ kept line false }
+    ensures { result ≡ line_or_refusal line false }
 {
     line.ok_or(LineFault::BadLine)
 }
 
 /// The line of a first word that names no edit, and of those behind it.
 fn other(alloc: Global, verb: &[u8], words: &mut Words<'_>) -> Result<Line, LineFault>
-    ensures { kept (other_line verb.now words.old) (is_no_memory result) ≡ result }
+    ensures { line_or_refusal (other_line verb.now words.old) (is_no_memory result) ≡ result }
 {
     if is(verb, b"load") {
         return load(alloc, words);
@@ -201,7 +201,7 @@ fn other(alloc: Global, verb: &[u8], words: &mut Words<'_>) -> Result<Line, Line
 
 /// The line of a first word and those behind it.
 fn line_of(alloc: Global, verb: &[u8], words: &mut Words<'_>) -> Result<Line, LineFault>
-    ensures { kept (line_in verb.now words.old) (is_no_memory result) ≡ result }
+    ensures { line_or_refusal (line_in verb.now words.old) (is_no_memory result) ≡ result }
 {
     match change_form(verb) {
         Some(form) => edit(alloc, form, words),

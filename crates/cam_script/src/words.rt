@@ -2,21 +2,21 @@
 
 ghost use Rattle.std.specs.Prelude.{◌≡◌, ◌≢◌, ◌^◌, nat_lt, ◌<◌, ◌≤◌, ◌∷◌, [], ◌++◌};
 ghost use Rattle.std.specs.Prelude.{IfNone, IfSome, filter, length, position};
-ghost use Rattle.cam_script.specs.Words.{is_blank, is_filled, words};
+ghost use Rattle.cam_script.specs.Words.{is_word_gap, is_filled, words};
 
 use crate::pieces::{before, behind};
 use std::marker::Model;
 
-fn is_blank(byte: u8) -> bool
-    ensures { result ≡ is_blank byte }
+fn is_word_gap(byte: u8) -> bool
+    ensures { result ≡ is_word_gap byte }
 {
     byte == b' ' || byte == b'\t'
 }
 
 fn piece_end(bytes: &[u8]) -> Option<usize>
-    ensures { result ≡ position is_blank bytes.now }
+    ensures { result ≡ position is_word_gap bytes.now }
 {
-    bytes.iter().position(|b| is_blank(*b))
+    bytes.iter().position(|b| is_word_gap(*b))
 }
 
 /// The bytes before the first space or tab, and those behind it.
@@ -96,7 +96,7 @@ impl<'a> Words<'a> {
         Some((first, second))
     }
 
-    /// The same words, to be read once more.
+    /// These words, to be read once more.
     #[tactic(auto, using(crate::proofs::Cutting::few_words))]
     pub fn again(&self) -> Words<'a>
         ensures same { result ≡ self.now }

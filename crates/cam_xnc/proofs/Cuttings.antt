@@ -7,7 +7,7 @@ use Rattle.std.proofs.lemmas.List.{take-append-drop, drop-drop, length-take-le, 
 use Rattle.std.proofs.lemmas.Bool.Decides.{eqb_tells}
 use Rattle.cam_xnc.specs.Bytes.{is_line_end}
 use Rattle.cam_xnc.specs.Lines.{LineEnd, LineFeed, CarriageReturn, ReturnAndFeed, InputEnd, TextLine, bytes_of_end}
-use Rattle.cam_xnc.specs.Lines.{bytes_of, IsLine, BeginsWithFeed, IsEndedBefore, AreEnded, IsCutting, OneCutting}
+use Rattle.cam_xnc.specs.Lines.{line_bytes, IsLine, BeginsWithFeed, IsEndedBefore, AreEnded, IsLineCutting, OneCutting}
 use Rattle.cam_xnc.specs.Lines.{onto_line, empty_line, return_before, cut, found_at}
 use Rattle.cam_xnc.specs.Machinery.Cutters.{end_len}
 
@@ -83,46 +83,46 @@ last_text (byte ∷ next ∷ text) all h = elim (front byte) [
 -- the lines of a cutting are found again
 cut_line : (text : List ℕ) (ending : LineEnd) (lines : List TextLine) → AllByRecursion (λ byte. is_line_end byte ≡ false) text
     → IsEndedBefore (record { text = text; ending = ending }) lines ending
-    → cut (flat_map bytes_of lines) ≡ lines → cut ((text ++ bytes_of_end ending) ++ flat_map bytes_of lines)
+    → cut (flat_map line_bytes lines) ≡ lines → cut ((text ++ bytes_of_end ending) ++ flat_map line_bytes lines)
     ≡ record { text = text; ending = ending } ∷ lines
 cut_line text LineFeed lines all here more =
-    ap cut (append_assoc text (10 ∷ []) (flat_map bytes_of lines))
-    ∙ onto_text text (10 ∷ flat_map bytes_of lines) LineFeed lines all
-    (cut-feed (flat_map bytes_of lines) ∙ ap (λ (ls : List TextLine). empty_line LineFeed ∷ ls) more)
+    ap cut (append_assoc text (10 ∷ []) (flat_map line_bytes lines))
+    ∙ onto_text text (10 ∷ flat_map line_bytes lines) LineFeed lines all
+    (cut-feed (flat_map line_bytes lines) ∙ ap (λ (ls : List TextLine). empty_line LineFeed ∷ ls) more)
 cut_line text CarriageReturn lines all here more =
-    ap cut (append_assoc text (13 ∷ []) (flat_map bytes_of lines))
-    ∙ onto_text text (13 ∷ flat_map bytes_of lines) CarriageReturn lines all
-    (cut-return (flat_map bytes_of lines) ∙ ap return_before more ∙ return_alone lines here)
+    ap cut (append_assoc text (13 ∷ []) (flat_map line_bytes lines))
+    ∙ onto_text text (13 ∷ flat_map line_bytes lines) CarriageReturn lines all
+    (cut-return (flat_map line_bytes lines) ∙ ap return_before more ∙ return_alone lines here)
 cut_line text ReturnAndFeed lines all here more =
-    ap cut (append_assoc text (13 ∷ 10 ∷ []) (flat_map bytes_of lines))
-    ∙ onto_text text (13 ∷ 10 ∷ flat_map bytes_of lines) ReturnAndFeed lines all
-    (cut-return (10 ∷ flat_map bytes_of lines) ∙ ap return_before (cut-feed (flat_map bytes_of lines))
+    ap cut (append_assoc text (13 ∷ 10 ∷ []) (flat_map line_bytes lines))
+    ∙ onto_text text (13 ∷ 10 ∷ flat_map line_bytes lines) ReturnAndFeed lines all
+    (cut-return (10 ∷ flat_map line_bytes lines) ∙ ap return_before (cut-feed (flat_map line_bytes lines))
     ∙ ap (λ (ls : List TextLine). empty_line ReturnAndFeed ∷ ls) more)
 cut_line text InputEnd lines all here more =
-    let none : flat_map bytes_of lines ≡ [] = ap (flat_map bytes_of) here.1 in
-    ap cut (append_assoc text [] (flat_map bytes_of lines) ∙ ap (λ (bytes : List ℕ). text ++ bytes) none ∙ append-nil text)
+    let none : flat_map line_bytes lines ≡ [] = ap (flat_map line_bytes) here.1 in
+    ap cut (append_assoc text [] (flat_map line_bytes lines) ∙ ap (λ (bytes : List ℕ). text ++ bytes) none ∙ append-nil text)
     ∙ last_text text all here.0 ∙ ap (λ (ls : List TextLine). record { text = text; ending = InputEnd } ∷ ls) (sym here.1)
 
-cut_again : (lines : List TextLine) → AllByRecursion IsLine lines → AreEnded lines → cut (flat_map bytes_of lines) ≡ lines
+cut_again : (lines : List TextLine) → AllByRecursion IsLine lines → AreEnded lines → cut (flat_map line_bytes lines) ≡ lines
 cut_again [] each ended = cut-nil
 cut_again (first ∷ lines) each ended = cut_line first.text first.ending lines each.0 ended.0 (cut_again lines each.1 ended.1)
 
 -- a byte before a cutting
-feed_before : (text : List ℕ) (lines : List TextLine) → IsCutting text lines → IsCutting (10 ∷ text) (empty_line LineFeed ∷ lines)
+feed_before : (text : List ℕ) (lines : List TextLine) → IsLineCutting text lines → IsLineCutting (10 ∷ text) (empty_line LineFeed ∷ lines)
 feed_before text lines is = record { joined = ap (λ (bytes : List ℕ). 10 ∷ bytes) is.joined; each = (tt, is.each); ended = (tt, is.ended) }
 
-alone : (text : List ℕ) (lines : List TextLine) → ¬ BeginsWithFeed lines → IsCutting text lines
-    → IsCutting (13 ∷ text) (return_before lines)
+alone : (text : List ℕ) (lines : List TextLine) → ¬ BeginsWithFeed lines → IsLineCutting text lines
+    → IsLineCutting (13 ∷ text) (return_before lines)
 alone text lines never is =
-    subst (IsCutting (13 ∷ text)) (sym (return_alone lines never))
+    subst (IsLineCutting (13 ∷ text)) (sym (return_alone lines never))
     (record { joined = ap (λ (bytes : List ℕ). 13 ∷ bytes) is.joined; each = (tt, is.each); ended = (never, is.ended) })
 
-return_onto_cutting : (text : List ℕ) (lines : List TextLine) → IsCutting text lines → IsCutting (13 ∷ text) (return_before lines)
+return_onto_cutting : (text : List ℕ) (lines : List TextLine) → IsLineCutting text lines → IsLineCutting (13 ∷ text) (return_before lines)
 return_onto_cutting text [] is = alone text [] (λ never. never) is
 return_onto_cutting text (first ∷ lines) is = go first.text first.ending is
   where
-    go : (front : List ℕ) (ending : LineEnd) → IsCutting text (record { text = front; ending = ending } ∷ lines)
-        → IsCutting (13 ∷ text) (return_before (record { text = front; ending = ending } ∷ lines))
+    go : (front : List ℕ) (ending : LineEnd) → IsLineCutting text (record { text = front; ending = ending } ∷ lines)
+        → IsLineCutting (13 ∷ text) (return_before (record { text = front; ending = ending } ∷ lines))
     go [] LineFeed is = record { joined = ap (λ (bytes : List ℕ). 13 ∷ bytes) is.joined; each = (tt, is.each.1); ended = (tt, is.ended.1) }
     go [] CarriageReturn is = alone text _ (λ never. absurd (let wrong : CarriageReturn ≡ LineFeed = never.1 in cc)) is
     go [] ReturnAndFeed is = alone text _ (λ never. absurd (let wrong : ReturnAndFeed ≡ LineFeed = never.1 in cc)) is
@@ -132,14 +132,14 @@ return_onto_cutting text (first ∷ lines) is = go first.text first.ending is
 no_end : (byte : ℕ) → eqb byte 10 ≡ false → eqb byte 13 ≡ false → is_line_end byte ≡ false
 no_end byte h k = rw (h, k) refl
 
-onto_cutting : (byte : ℕ) (text : List ℕ) (lines : List TextLine) → is_line_end byte ≡ false → IsCutting text lines
-    → IsCutting (byte ∷ text) (onto_line byte lines)
+onto_cutting : (byte : ℕ) (text : List ℕ) (lines : List TextLine) → is_line_end byte ≡ false → IsLineCutting text lines
+    → IsLineCutting (byte ∷ text) (onto_line byte lines)
 onto_cutting byte text [] h is =
     record { joined = ap (λ (bytes : List ℕ). byte ∷ bytes) is.joined; each = ((h, tt), tt); ended = ((omega arith, refl), tt) }
 onto_cutting byte text (first ∷ lines) h is = go first.text first.ending is
   where
-    go : (front : List ℕ) (ending : LineEnd) → IsCutting text (record { text = front; ending = ending } ∷ lines)
-        → IsCutting (byte ∷ text) (record { text = byte ∷ front; ending = ending } ∷ lines)
+    go : (front : List ℕ) (ending : LineEnd) → IsLineCutting text (record { text = front; ending = ending } ∷ lines)
+        → IsLineCutting (byte ∷ text) (record { text = byte ∷ front; ending = ending } ∷ lines)
     go front LineFeed is =
         record { joined = ap (λ (bytes : List ℕ). byte ∷ bytes) is.joined; each = ((h, is.each.0), is.each.1); ended = (tt, is.ended.1) }
     go front CarriageReturn is =
@@ -154,14 +154,14 @@ onto_cutting byte text (first ∷ lines) h is = go first.text first.ending is
               ((omega arith, is.ended.0.1), is.ended.1);
         }
 
-pub cut_is_cutting : (text : List ℕ) → IsCutting text (cut text)
-cut_is_cutting [] = subst (IsCutting []) (sym cut-nil) (record { joined = refl; each = tt; ended = tt })
+pub cut_is_cutting : (text : List ℕ) → IsLineCutting text (cut text)
+cut_is_cutting [] = subst (IsLineCutting []) (sym cut-nil) (record { joined = refl; each = tt; ended = tt })
 cut_is_cutting (byte ∷ text) = elim (front byte) [
-  | IsFeed h ↦ subst (λ (b : ℕ). IsCutting (b ∷ text) (cut (b ∷ text))) (sym h)
-      (subst (IsCutting (10 ∷ text)) (sym (cut-feed text)) (feed_before text (cut text) (cut_is_cutting text)))
-  | IsReturn h ↦ subst (λ (b : ℕ). IsCutting (b ∷ text) (cut (b ∷ text))) (sym h)
-      (subst (IsCutting (13 ∷ text)) (sym (cut-return text)) (return_onto_cutting text (cut text) (cut_is_cutting text)))
-  | IsOther h k ↦ subst (IsCutting (byte ∷ text)) (sym (cut-other byte text h k))
+  | IsFeed h ↦ subst (λ (b : ℕ). IsLineCutting (b ∷ text) (cut (b ∷ text))) (sym h)
+      (subst (IsLineCutting (10 ∷ text)) (sym (cut-feed text)) (feed_before text (cut text) (cut_is_cutting text)))
+  | IsReturn h ↦ subst (λ (b : ℕ). IsLineCutting (b ∷ text) (cut (b ∷ text))) (sym h)
+      (subst (IsLineCutting (13 ∷ text)) (sym (cut-return text)) (return_onto_cutting text (cut text) (cut_is_cutting text)))
+  | IsOther h k ↦ subst (IsLineCutting (byte ∷ text)) (sym (cut-other byte text h k))
       (onto_cutting byte text (cut text) (no_end byte h k) (cut_is_cutting text))
 ]
 
@@ -189,12 +189,12 @@ front_of (byte ∷ text) =
       | false ↦ λ e. subst (IsFront (byte ∷ text)) one (record { lacks = (e, more.lacks); ends = more.ends })
     ]) refl
 
-feed_first : (lines : List TextLine) → BeginsWithFeed lines → (rest : List ℕ) × (flat_map bytes_of lines ≡ 10 ∷ rest)
+feed_first : (lines : List TextLine) → BeginsWithFeed lines → (rest : List ℕ) × (flat_map line_bytes lines ≡ 10 ∷ rest)
 feed_first [] h = absurd h
 feed_first (first ∷ lines) h = (
-  flat_map bytes_of lines,
-  ap (λ (text : List ℕ). (text ++ bytes_of_end first.ending) ++ flat_map bytes_of lines) h.0
-      ∙ ap (λ (ending : LineEnd). bytes_of_end ending ++ flat_map bytes_of lines) h.1,
+  flat_map line_bytes lines,
+  ap (λ (text : List ℕ). (text ++ bytes_of_end first.ending) ++ flat_map line_bytes lines) h.0
+      ∙ ap (λ (ending : LineEnd). bytes_of_end ending ++ flat_map line_bytes lines) h.1,
 )
 
 no_feed : (byte : ℕ) (text : List ℕ) → eqb byte 10 ≡ false → ¬ BeginsWithFeed (cut (byte ∷ text))

@@ -6,22 +6,22 @@ use Rattle.std.specs.List.{flat_map, prefix_len, position_or_len}
 use Rattle.std.proofs.lemmas.Bool.{not-true}
 use Rattle.cam_refusals.specs.FileFaults.{AscendFrom}
 use Rattle.cam_refusals.proofs.FileFaults.{ascend_lower}
-use Rattle.cam_xnc.specs.Bytes.{is_skipped, is_semicolon, is_blank, code_of}
-use Rattle.cam_xnc.specs.DrillState.{Past}
-use Rattle.cam_xnc.specs.Lines.{TextLine, bytes_of, bytes_of_end, FoundLine, cut, found_at}
-use Rattle.cam_xnc.specs.Reading.{is_told, is_end, place_of, places_from, places_of, said, through_end}
+use Rattle.cam_xnc.specs.Bytes.{is_line_blank, is_semicolon, is_blank, code_of}
+use Rattle.cam_xnc.specs.DrillState.{DrillPast}
+use Rattle.cam_xnc.specs.Lines.{TextLine, line_bytes, bytes_of_end, FoundLine, cut, found_at}
+use Rattle.cam_xnc.specs.Reading.{is_told, is_last_line, line_place, drill_places_from, places_of, line_said, through_end}
 use Rattle.cam_xnc.proofs.Cuttings.{cut_is_cutting}
 
-unskipped : (code : List ℕ) → is_blank code ≡ false → prefix_len is_skipped code < length code
+unskipped : (code : List ℕ) → is_blank code ≡ false → prefix_len is_line_blank code < length code
 unskipped [] h = absurd cc
 unskipped (byte ∷ code) h =
-    elim (is_skipped byte) as (λ b. (b && is_blank code) ≡ false → cond b (1 + prefix_len is_skipped code) 0 < suc (length code)) [
+    elim (is_line_blank byte) as (λ b. (b && is_blank code) ≡ false → cond b (1 + prefix_len is_line_blank code) 0 < suc (length code)) [
       | true ↦ λ k. omega (arith, unskipped code k)
       | false ↦ λ k. omega arith
     ] h
 
 -- a line that is told has a byte at its place
-in_line : (line : FoundLine) → is_told line ≡ true → place_of line < line.at + length line.text
+in_line : (line : FoundLine) → is_told line ≡ true → line_place line < line.at + length line.text
 in_line line h =
     omega (
       arith,
@@ -30,31 +30,31 @@ in_line line h =
     )
 
 -- behind M30 stands no place
-through : (low len : ℕ) (past : Past) (lines : List FoundLine) (ends : Bool) → AscendFrom low (places_from len past lines)
-    → AscendFrom low (cond ends [] (places_from len past (cond ends [] lines)))
+through : (low len : ℕ) (past : DrillPast) (lines : List FoundLine) (ends : Bool) → AscendFrom low (drill_places_from len past lines)
+    → AscendFrom low (cond ends [] (drill_places_from len past (cond ends [] lines)))
 through low len past lines true up = tt
 through low len past lines false up = up
 
-ascend : (lines : List TextLine) (at len : ℕ) (past : Past) → at + length (flat_map bytes_of lines) ≤ len
-    → AscendFrom at (places_from len past (through_end (filter is_told (found_at at lines))))
+ascend : (lines : List TextLine) (at len : ℕ) (past : DrillPast) → at + length (flat_map line_bytes lines) ≤ len
+    → AscendFrom at (drill_places_from len past (through_end (filter is_told (found_at at lines))))
 ascend [] at len past fits = (omega arith, tt)
 ascend (line ∷ lines) at len past fits =
     let here : FoundLine = record { text = line.text; at = at } in
-    let next : ℕ = at + length (bytes_of line) in
+    let next : ℕ = at + length (line_bytes line) in
     let rest : List FoundLine = filter is_told (found_at next lines) in
     let size = length-append line.text (bytes_of_end line.ending) in
-    let whole = length-append (bytes_of line) (flat_map bytes_of lines) in
-    (elim (is_told here) as (λ b. is_told here ≡ b → AscendFrom at (places_from len past (through_end (cond b (here ∷ rest) rest)))) [
+    let whole = length-append (line_bytes line) (flat_map line_bytes lines) in
+    (elim (is_told here) as (λ b. is_told here ≡ b → AscendFrom at (drill_places_from len past (through_end (cond b (here ∷ rest) rest)))) [
       | true ↦ λ told. let inside = in_line here told in (
         omega arith,
-        through (place_of here + 1) len (said here ∷ past) (through_end rest) (is_end here)
-            (ascend_lower (place_of here + 1) next _ (omega (arith, inside, size))
-            (ascend lines next len (said here ∷ past) (omega (arith, fits, whole)))),
+        through (line_place here + 1) len (line_said here ∷ past) (through_end rest) (is_last_line here)
+            (ascend_lower (line_place here + 1) next _ (omega (arith, inside, size))
+            (ascend lines next len (line_said here ∷ past) (omega (arith, fits, whole)))),
       )
       | false ↦ λ told. ascend_lower at next _ (omega arith) (ascend lines next len past (omega (arith, fits, whole)))
     ]) refl
 
 pub places_ascend : (bytes : List ℕ) → AscendFrom 0 (places_of bytes)
 places_ascend bytes =
-    let size : length bytes ≡ length (flat_map bytes_of (cut bytes)) = ap length (cut_is_cutting bytes).joined in
+    let size : length bytes ≡ length (flat_map line_bytes (cut bytes)) = ap length (cut_is_cutting bytes).joined in
     ascend (cut bytes) 0 (length bytes) [] (omega (arith, size))

@@ -7,32 +7,32 @@ use Rattle.std.specs.List.{list_any, prefix_len}
 use Rattle.cam_refusals.specs.declared.read_fault.ReadFault.{ReadFault}
 use Rattle.cam_refusals.specs.declared.refusal.Refusal.{Refusal}
 use Rattle.cam_refusals.specs.declared.refusal.Refusal.TheVariants.{BadByte}
-use Rattle.cam_refusals.specs.Checks.{first}
-use Rattle.cam_refusals.specs.FileFaults.{told}
+use Rattle.cam_refusals.specs.Checks.{first_holding}
+use Rattle.cam_refusals.specs.FileFaults.{first_told}
 use Rattle.cam_objects.specs.Contents.{DrillContent, drill_content_of}
 use Rattle.cam_xnc.specs.declared.state.DrillState.{DrillState}
 use Rattle.cam_xnc.specs.declared.statement.Statement.{Statement}
-use Rattle.cam_xnc.specs.Bytes.{is_skipped, is_bad, is_blank, code_of, packed}
+use Rattle.cam_xnc.specs.Bytes.{is_line_blank, is_bad, is_blank, code_of, line_packed}
 use Rattle.cam_xnc.specs.Syntax.{statement_of}
 use Rattle.cam_xnc.specs.Lines.{FoundLine, lines_of}
-use Rattle.cam_xnc.specs.DrillState.{Past, layer_in}
+use Rattle.cam_xnc.specs.DrillState.{DrillPast, drill_layer_in}
 use Rattle.cam_xnc.specs.Faults.{checks}
-use Rattle.cam_xnc.specs.Reading.{is_told, place_of, said, is_end, is_end_statement, through_end, line_checks, places_from}
-use Rattle.cam_xnc.specs.Reading.{past_from, layer_unless, reading_from, reading_of}
+use Rattle.cam_xnc.specs.Reading.{is_told, line_place, line_said, is_last_line, is_end_statement, through_end, line_checks, drill_places_from}
+use Rattle.cam_xnc.specs.Reading.{drill_past_from, drill_layer_unless, reading_from, drill_reading_of}
 use Rattle.cam_xnc.specs.Machinery.Tracking.{Tracks}
 use Rattle.cam_xnc.proofs.OrderedChecks.{first_of_line}
 
 -- what the lines still to come lead to, after a past without a fault
-abbrev pub goes_on : ℕ → Past → List FoundLine → Result DrillContent ReadFault
+abbrev pub goes_on : ℕ → DrillPast → List FoundLine → Result DrillContent ReadFault
 goes_on len past lines = reading_from len past (through_end (filter is_told lines))
 
 -- a file is read from its first line on
-pub reading_goes_on : (bytes : List ℕ) → reading_of bytes ≡ goes_on (length bytes) [] (lines_of bytes)
-unfolding reading_of
+pub reading_goes_on : (bytes : List ℕ) → drill_reading_of bytes ≡ goes_on (length bytes) [] (lines_of bytes)
+unfolding drill_reading_of
 reading_goes_on bytes = refl
 
 -- past a blank line
-pub goes_over : (len : ℕ) (past : Past) (line : FoundLine) (lines : List FoundLine) → is_told line ≡ false
+pub goes_over : (len : ℕ) (past : DrillPast) (line : FoundLine) (lines : List FoundLine) → is_told line ≡ false
     → goes_on len past (line ∷ lines) ≡ goes_on len past lines
 goes_over len past line lines h = rw h refl
 
@@ -42,57 +42,57 @@ unless_refused at None answer = answer
 unless_refused at (Some refusal) answer = Err (record { code = refusal; at = at })
 
 -- what a line leads to that says something
-abbrev pub leads_to : ℕ → Past → ℕ → Bool → Statement → List FoundLine → Result DrillContent ReadFault
+abbrev pub leads_to : ℕ → DrillPast → ℕ → Bool → Statement → List FoundLine → Result DrillContent ReadFault
 leads_to len past at bad says lines =
-    unless_refused at (if bad then Some BadByte else first (checks past says))
-    (if is_end_statement says then Ok (layer_in (says ∷ past)) else goes_on len (says ∷ past) lines)
+    unless_refused at (if bad then Some BadByte else first_holding (checks past says))
+    (if is_end_statement says then Ok (drill_layer_in (says ∷ past)) else goes_on len (says ∷ past) lines)
 
 -- the same, by what is told at its place
-abbrev told_then : ℕ → Past → ℕ → Option Refusal → Bool → List FoundLine → Result DrillContent ReadFault
+abbrev told_then : ℕ → DrillPast → ℕ → Option Refusal → Bool → List FoundLine → Result DrillContent ReadFault
 told_then len past at o ends lines =
-    layer_unless
-    (option_or (option_map (λ refusal. record { code = refusal; at = at }) o) (told (cond ends [] (places_from len past (cond ends [] lines)))))
-    (layer_in (past_from past (cond ends [] lines)))
+    drill_layer_unless
+    (option_or (option_map (λ refusal. record { code = refusal; at = at }) o) (first_told (cond ends [] (drill_places_from len past (cond ends [] lines)))))
+    (drill_layer_in (drill_past_from past (cond ends [] lines)))
 
-by_told : (len : ℕ) (past : Past) (at : ℕ) (o : Option Refusal) (ends : Bool) (lines : List FoundLine)
-    → told_then len past at o ends lines ≡ unless_refused at o (cond ends (Ok (layer_in past)) (reading_from len past lines))
+by_told : (len : ℕ) (past : DrillPast) (at : ℕ) (o : Option Refusal) (ends : Bool) (lines : List FoundLine)
+    → told_then len past at o ends lines ≡ unless_refused at o (cond ends (Ok (drill_layer_in past)) (reading_from len past lines))
 by_told len past at (Some refusal) ends lines = refl
 by_told len past at None true lines = refl
 by_told len past at None false lines = refl
 
-pub goes_by : (len : ℕ) (past : Past) (line : FoundLine) (lines : List FoundLine) → is_told line ≡ true
-    → goes_on len past (line ∷ lines) ≡ leads_to len past (place_of line) (list_any is_bad (code_of line.text)) (said line) lines
+pub goes_by : (len : ℕ) (past : DrillPast) (line : FoundLine) (lines : List FoundLine) → is_told line ≡ true
+    → goes_on len past (line ∷ lines) ≡ leads_to len past (line_place line) (list_any is_bad (code_of line.text)) (line_said line) lines
 goes_by len past line lines h =
     let rest = filter is_told lines in
     ap (λ (b : Bool). reading_from len past (through_end (cond b (line ∷ rest) rest))) h
-    ∙ ap (λ (o : Option Refusal). told_then len (said line ∷ past) (place_of line) o (is_end line) (through_end rest))
+    ∙ ap (λ (o : Option Refusal). told_then len (line_said line ∷ past) (line_place line) o (is_last_line line) (through_end rest))
     (first_of_line past line)
-    ∙ by_told len (said line ∷ past) (place_of line) (first (line_checks past line)) (is_end line) (through_end rest)
+    ∙ by_told len (line_said line ∷ past) (line_place line) (first_holding (line_checks past line)) (is_last_line line) (through_end rest)
 
 -- past a line without a fault
-pub goes_past : (len : ℕ) (past : Past) (line : FoundLine) (lines : List FoundLine) → is_told line ≡ true
-    → list_any is_bad (code_of line.text) ≡ false → first (checks past (said line)) ≡ None → is_end line ≡ false
-    → goes_on len past (line ∷ lines) ≡ goes_on len (said line ∷ past) lines
-goes_past len past line lines told good e end = goes_by len past line lines told ∙ rw (good, e, end) refl
+pub goes_past : (len : ℕ) (past : DrillPast) (line : FoundLine) (lines : List FoundLine) → is_told line ≡ true
+    → list_any is_bad (code_of line.text) ≡ false → first_holding (checks past (line_said line)) ≡ None → is_last_line line ≡ false
+    → goes_on len past (line ∷ lines) ≡ goes_on len (line_said line ∷ past) lines
+goes_past len past line lines first_told good e end = goes_by len past line lines first_told ∙ rw (good, e, end) refl
 
 -- at the end
-pub ends_here : (len : ℕ) (past : Past) (line : FoundLine) (lines : List FoundLine) → is_told line ≡ true
-    → list_any is_bad (code_of line.text) ≡ false → first (checks past (said line)) ≡ None → is_end line ≡ true
-    → goes_on len past (line ∷ lines) ≡ Ok (layer_in (said line ∷ past))
-ends_here len past line lines told good e end = goes_by len past line lines told ∙ rw (good, e, end) refl
+pub ends_here : (len : ℕ) (past : DrillPast) (line : FoundLine) (lines : List FoundLine) → is_told line ≡ true
+    → list_any is_bad (code_of line.text) ≡ false → first_holding (checks past (line_said line)) ≡ None → is_last_line line ≡ true
+    → goes_on len past (line ∷ lines) ≡ Ok (drill_layer_in (line_said line ∷ past))
+ends_here len past line lines first_told good e end = goes_by len past line lines first_told ∙ rw (good, e, end) refl
 
 -- at a line as the code takes it: its code, how many skipped bytes stand before that, and what it says
-pub takes : (bytes : List ℕ) (past : Past) (line : FoundLine) (lines rest : List FoundLine) (code : List ℕ) (skipped : ℕ)
-    (says : Statement) → reading_of bytes ≡ goes_on (length bytes) past lines → lines ≡ line ∷ rest
-    → code ≡ code_of line.text → is_blank code ≡ false → skipped ≡ prefix_len is_skipped code → says ≡ statement_of (packed code)
-    → reading_of bytes ≡ leads_to (length bytes) past (line.at + skipped) (list_any is_bad code) says rest
+pub takes : (bytes : List ℕ) (past : DrillPast) (line : FoundLine) (lines rest : List FoundLine) (code : List ℕ) (skipped : ℕ)
+    (says : Statement) → drill_reading_of bytes ≡ goes_on (length bytes) past lines → lines ≡ line ∷ rest
+    → code ≡ code_of line.text → is_blank code ≡ false → skipped ≡ prefix_len is_line_blank code → says ≡ statement_of (line_packed code)
+    → drill_reading_of bytes ≡ leads_to (length bytes) past (line.at + skipped) (list_any is_bad code) says rest
 takes bytes past line lines rest code skipped says reads begins is_code some before says_so =
     let at_code = λ (c : List ℕ).
-    leads_to (length bytes) past (line.at + prefix_len is_skipped c) (list_any is_bad c) (statement_of (packed c)) rest in
+    leads_to (length bytes) past (line.at + prefix_len is_line_blank c) (list_any is_bad c) (statement_of (line_packed c)) rest in
     reads ∙ ap (goes_on (length bytes) past) begins
     ∙ goes_by (length bytes) past line rest (ap (λ (c : List ℕ). not (is_blank c)) (sym is_code) ∙ ap not some)
     ∙ ap at_code (sym is_code) ∙ rw (before, says_so) refl
 
 -- the layer of the state
-pub layer_is : (past : Past) (s : DrillState) → Tracks past s → drill_content_of s.layer ≡ layer_in past
+pub layer_is : (past : DrillPast) (s : DrillState) → Tracks past s → drill_content_of s.layer ≡ drill_layer_in past
 layer_is past s t = rw (t.tools, t.items) refl

@@ -9,7 +9,7 @@ use Rattle.std.proofs.lemmas.Bool.{and_parts, both_ways, false≢true, leb-true,
 use Rattle.std.proofs.lemmas.List.Elements.{All-append, All-cons, All-nil, All-weaker}
 use Rattle.std.proofs.lemmas.List.Sums.{sum_by-append}
 use Rattle.cam_refusals.specs.declared.refusal.Refusal.{Refusal}
-use Rattle.cam_refusals.specs.Checks.{Checks, first}
+use Rattle.cam_refusals.specs.Checks.{Checks, first_holding}
 use Rattle.cam_refusals.specs.Limits.{board_limit, count_limit, leaf_limit, size_limit}
 use Rattle.cam_units.specs.Board.{IsOnBoard}
 use Rattle.cam_units.specs.declared.length.Nm.{Nm}
@@ -24,9 +24,10 @@ use Rattle.cam_xnc.specs.declared.modes.Mode.{Mode}
 use Rattle.cam_xnc.specs.declared.statement.Coordinate.{Coordinate}
 use Rattle.cam_xnc.specs.declared.statement.Statement.TheVariants.{Declare, Select, DrillMode, HitAt, Slot, RoutTo}
 use Rattle.cam_xnc.specs.declared.statement.Statement.TheVariants.{Lower, CutTo, Raise}
-use Rattle.cam_xnc.specs.DrillState.{Past, unit_in, mode_in, tool_in, point_in, length_nm, tools_in, points_in, hit_of}
-use Rattle.cam_xnc.specs.DrillState.{slot_start, slot_of, rout_of, items_in, leaves_in}
-use Rattle.cam_xnc.specs.Faults.{header_checks, body_checks, is_diameter, is_on_board, is_drilling, is_lowered, is_too_much}
+use Rattle.cam_xnc.specs.DrillState.{DrillPast, drill_unit_in, drill_mode_in, tool_in_force, drill_point_in, length_nm, tools_in, rout_points_in, hit_of}
+use Rattle.cam_xnc.specs.DrillState.{slot_start, slot_of, open_rout, drill_items_in, drilled_leaves}
+use Rattle.cam_xnc.specs.Faults.{header_checks, body_checks, is_diameter, is_drilling, is_lowered, is_too_much}
+use Rattle.cam_objects.specs.Soundness.{is_on_board}
 use Rattle.cam_xnc.proofs.ToolNumbers.{IsToolNumber}
 
 -- no tool is in force, or one of these
@@ -44,8 +45,8 @@ pub record IsSoundState (ts : List (ℕ × Nm)) (drilled : List DrillItem) (last
   pub lowered : is_lowered mode ≡ true → (0 < length along) × (is_none number ≡ false)
   pub tool : IsKnown ts number
 
-abbrev pub IsSoundPast : Past → Type 0
-IsSoundPast past = IsSoundState (tools_in past) (items_in past) (point_in past) (points_in past) (mode_in past) (tool_in past)
+abbrev pub IsSoundPast : DrillPast → Type 0
+IsSoundPast past = IsSoundState (tools_in past) (drill_items_in past) (drill_point_in past) (rout_points_in past) (drill_mode_in past) (tool_in_force past)
 
 abbrev AllFail : Checks Refusal → Type 0
 AllFail [] = Unit {0}
@@ -56,9 +57,9 @@ fails true x o h = absurd cc
 fails false x o h = (refl, h)
 
 -- the checks of a faultless line fail
-passes : (list : Checks Refusal) → first list ≡ None → AllFail list
+passes : (list : Checks Refusal) → first_holding list ≡ None → AllFail list
 passes [] h = tt
-passes (check ∷ later) h = let both = fails check.1 check.0 (first later) h in (both.0, passes later both.1)
+passes (check ∷ later) h = let both = fails check.1 check.0 (first_holding later) h in (both.0, passes later both.1)
 
 none_of : {A : Type 0} (o : Option A) → is_some o ≡ false → o ≡ None
 none_of None h = refl
@@ -107,38 +108,38 @@ sound_tool n (pos k) number h =
 sound_tool n (negsuc k) number h = absurd cc
 
 -- one item more, for which there is room
-with_item : (past : Past) (item : DrillItem) → IsSoundPast past → is_too_much past (drill_count_of item) ≡ false
-    → IsSoundDrillItem (tools_in past) item → IsSoundDrillContent (tools_in past) (items_in past ++ item ∷ [])
+with_item : (past : DrillPast) (item : DrillItem) → IsSoundPast past → is_too_much past (drill_count_of item) ≡ false
+    → IsSoundDrillItem (tools_in past) item → IsSoundDrillContent (tools_in past) (drill_items_in past ++ item ∷ [])
 with_item past item s room sound =
-    let sides = or_parts (leb count_limit (length (items_in past))) (not (leb (leaves_in past + drill_count_of item) leaf_limit)) room in
-    let few : length (items_in past) < count_limit = leb-false count_limit (length (items_in past)) sides.0 in
-    let leaves : leaves_in past + drill_count_of item ≤ leaf_limit = leb-true _ leaf_limit (not-false _ sides.1) in
+    let sides = or_parts (leb count_limit (length (drill_items_in past))) (not (leb (drilled_leaves past + drill_count_of item) leaf_limit)) room in
+    let few : length (drill_items_in past) < count_limit = leb-false count_limit (length (drill_items_in past)) sides.0 in
+    let leaves : drilled_leaves past + drill_count_of item ≤ leaf_limit = leb-true _ leaf_limit (not-false _ sides.1) in
     record {
       tools = s.layer.tools;
       distinct = s.layer.distinct;
-      items = one_more (IsSoundDrillItem (tools_in past)) (items_in past) item s.layer.items sound;
+      items = one_more (IsSoundDrillItem (tools_in past)) (drill_items_in past) item s.layer.items sound;
       limits = record {
-        few = omega (arith, few, length-append (items_in past) (item ∷ []));
-        leaves = omega (arith, leaves, sum_by-append drill_count_of (items_in past) (item ∷ []));
+        few = omega (arith, few, length-append (drill_items_in past) (item ∷ []));
+        leaves = omega (arith, leaves, sum_by-append drill_count_of (drill_items_in past) (item ∷ []));
       };
     }
 
 -- the lines of the header
-pub declare_step : (past : Past) (number : Option ℕ) (diameter : Option ℤ) → IsSoundPast past
-    → first (header_checks past (Declare number diameter)) ≡ None → IfSome number IsToolNumber
+pub declare_step : (past : DrillPast) (number : Option ℕ) (diameter : Option ℤ) → IsSoundPast past
+    → first_holding (header_checks past (Declare number diameter)) ≡ None → IfSome number IsToolNumber
     → IsSoundPast (Declare number diameter ∷ past)
 declare_step past None diameter s h small = absurd cc
 declare_step past (Some n) None s h small = absurd cc
 declare_step past (Some n) (Some d) s h small =
     let pass = passes (header_checks past (Declare (Some n) (Some d))) h in
     let ts = tools_in past in
-    let nm : Nm = record { 0 = length_nm (unit_in past) d } in
+    let nm : Nm = record { 0 = length_nm (drill_unit_in past) d } in
     record {
       layer = record {
         tools = one_more (λ (e : ℕ × Nm). IsSoundTool e.0 e.1) ts (n, nm) s.layer.tools
-            (sound_tool n (length_nm (unit_in past) d) small pass.1.1.0);
+            (sound_tool n (length_nm (drill_unit_in past) d) small pass.1.1.0);
         distinct = distinct_more ts n nm s.layer.distinct (none_of (diameter_of ts n) pass.1.1.1.0);
-        items = All-weaker (IsSoundDrillItem ts) (IsSoundDrillItem (ts ++ (n, nm) ∷ [])) (sound_more ts ((n, nm) ∷ [])) (items_in past)
+        items = All-weaker (IsSoundDrillItem ts) (IsSoundDrillItem (ts ++ (n, nm) ∷ [])) (sound_more ts ((n, nm) ∷ [])) (drill_items_in past)
             s.layer.items;
         limits = s.layer.limits;
       };
@@ -146,7 +147,7 @@ declare_step past (Some n) (Some d) s h small =
       points = s.points;
       room = s.room;
       lowered = s.lowered;
-      tool = still_known ts ((n, nm) ∷ []) (tool_in past) s.tool;
+      tool = still_known ts ((n, nm) ∷ []) (tool_in_force past) s.tool;
     }
 
 -- the lines of the body
@@ -156,7 +157,7 @@ chosen : (tools : List (ℕ × Nm)) (n : ℕ) (b : Bool) → (not b && not (is_s
 chosen tools n true h = tt
 chosen tools n false h = not-false (is_some (diameter_of tools n)) h
 
-pub select_step : (past : Past) (number : Option ℕ) → IsSoundPast past → first (body_checks past (Select number)) ≡ None
+pub select_step : (past : DrillPast) (number : Option ℕ) → IsSoundPast past → first_holding (body_checks past (Select number)) ≡ None
     → IsSoundPast (Select number ∷ past)
 select_step past None s h = absurd cc
 select_step past (Some n) s h =
@@ -166,11 +167,11 @@ select_step past (Some n) s h =
       at = s.at;
       points = s.points;
       room = s.room;
-      lowered = λ low. absurd (both_ways (is_lowered (mode_in past)) pass.1.1.0 low);
+      lowered = λ low. absurd (both_ways (is_lowered (drill_mode_in past)) pass.1.1.0 low);
       tool = chosen (tools_in past) n (eqb n 0) pass.1.0;
     }
 
-pub drill_mode_step : (past : Past) → IsSoundPast past → IsSoundPast (DrillMode ∷ past)
+pub drill_mode_step : (past : DrillPast) → IsSoundPast past → IsSoundPast (DrillMode ∷ past)
 drill_mode_step past s = record {
   layer = s.layer;
   at = s.at;
@@ -190,17 +191,17 @@ sound_hit tools n p known on =
       few = lit≤ tt;
     })
 
-pub hit_step : (past : Past) (x y : Coordinate) → IsSoundPast past → first (body_checks past (HitAt x y)) ≡ None
+pub hit_step : (past : DrillPast) (x y : Coordinate) → IsSoundPast past → first_holding (body_checks past (HitAt x y)) ≡ None
     → IsSoundPast (HitAt x y ∷ past)
 hit_step past x y s h =
     let pass = passes (body_checks past (HitAt x y)) h in
-    let drilling = not-false (is_drilling (mode_in past)) pass.1.1.1.1.1.0 in
-    let at = point_in (HitAt x y ∷ past) in
+    let drilling = not-false (is_drilling (drill_mode_in past)) pass.1.1.1.1.1.0 in
+    let at = drill_point_in (HitAt x y ∷ past) in
     let on = on_board at pass.1.0 in
-    let known = known_number (tools_in past) (tool_in past) s.tool pass.1.1.1.0 in
+    let known = known_number (tools_in past) (tool_in_force past) s.tool pass.1.1.1.0 in
     record {
       layer = with_item past (hit_of past at) s (rw drilling at pass.1.1.0)
-          (sound_hit (tools_in past) (unwrap_or (tool_in past) 0) at known on);
+          (sound_hit (tools_in past) (unwrap_or (tool_in_force past) 0) at known on);
       at = on;
       points = s.points;
       room = s.room;
@@ -213,20 +214,20 @@ sound_rout : (tools : List (ℕ × Nm)) (n : ℕ) (ps : List Point) → is_some 
 sound_rout tools n ps known some on few =
     sound_drill tools (Rout n ps) (record { some = some; known = known; inside = on; few = few })
 
-pub slot_step : (past : Past) (start_x start_y end_x end_y : Coordinate) → IsSoundPast past
-    → first (body_checks past (Slot start_x start_y end_x end_y)) ≡ None → IsSoundPast (Slot start_x start_y end_x end_y ∷ past)
+pub slot_step : (past : DrillPast) (start_x start_y end_x end_y : Coordinate) → IsSoundPast past
+    → first_holding (body_checks past (Slot start_x start_y end_x end_y)) ≡ None → IsSoundPast (Slot start_x start_y end_x end_y ∷ past)
 slot_step past start_x start_y end_x end_y s h =
     let pass = passes (body_checks past (Slot start_x start_y end_x end_y)) h in
-    let drilling = not-false (is_drilling (mode_in past)) pass.1.1.1.1.1.0 in
+    let drilling = not-false (is_drilling (drill_mode_in past)) pass.1.1.1.1.1.0 in
     let start = slot_start past start_x start_y in
-    let end = point_in (Slot start_x start_y end_x end_y ∷ past) in
+    let end = drill_point_in (Slot start_x start_y end_x end_y ∷ past) in
     let on = and_parts (is_on_board start) (is_on_board end) (not-false (is_on_board start && is_on_board end) pass.1.0) in
     let first_on = on_board start (not_from_true (is_on_board start) on.0) in
     let last_on = on_board end (not_from_true (is_on_board end) on.1) in
-    let known = known_number (tools_in past) (tool_in past) s.tool pass.1.1.1.0 in
+    let known = known_number (tools_in past) (tool_in_force past) s.tool pass.1.1.1.0 in
     record {
       layer = with_item past (slot_of past start end) s (rw drilling at pass.1.1.0)
-          (sound_rout (tools_in past) (unwrap_or (tool_in past) 0) (start ∷ end ∷ []) known (omega arith)
+          (sound_rout (tools_in past) (unwrap_or (tool_in_force past) 0) (start ∷ end ∷ []) known (omega arith)
           (All-cons IsOnBoard start (end ∷ []) first_on (All-cons IsOnBoard end [] last_on (All-nil IsOnBoard))) (lit≤ tt));
       at = last_on;
       points = s.points;
@@ -235,53 +236,53 @@ slot_step past start_x start_y end_x end_y s h =
       tool = s.tool;
     }
 
-pub rout_step : (past : Past) (x y : Coordinate) → IsSoundPast past → first (body_checks past (RoutTo x y)) ≡ None
+pub rout_step : (past : DrillPast) (x y : Coordinate) → IsSoundPast past → first_holding (body_checks past (RoutTo x y)) ≡ None
     → IsSoundPast (RoutTo x y ∷ past)
 rout_step past x y s h = record {
   layer = s.layer;
-  at = on_board (point_in (RoutTo x y ∷ past)) (passes (body_checks past (RoutTo x y)) h).1.0;
+  at = on_board (drill_point_in (RoutTo x y ∷ past)) (passes (body_checks past (RoutTo x y)) h).1.0;
   points = s.points;
   room = s.room;
   lowered = λ low. absurd (false≢true low);
   tool = s.tool;
 }
 
-pub lower_step : (past : Past) → IsSoundPast past → first (body_checks past Lower) ≡ None → IsSoundPast (Lower ∷ past)
+pub lower_step : (past : DrillPast) → IsSoundPast past → first_holding (body_checks past Lower) ≡ None → IsSoundPast (Lower ∷ past)
 lower_step past s h = record {
   layer = s.layer;
   at = s.at;
-  points = All-cons IsOnBoard (point_in past) [] s.at (All-nil IsOnBoard);
+  points = All-cons IsOnBoard (drill_point_in past) [] s.at (All-nil IsOnBoard);
   room = lit≤ tt;
   lowered = λ low. (omega arith, (passes (body_checks past Lower) h).0);
   tool = s.tool;
 }
 
-pub cut_step : (past : Past) (x y : Coordinate) → IsSoundPast past → first (body_checks past (CutTo x y)) ≡ None
+pub cut_step : (past : DrillPast) (x y : Coordinate) → IsSoundPast past → first_holding (body_checks past (CutTo x y)) ≡ None
     → IsSoundPast (CutTo x y ∷ past)
 cut_step past x y s h =
     let pass = passes (body_checks past (CutTo x y)) h in
-    let lowered = not-false (is_lowered (mode_in past)) pass.1.1.1.1.0 in
-    let on = on_board (point_in (CutTo x y ∷ past)) pass.1.0 in
-    let short : length (points_in past) < count_limit =
-    leb-false count_limit (length (points_in past)) (rw lowered at pass.1.1.0) in
-    let size = length-append (points_in past) (point_in (CutTo x y ∷ past) ∷ []) in
+    let lowered = not-false (is_lowered (drill_mode_in past)) pass.1.1.1.1.0 in
+    let on = on_board (drill_point_in (CutTo x y ∷ past)) pass.1.0 in
+    let short : length (rout_points_in past) < count_limit =
+    leb-false count_limit (length (rout_points_in past)) (rw lowered at pass.1.1.0) in
+    let size = length-append (rout_points_in past) (drill_point_in (CutTo x y ∷ past) ∷ []) in
     record {
       layer = s.layer;
       at = on;
-      points = one_more IsOnBoard (points_in past) (point_in (CutTo x y ∷ past)) s.points on;
+      points = one_more IsOnBoard (rout_points_in past) (drill_point_in (CutTo x y ∷ past)) s.points on;
       room = omega (arith, short, size);
       lowered = λ low. (omega (arith, size), (s.lowered lowered).1);
       tool = s.tool;
     }
 
-pub raise_step : (past : Past) → IsSoundPast past → first (body_checks past Raise) ≡ None → IsSoundPast (Raise ∷ past)
+pub raise_step : (past : DrillPast) → IsSoundPast past → first_holding (body_checks past Raise) ≡ None → IsSoundPast (Raise ∷ past)
 raise_step past s h =
     let pass = passes (body_checks past Raise) h in
-    let lowered = not-false (is_lowered (mode_in past)) pass.1.0 in
-    let known = known_number (tools_in past) (tool_in past) s.tool (s.lowered lowered).1 in
+    let lowered = not-false (is_lowered (drill_mode_in past)) pass.1.0 in
+    let known = known_number (tools_in past) (tool_in_force past) s.tool (s.lowered lowered).1 in
     record {
-      layer = with_item past (rout_of past) s (rw lowered at pass.0)
-          (sound_rout (tools_in past) (unwrap_or (tool_in past) 0) (points_in past) known (s.lowered lowered).0 s.points s.room);
+      layer = with_item past (open_rout past) s (rw lowered at pass.0)
+          (sound_rout (tools_in past) (unwrap_or (tool_in_force past) 0) (rout_points_in past) known (s.lowered lowered).0 s.points s.room);
       at = s.at;
       points = All-nil IsOnBoard;
       room = lit≤ tt;

@@ -7,7 +7,7 @@ use Rattle.std.proofs.lemmas.List.Elements.{All-nil}
 use Rattle.cam_refusals.specs.declared.read_fault.ReadFault.{ReadFault}
 use Rattle.cam_refusals.specs.declared.refusal.Refusal.{Refusal}
 use Rattle.cam_refusals.specs.declared.refusal.Refusal.TheVariants.{BadByte}
-use Rattle.cam_refusals.specs.Checks.{first}
+use Rattle.cam_refusals.specs.Checks.{first_holding}
 use Rattle.cam_units.specs.Board.{IsOnBoard}
 use Rattle.cam_objects.specs.Contents.{DrillContent}
 use Rattle.cam_objects.specs.DrillSoundness.{IsSoundDrillContent}
@@ -17,12 +17,12 @@ use Rattle.cam_xnc.specs.declared.statement.Statement.{Statement}
 use Rattle.cam_xnc.specs.declared.statement.Statement.TheVariants.{BeginHeader, SetUnit, Declare, Neutral, EndHeader}
 use Rattle.cam_xnc.specs.declared.statement.Statement.TheVariants.{Select, DrillMode, HitAt, Slot, RoutTo, Lower}
 use Rattle.cam_xnc.specs.declared.statement.Statement.TheVariants.{CutTo, Raise, End}
-use Rattle.cam_xnc.specs.Bytes.{is_bad, code_of, packed}
+use Rattle.cam_xnc.specs.Bytes.{is_bad, code_of, line_packed}
 use Rattle.cam_xnc.specs.Lines.{FoundLine, lines_of}
-use Rattle.cam_xnc.specs.DrillState.{Past, part_in, layer_in}
+use Rattle.cam_xnc.specs.DrillState.{DrillPast, part_in, drill_layer_in}
 use Rattle.cam_xnc.specs.Faults.{checks, checks_by}
-use Rattle.cam_xnc.specs.Reading.{is_told, place_of, said, is_end, line_checks, layer_unless}
-use Rattle.cam_xnc.specs.Laws.{GivesSoundLayers}
+use Rattle.cam_xnc.specs.Reading.{is_told, line_place, line_said, is_last_line, line_checks, drill_layer_unless}
+use Rattle.cam_xnc.specs.Laws.{GivesSoundDrillLayers}
 use Rattle.cam_xnc.proofs.Readings.{goes_by, goes_on, goes_over, reading_goes_on, unless_refused}
 use Rattle.cam_xnc.proofs.ToolNumbers.{HasToolNumber, has_tool_number}
 use Rattle.cam_xnc.proofs.SoundLayers.{IsSoundPast, fails, declare_step, select_step, drill_mode_step, hit_step, slot_step}
@@ -32,8 +32,8 @@ use Rattle.cam_xnc.proofs.SoundLayers.{rout_step, lower_step, cut_step, raise_st
 told_one : {refusal : Refusal} → Some refusal ≡ None → ⊥
 told_one e = absurd cc
 
-step : (part : Part) (past : Past) (says : Statement) → IsSoundPast past → HasToolNumber says
-    → first (checks_by part past says) ≡ None → IsSoundPast (says ∷ past)
+step : (part : Part) (past : DrillPast) (says : Statement) → IsSoundPast past → HasToolNumber says
+    → first_holding (checks_by part past says) ≡ None → IsSoundPast (says ∷ past)
 step Start past BeginHeader s n h = s
 step Start past _ s n h = absurd (told_one h)
 step Header past (SetUnit unit) s n h = s
@@ -68,10 +68,10 @@ at_start = record {
 }
 
 -- what a line without a fault leaves
-line_step : (past : Past) (line : FoundLine) → IsSoundPast past → first (line_checks past line) ≡ None → IsSoundPast (said line ∷ past)
+line_step : (past : DrillPast) (line : FoundLine) → IsSoundPast past → first_holding (line_checks past line) ≡ None → IsSoundPast (line_said line ∷ past)
 line_step past line s e =
-    step (part_in past) past (said line) s (has_tool_number (packed (code_of line.text)))
-    (fails (list_any is_bad (code_of line.text)) BadByte (first (checks past (said line))) e).1
+    step (part_in past) past (line_said line) s (has_tool_number (line_packed (code_of line.text)))
+    (fails (list_any is_bad (code_of line.text)) BadByte (first_holding (checks past (line_said line))) e).1
 
 abbrev IsSoundContent : DrillContent → Type 0
 IsSoundContent content = IsSoundDrillContent content.tools content.items
@@ -80,31 +80,31 @@ abbrev IsSoundReading : Result DrillContent ReadFault → Type 0
 IsSoundReading (Ok content) = IsSoundContent content
 IsSoundReading (Err fault) = Unit {0}
 
-sound_unless : (o : Option ReadFault) (past : Past) → IsSoundPast past → IsSoundReading (layer_unless o (layer_in past))
+sound_unless : (o : Option ReadFault) (past : DrillPast) → IsSoundPast past → IsSoundReading (drill_layer_unless o (drill_layer_in past))
 sound_unless None past s = s.layer
 sound_unless (Some fault) past s = tt
 
 -- a line that says something
-sound_by : (past : Past) (line : FoundLine) (more : Result DrillContent ReadFault) → IsSoundPast past
-    → (IsSoundPast (said line ∷ past) → IsSoundReading more)
-    → IsSoundReading (unless_refused (place_of line) (first (line_checks past line)) (cond (is_end line) (Ok (layer_in (said line ∷ past))) more))
-sound_by past line more s goes = by (first (line_checks past line)) refl (is_end line)
+sound_by : (past : DrillPast) (line : FoundLine) (more : Result DrillContent ReadFault) → IsSoundPast past
+    → (IsSoundPast (line_said line ∷ past) → IsSoundReading more)
+    → IsSoundReading (unless_refused (line_place line) (first_holding (line_checks past line)) (cond (is_last_line line) (Ok (drill_layer_in (line_said line ∷ past))) more))
+sound_by past line more s goes = by (first_holding (line_checks past line)) refl (is_last_line line)
   where
-    by : (o : Option Refusal) → first (line_checks past line) ≡ o → (ends : Bool)
-        → IsSoundReading (unless_refused (place_of line) o (cond ends (Ok (layer_in (said line ∷ past))) more))
+    by : (o : Option Refusal) → first_holding (line_checks past line) ≡ o → (ends : Bool)
+        → IsSoundReading (unless_refused (line_place line) o (cond ends (Ok (drill_layer_in (line_said line ∷ past))) more))
     by (Some refusal) e ends = tt
     by None e true = (line_step past line s e).layer
     by None e false = goes (line_step past line s e)
 
-sound_from : (len : ℕ) (lines : List FoundLine) (past : Past) → IsSoundPast past → IsSoundReading (goes_on len past lines)
+sound_from : (len : ℕ) (lines : List FoundLine) (past : DrillPast) → IsSoundPast past → IsSoundReading (goes_on len past lines)
 sound_from len [] past s = sound_unless _ past s
 sound_from len (line ∷ lines) past s =
     (elim (is_told line) as (λ b. is_told line ≡ b → IsSoundReading (goes_on len past (line ∷ lines))) [
       | true ↦ λ h. subst IsSoundReading (sym (goes_by len past line lines h))
-          (sound_by past line (goes_on len (said line ∷ past) lines) s (λ sound. sound_from len lines (said line ∷ past) sound))
+          (sound_by past line (goes_on len (line_said line ∷ past) lines) s (λ sound. sound_from len lines (line_said line ∷ past) sound))
       | false ↦ λ h. subst IsSoundReading (sym (goes_over len past line lines h)) (sound_from len lines past s)
     ]) refl
 
-pub reading_is_sound : GivesSoundLayers
+pub reading_is_sound : GivesSoundDrillLayers
 reading_is_sound bytes layer e =
     subst IsSoundReading (sym (reading_goes_on bytes) ∙ e) (sound_from (length bytes) (lines_of bytes) [] at_start)

@@ -20,8 +20,8 @@ bytes_of_end CarriageReturn = 13 ∷ []
 bytes_of_end ReturnAndFeed = 13 ∷ 10 ∷ []
 bytes_of_end InputEnd = []
 
-abbrev pub bytes_of : TextLine → List ℕ
-bytes_of line = line.text ++ bytes_of_end line.ending
+abbrev pub line_bytes : TextLine → List ℕ
+line_bytes line = line.text ++ bytes_of_end line.ending
 
 -- no line end stands within a line
 abbrev pub IsLine : TextLine → Type 0
@@ -47,8 +47,8 @@ AreEnded [] = Unit {0}
 AreEnded (line ∷ lines) = IsEndedBefore line lines line.ending × AreEnded lines
 
 -- the lines are what the text is made of
-pub record IsCutting (text : List ℕ) (lines : List TextLine) : Type 0 where
-  pub joined : text ≡ flat_map bytes_of lines
+pub record IsLineCutting (text : List ℕ) (lines : List TextLine) : Type 0 where
+  pub joined : text ≡ flat_map line_bytes lines
   pub each : AllByRecursion IsLine lines
   pub ended : AreEnded lines
 
@@ -88,11 +88,11 @@ pub record FoundLine : Type 0 where
 -- lines, the first of which stands at a place
 abbrev pub found_at : ℕ → List TextLine → List FoundLine
 found_at at [] = []
-found_at at (line ∷ lines) = record { text = line.text; at = at } ∷ found_at (at + length (bytes_of line)) lines
+found_at at (line ∷ lines) = record { text = line.text; at = at } ∷ found_at (at + length (line_bytes line)) lines
 
 abbrev pub lines_of : List ℕ → List FoundLine
 lines_of bytes = found_at 0 (cut bytes)
 
 -- a text has one cutting into lines, the computed one
 abbrev pub OneCutting : Type 0
-OneCutting = (text : List ℕ) → IsCutting text (cut text) × ((lines : List TextLine) → IsCutting text lines → lines ≡ cut text)
+OneCutting = (text : List ℕ) → IsLineCutting text (cut text) × ((lines : List TextLine) → IsLineCutting text lines → lines ≡ cut text)

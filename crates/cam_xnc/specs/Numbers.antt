@@ -3,6 +3,7 @@ use Rattle.std.specs.Prelude.{ℕ, List, Option, Some, None, Bool, ◌==◌, nat
 use Rattle.std.specs.Option.{option_and_then}
 use Rattle.std.specs.List.{list_any}
 use Rattle.cam_numbers.specs.Numbers.{is_point, natural, signed}
+use Rattle.cam_objects.specs.Limits.{last_tool}
 
 -- holds a point
 abbrev pub is_pointed : List ℕ → Bool
@@ -11,10 +12,6 @@ is_pointed run = list_any is_point run
 -- an optional sign and digits, at least one
 abbrev pub is_whole : List ℕ → Bool
 is_whole run = is_some (signed natural run)
-
--- the greatest number of a tool
-abbrev pub last_tool : ℕ
-last_tool = 9999
 
 abbrev pub within_tools : ℕ → Option ℕ
 within_tools n = if nat_lt last_tool n then None else Some n

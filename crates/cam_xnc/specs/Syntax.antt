@@ -16,24 +16,24 @@ use Rattle.cam_numbers.specs.Numbers.{run_of, behind_run, decimal}
 use Rattle.cam_xnc.specs.Numbers.{is_pointed, is_whole, selected_tool, declared_tool}
 
 -- a field, which is a letter and its run: the run, where the letter stands at the front of a text, and what follows
-unfoldable pub field : ℕ → List ℕ → Option (List ℕ) × List ℕ
-field letter [] = (None, [])
-field letter (first ∷ text) = if first == letter then (Some (run_of text), behind_run text) else (None, first ∷ text)
+unfoldable pub line_field : ℕ → List ℕ → Option (List ℕ) × List ℕ
+line_field letter [] = (None, [])
+line_field letter (first ∷ text) = if first == letter then (Some (run_of text), behind_run text) else (None, first ∷ text)
 
-abbrev pub written : Option ℤ → Coordinate
-written None = Malformed
-written (Some n) = Written n
+abbrev pub coordinate_written : Option ℤ → Coordinate
+coordinate_written None = Malformed
+coordinate_written (Some n) = Written n
 
 -- what a line says of X or of Y; without a point the digits do not say where they lie. "Coordinates"
 unfoldable pub coordinate : Option (List ℕ) → Coordinate
 coordinate None = Omitted
-coordinate (Some run) = if is_pointed run then written (decimal run) else if is_whole run then Pointless else Malformed
+coordinate (Some run) = if is_pointed run then coordinate_written (decimal run) else if is_whole run then Pointless else Malformed
 
 -- X (88) and Y (89) in this order, of which one may be missing, and nothing else
 unfoldable pub coordinates_of : List ℕ → Option (Coordinate × Coordinate)
 coordinates_of text =
-    let x = field 88 text in
-    let y = field 89 x.1 in
+    let x = line_field 88 text in
+    let y = line_field 89 x.1 in
     if (length y.1 == 0) && not (is_none x.0 && is_none y.0) then Some (coordinate x.0, coordinate y.0) else None
 
 -- what is said with coordinates, where they stand there

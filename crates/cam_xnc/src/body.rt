@@ -3,11 +3,12 @@
 ghost use Rattle.std.specs.Prelude.{◌≡◌, ◌+◌, ◌≤◌, ◌∷◌, ◌||◌, false, IfNone};
 ghost use Rattle.cam_xnc.specs.declared.statement.Statement.TheVariants as statement;
 ghost use Rattle.cam_objects.specs.DrillSoundness.{drill_count_from};
-ghost use Rattle.cam_xnc.specs.DrillState.{Past, mode_in};
-ghost use Rattle.cam_refusals.specs.Checks.{first};
+ghost use Rattle.cam_xnc.specs.DrillState.{DrillPast, drill_mode_in};
+ghost use Rattle.cam_refusals.specs.Checks.{first_holding};
 ghost use Rattle.cam_refusals.specs.Limits.{leaf_limit};
 ghost use Rattle.cam_xnc.specs.Faults.{body_checks, cut_checks, drilled_checks, is_drilling, is_lowered};
-ghost use Rattle.cam_xnc.specs.Faults.{is_malformed, is_on_board, is_pointless, is_raised, is_too_much, slot_checks};
+ghost use Rattle.cam_xnc.specs.Faults.{is_malformed_coordinate, is_pointless, is_raised, is_too_much, slot_checks};
+ghost use Rattle.cam_objects.specs.Soundness.{is_on_board};
 ghost use Rattle.cam_xnc.specs.Machinery.Tracking.{Obeys, Tracks, moved, moved_point};
 
 use crate::modes::Mode;
@@ -19,8 +20,8 @@ use cam_refusals::{Refusal, Stop};
 use cam_units::{Nm, Point, Unit, fits_board, fix9_nm};
 use std::mem;
 
-fn is_malformed(coordinate: Coordinate) -> bool
-    ensures { result ≡ is_malformed coordinate }
+fn is_malformed_coordinate(coordinate: Coordinate) -> bool
+    ensures { result ≡ is_malformed_coordinate coordinate }
 {
     matches!(coordinate, Coordinate::Malformed)
 }
@@ -50,9 +51,9 @@ fn is_lowered(mode: Mode) -> bool
 }
 
 fn are_malformed(x: Coordinate, y: Coordinate) -> bool
-    ensures { result ≡ (is_malformed x || is_malformed y) }
+    ensures { result ≡ (is_malformed_coordinate x || is_malformed_coordinate y) }
 {
-    is_malformed(x) || is_malformed(y)
+    is_malformed_coordinate(x) || is_malformed_coordinate(y)
 }
 
 fn are_pointless(x: Coordinate, y: Coordinate) -> bool
@@ -102,7 +103,7 @@ fn rout_leaves(points: &[Point]) -> usize
 impl DrillState {
     /// Whether the layer with one item more, of so many holes and slots, is past a limit.
     fn is_too_much(&self, more: usize) -> bool
-        ensures past { (past : Past) → Tracks past self.now → result ≡ is_too_much past more }
+        ensures past { (past : DrillPast) → Tracks past self.now → result ≡ is_too_much past more }
         ensures room { result ≡ false → self.now.leaves.count + more ≤ leaf_limit }
     {
         if self.layer.items.len() >= COUNT_LIMIT {
@@ -139,8 +140,8 @@ impl DrillState {
 
     /// The fault of a hit or a slot, by what is wrong with its coordinates and its points.
     fn drilled_fault(&self, malformed: bool, pointless: bool, off: bool) -> Option<Refusal>
-        ensures first { (past : Past) → Tracks past self.now
-            → result ≡ first (drilled_checks past malformed pointless off 1 (mode_in past)) }
+        ensures first { (past : DrillPast) → Tracks past self.now
+            → result ≡ first_holding (drilled_checks past malformed pointless off 1 (drill_mode_in past)) }
         ensures room { IfNone result (self.now.leaves.count + 1 ≤ leaf_limit) }
     {
         if malformed {
@@ -196,8 +197,8 @@ impl DrillState {
         start: Point,
         end: Point,
     ) -> Option<Refusal>
-        ensures first { (past : Past) → Tracks past self.now
-            → result ≡ first (slot_checks past start_x start_y end_x end_y start end (mode_in past)) }
+        ensures first { (past : DrillPast) → Tracks past self.now
+            → result ≡ first_holding (slot_checks past start_x start_y end_x end_y start end (drill_mode_in past)) }
         ensures room { IfNone result (self.now.leaves.count + 1 ≤ leaf_limit) }
     {
         let malformed = are_malformed(start_x, start_y) || are_malformed(end_x, end_y);
@@ -271,8 +272,8 @@ impl DrillState {
 
     /// The fault of a cut.
     fn cut_fault(&self, x: Coordinate, y: Coordinate, to: Point) -> Option<Refusal>
-        ensures { (past : Past) → Tracks past self.now
-            → result ≡ first (cut_checks past x y to (mode_in past)) }
+        ensures { (past : DrillPast) → Tracks past self.now
+            → result ≡ first_holding (cut_checks past x y to (drill_mode_in past)) }
     {
         if are_malformed(x, y) {
             return Some(Refusal::BadNumber);

@@ -2,7 +2,7 @@
 
 ghost use Rattle.std.specs.Prelude.{◌≡◌, ◌≤◌, ◌<◌, length, IfOk};
 ghost use Rattle.std.specs.List.{position_or_len, prefix_len, list_any};
-ghost use Rattle.cam_xnc.specs.Bytes.{is_line_end, is_semicolon, is_skipped, is_bad, is_blank, code_of, packed};
+ghost use Rattle.cam_xnc.specs.Bytes.{is_line_end, is_semicolon, is_line_blank, is_bad, is_blank, code_of, line_packed};
 ghost use Rattle.cam_xnc.specs.Machinery.Cutters.{end_len};
 
 use std::alloc::{AllocError, Global};
@@ -14,8 +14,8 @@ fn is_line_end(byte: u8) -> bool
 }
 
 /// Whether the byte is a space or a tab.
-fn is_skipped(byte: u8) -> bool
-    ensures { result ≡ is_skipped byte }
+fn is_line_blank(byte: u8) -> bool
+    ensures { result ≡ is_line_blank byte }
 {
     matches!(byte, b' ' | b'\t')
 }
@@ -23,7 +23,7 @@ fn is_skipped(byte: u8) -> bool
 fn is_bad(byte: u8) -> bool
     ensures { result ≡ is_bad byte }
 {
-    !is_skipped(byte) && !(byte >= 33 && byte <= 126)
+    !is_line_blank(byte) && !(byte >= 33 && byte <= 126)
 }
 
 /// How many bytes stand before the first line end, or the text's length where there is none.
@@ -66,15 +66,15 @@ pub fn code_of(text: &[u8]) -> &[u8]
 pub fn is_blank(text: &[u8]) -> bool
     ensures { result ≡ is_blank text.now }
 {
-    text.iter().all(|byte| is_skipped(*byte))
+    text.iter().all(|byte| is_line_blank(*byte))
 }
 
 /// How many skipped bytes the text begins with.
 pub fn leading_skipped(text: &[u8]) -> usize
-    ensures value { result ≡ prefix_len is_skipped text.now }
+    ensures value { result ≡ prefix_len is_line_blank text.now }
     ensures within { result ≤ length text.now }
 {
-    text.iter().take_while(|byte| is_skipped(**byte)).count()
+    text.iter().take_while(|byte| is_line_blank(**byte)).count()
 }
 
 /// Whether the text holds a byte that no line holds outside its comment.
@@ -86,17 +86,17 @@ pub fn holds_bad_byte(text: &[u8]) -> bool
 
 /// Whether the text holds a skipped byte.
 pub fn holds_skipped(text: &[u8]) -> bool
-    ensures { result ≡ list_any is_skipped text.now }
+    ensures { result ≡ list_any is_line_blank text.now }
 {
-    text.iter().any(|byte| is_skipped(*byte))
+    text.iter().any(|byte| is_line_blank(*byte))
 }
 
 /// The text without its skipped bytes.
 pub fn pack(alloc: Global, text: &[u8]) -> Result<Vec<u8>, AllocError>
-    ensures { IfOk result (λ v. v.items ≡ packed text.now) }
+    ensures { IfOk result (λ v. v.items ≡ line_packed text.now) }
 {
     text.iter()
         .copied()
-        .filter(|byte| !is_skipped(*byte))
+        .filter(|byte| !is_line_blank(*byte))
         .collect(alloc)
 }

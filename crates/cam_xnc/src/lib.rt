@@ -22,6 +22,17 @@
 //! says, `DrillState` what is in force behind the lines so far, `Faults` what a line may be refused for, `Reading`
 //! what the whole file gives, and `Laws` what holds of that. `specs/Machinery/` ties the running state of the code
 //! to them.
+//!
+//! ```rust
+//! use cam_units::Spot;
+//! use cam_xnc::read_xnc;
+//!
+//! let layer = read_xnc(alloc, b"M48\nMETRIC\nT1C0.8\n%\nT1\nX1.0Y2.5\nM30\n")?;
+//! assert!(rt; layer.tools().len() == 1 && layer.items().len() == 1);
+//! // places are in half nm: the right edge of the hit of 0.8 mm at (1 mm, 2.5 mm)
+//! assert!(rt; layer.black_at(Spot { x: 2_800_000, y: 5_000_000 }));
+//! assert!(rt; !layer.black_at(Spot { x: 2_800_001, y: 5_000_000 }));
+//! ```
 #![tactic(auto)]
 
 mod body;
@@ -40,7 +51,7 @@ mod syntax;
 
 pub use cam_refusals::ReadFault;
 pub use laws::{
-    layers_are_sound, layers_come_from_faultless_files, no_fault_of_memory, one_cutting_into_lines,
-    slots_are_routs, the_least_fault_is_told,
+    drill_layers_are_sound, drill_layers_come_from_faultless_files, no_drill_fault_of_memory,
+    one_cutting_into_lines, slots_are_routs, the_least_drill_fault_is_told,
 };
 pub use reader::read_xnc;

@@ -2,9 +2,10 @@
 
 ghost use Rattle.std.specs.Prelude.{◌≡◌, ◌⊎◌, [], Ok, Err, IfOk, IfErr};
 ghost use Rattle.cam_objects.specs.DrillSoundness.{IsSoundDrillLayer};
-ghost use Rattle.cam_xnc.specs.DrillState.{Past, layer_in};
+ghost use Rattle.cam_xnc.specs.DrillState.{DrillPast, drill_layer_in};
 ghost use Rattle.cam_xnc.specs.Machinery.Tracking.{Tracks};
-ghost use Rattle.cam_xnc.specs.Reading.{IsReading, is_end_statement, no_memory, reading_of};
+ghost use Rattle.cam_xnc.specs.Reading.{IsDrillReading, is_end_statement, drill_reading_of};
+ghost use Rattle.cam_refusals.specs.FileFaults.{no_memory};
 
 use crate::bytes::{code_of, holds_bad_byte, is_blank, leading_skipped};
 use crate::lines::Lines;
@@ -16,7 +17,7 @@ use cam_refusals::{ReadFault, Refusal, Stop};
 use std::alloc::Global;
 
 /// Whether the line is M30.
-fn is_end(statement: Statement) -> bool
+fn is_last_line(statement: Statement) -> bool
     ensures { result ≡ is_end_statement statement }
 {
     matches!(statement, Statement::End)
@@ -27,9 +28,9 @@ impl DrillState {
     /// `NoMemory` at place 0.
     fn read(&mut self, bytes: &[u8]) -> Result<(), ReadFault>
         requires { Tracks [] self.old }
-        ensures ends { IfOk result (λ done. (past : Past)
-            × Tracks past self.new × (reading_of bytes.now ≡ Ok (layer_in past))) }
-        ensures fault { IfErr result (λ fault. (reading_of bytes.now ≡ Err fault) ⊎ (fault ≡ no_memory)) }
+        ensures ends { IfOk result (λ done. (past : DrillPast)
+            × Tracks past self.new × (drill_reading_of bytes.now ≡ Ok (drill_layer_in past))) }
+        ensures fault { IfErr result (λ fault. (drill_reading_of bytes.now ≡ Err fault) ⊎ (fault ≡ no_memory)) }
     {
         let mut lines = Lines::new(bytes);
         while let Some(line) = lines.next() {
@@ -52,7 +53,7 @@ impl DrillState {
                 Err(Stop::Memory) => return Err(ReadFault::NO_MEMORY),
                 Err(Stop::Fault(code)) => return Err(ReadFault { code, at }),
             }
-            if is_end(statement) {
+            if is_last_line(statement) {
                 return Ok(());
             }
         }
@@ -70,7 +71,7 @@ impl DrillState {
 ///
 /// (XNC Format Specification, "Header", "Drilling" and "Routing".)
 pub fn read_xnc(alloc: Global, bytes: &[u8]) -> Result<DrillLayer, ReadFault>
-    ensures reads { IsReading bytes.now result }
+    ensures reads { IsDrillReading bytes.now result }
     ensures sound { IfOk result IsSoundDrillLayer }
 {
     let mut state = DrillState::new(alloc);

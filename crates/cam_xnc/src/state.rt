@@ -1,8 +1,8 @@
 //! The state of a file, as one pass over its lines keeps it.
 
 ghost use Rattle.std.specs.Prelude.{◌≡◌, ◌∷◌, [], Some, None};
-ghost use Rattle.cam_xnc.specs.DrillState.{Past};
-ghost use Rattle.cam_refusals.specs.Checks.{first};
+ghost use Rattle.cam_xnc.specs.DrillState.{DrillPast};
+ghost use Rattle.cam_refusals.specs.Checks.{first_holding};
 ghost use Rattle.cam_xnc.specs.Faults.{end_checks, checks, start_of_file_checks};
 ghost use Rattle.cam_xnc.specs.Machinery.Tracking.{Obeys, Tracks, moved, moved_point};
 
@@ -83,7 +83,7 @@ impl DrillState {
 
     /// The fault of an input that ends here, without M30.
     pub fn end_fault(&self) -> Refusal
-        ensures { (past : Past) → Tracks past self.now → first (end_checks past) ≡ Some result }
+        ensures { (past : DrillPast) → Tracks past self.now → first_holding (end_checks past) ≡ Some result }
     {
         match self.part {
             Part::Start => Refusal::NoHeader,

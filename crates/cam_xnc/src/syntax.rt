@@ -3,8 +3,8 @@
 ghost use Rattle.std.specs.Prelude.{◌≡◌, ◌≤◌, length, IfOk};
 ghost use Rattle.std.specs.List.{position_or_len};
 ghost use Rattle.std.specs.Option.{option_copied};
-ghost use Rattle.cam_xnc.specs.Bytes.{packed};
-ghost use Rattle.cam_xnc.specs.Syntax.{field, coordinate, coordinates_of, tool_by, tool_statement, header_words};
+ghost use Rattle.cam_xnc.specs.Bytes.{line_packed};
+ghost use Rattle.cam_xnc.specs.Syntax.{line_field, coordinate, coordinates_of, tool_by, tool_statement, header_words};
 ghost use Rattle.cam_xnc.specs.Syntax.{body_words, word_in, begins_with_code, rout_statement, other_statement};
 ghost use Rattle.cam_xnc.specs.Syntax.{is_code_letter, slot_statement, statement_of};
 
@@ -23,10 +23,10 @@ struct Field<'a> {
     behind: &'a [u8],
 }
 
-#[tactic(auto, unfolding(crate::specs::Syntax::field))]
+#[tactic(auto, unfolding(crate::specs::Syntax::line_field))]
 fn read_field<'a>(letter: u8, text: &'a [u8]) -> Field<'a>
-    ensures run { option_copied result.run ≡ (field letter text.now).0 }
-    ensures behind { result.behind.now ≡ (field letter text.now).1 }
+    ensures run { option_copied result.run ≡ (line_field letter text.now).0 }
+    ensures behind { result.behind.now ≡ (line_field letter text.now).1 }
 {
     match text {
         [first, rest @ ..] if *first == letter => {
@@ -247,7 +247,7 @@ fn packed_statement(text: &[u8]) -> Statement
 /// What a line without its comment says. Takes memory only where it holds skipped bytes.
 #[tactic(auto, using(crate::proofs::Packing::packed_whole))]
 pub fn statement_of(alloc: Global, code: &[u8]) -> Result<Statement, AllocError>
-    ensures { IfOk result (λ statement. statement ≡ statement_of (packed code.now)) }
+    ensures { IfOk result (λ statement. statement ≡ statement_of (line_packed code.now)) }
 {
     if !holds_skipped(code) {
         return Ok(packed_statement(code));

@@ -6,10 +6,10 @@ use Rattle.cam_numbers.specs.Numbers.{integer}
 use Rattle.cam_commands.specs.declared.parts.OperationCode.{OperationCode}
 use Rattle.cam_commands.specs.declared.parts.OperationCode.TheVariants.{Plot, Move, Flash}
 use Rattle.cam_commands.specs.declared.words.Parts.{Parts as ReadParts}
-use Rattle.cam_commands.specs.WordCommands.{Parts, slot}
+use Rattle.cam_commands.specs.WordCommands.{OperationParts, slot}
 
 -- the coordinates are read, and the run behind D is not yet
-pub record AreOf (read : ReadParts) (parts : Parts) : Type 0 where
+pub record AreOf (read : ReadParts) (parts : OperationParts) : Type 0 where
   pub mode : read.mode ≡ parts.mode
   pub x : read.x ≡ slot integer parts.x
   pub y : read.y ≡ slot integer parts.y

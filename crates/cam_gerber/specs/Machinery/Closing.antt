@@ -11,9 +11,9 @@ use Rattle.cam_commands.specs.declared.parts.Slot.{Slot}
 use Rattle.cam_commands.specs.declared.parts.Slot.TheVariants.{Omitted, Malformed, Written}
 use Rattle.cam_commands.specs.declared.parts.Repeat.{Repeat}
 use Rattle.cam_gerber.specs.declared.frames.OpenRepeat.{OpenRepeat}
-use Rattle.cam_gerber.specs.Homes.{count_of}
+use Rattle.cam_gerber.specs.Homes.{copies_written}
 use Rattle.cam_gerber.specs.declared.built.Built.{Built}
-use Rattle.cam_gerber.specs.Faults.{are_on_board}
+use Rattle.cam_gerber.specs.Faults.{are_leaves_on_board}
 use Rattle.cam_gerber.specs.Machinery.Tracking.{Answers}
 
 -- an item has joined the others
@@ -27,7 +27,7 @@ pub record IsAdded (item : Item) (more : ℕ) (old new : Built) : Type 0 where
 abbrev pub Adds : Item → ℕ → Built → Result (Unit {0}) Stop → Built → Type 0
 Adds item leaves old result new =
     Answers result
-    ((OutOfBoard, not (are_on_board (item_leaves (meaning_in old.layer.apertures) item)))
+    ((OutOfBoard, not (are_leaves_on_board (item_leaves (meaning_in old.layer.apertures) item)))
     ∷ (TooMuch, nat_le count_limit (length old.layer.items.items) || nat_lt leaf_limit (old.leaves + leaves)) ∷ [])
     (IsAdded item leaves old new)
 
@@ -40,8 +40,8 @@ step_by unit (Written n) = fix9_of n unit
 -- a repeat that is opened, without an object
 abbrev pub opened_by : FileUnit → Repeat → OpenRepeat
 opened_by unit repeat = record {
-  columns = count_of repeat.columns;
-  rows = count_of repeat.rows;
+  columns = copies_written repeat.columns;
+  rows = copies_written repeat.rows;
   i = step_by unit repeat.i;
   j = step_by unit repeat.j;
   objects = [];

@@ -8,7 +8,7 @@ use Rattle.cam_refusals.specs.declared.refusal.Refusal.TheVariants.{TooMuch}
 use Rattle.cam_refusals.specs.declared.read_fault.ReadFault.{ReadFault}
 use Rattle.cam_refusals.specs.declared.stop.Stop.{Stop}
 use Rattle.cam_refusals.specs.declared.stop.Stop.TheVariants.{Memory, Fault}
-use Rattle.cam_refusals.specs.Checks.{Checks, first, least}
+use Rattle.cam_refusals.specs.Checks.{Checks, first_holding, least}
 use Rattle.cam_refusals.specs.Limits.{leaf_limit}
 use Rattle.cam_refusals.specs.Refusals.{number_of}
 use Rattle.cam_units.specs.declared.length.Unit.{Unit as FileUnit}
@@ -37,13 +37,14 @@ use Rattle.cam_gerber.specs.declared.built.Built.{Built}
 use Rattle.cam_gerber.specs.declared.running.Running.{Running}
 use Rattle.cam_gerber.specs.Statements.{Statement, Says, IsSaidBy}
 use Rattle.cam_gerber.specs.State.{Past, format_in, unit_in, dark_in, mirror_in, rotation_in, aperture_in, mode_in}
-use Rattle.cam_gerber.specs.State.{has_arcs, in_region, code_in, point_in, value_of, coordinate_nm, code_of}
+use Rattle.cam_gerber.specs.State.{has_arcs, in_region, code_in, point_in, slot_value, coordinate_nm, code_of}
 use Rattle.cam_gerber.specs.Attributes.{attributes_in}
 use Rattle.cam_gerber.specs.Homes.{home, InBlock, InRepeat, Opened, open_blocks, open_repeat}
-use Rattle.cam_gerber.specs.Making.{start_in, segments_in, region_in, made, objects_of, IsMaker}
-use Rattle.cam_gerber.specs.Layers.{macros_in, entries_in, items_in, closed_repeat, closed_leaves, leaves_of, leaves_in}
+use Rattle.cam_gerber.specs.Making.{start_in, segments_in, region_ended, made, home_objects, IsMaker}
+use Rattle.cam_gerber.specs.Layers.{macros_in, entries_in, items_in, closed_repeat, closed_leaves, home_leaves, leaves_in}
 use Rattle.cam_gerber.specs.Faults.{command_faults, faults, closing_faults, operated_faults, path_faults, is_arc}
-use Rattle.cam_gerber.specs.Faults.{is_on_board, is_full, holds_of_one}
+use Rattle.cam_gerber.specs.Faults.{is_full, holds_of_one}
+use Rattle.cam_objects.specs.Soundness.{is_on_board}
 use Rattle.cam_gerber.specs.Reading.{IsReading, Means}
 use Rattle.cam_gerber.specs.Laws.{IsFaultless}
 use Rattle.cam_gerber.specs.Machinery.OpenNumbers.{AreWithin}
@@ -68,7 +69,7 @@ pub record TracksRegion (past : Past) (r : Region) : Type 0 where
   pub segs : r.segs.items ≡ segments_in past
 
 abbrev pub block_of : Past → ℕ → OpenBlock
-block_of past n = record { number = n; objects = objects_of (InBlock n) past; leaves = leaves_of (InBlock n) past }
+block_of past n = record { number = n; objects = home_objects (InBlock n) past; leaves = home_leaves (InBlock n) past }
 
 -- the leaves of an open repeat are counted up to this
 abbrev pub leaf_cap : ℕ
@@ -81,9 +82,9 @@ repeat_of past o =
       rows = o.rows;
       i = o.i;
       j = o.j;
-      objects = objects_of
+      objects = home_objects
           (InRepeat o.before) past;
-      leaves = min leaf_cap (leaves_of (InRepeat o.before) past);
+      leaves = min leaf_cap (home_leaves (InRepeat o.before) past);
     }
 
 -- each open block has the objects of its number, and the open repeat those that were made behind its opening
@@ -112,7 +113,7 @@ content_in r =
 
 -- the coordinate that an operation leaves
 abbrev pub moved : Option Format → Option FileUnit → Slot ℤ → ℤ → ℤ
-moved format unit slot old = unwrap_or (option_map (coordinate_nm format unit) (value_of slot)) old
+moved format unit slot old = unwrap_or (option_map (coordinate_nm format unit) (slot_value slot)) old
 
 -- the point that it leaves
 abbrev pub moved_point : Modal → Operation → Point
@@ -162,13 +163,13 @@ stroke_along m n (Curve to centre ccw) = Arc ccw m.dark n m.point to centre
 
 -- an answer, or the first of the checks that hold
 abbrev pub StopsAtFirst : {A : Type 0} → Result A Refusal → Checks Refusal → Type 0
-StopsAtFirst result checks = first checks ≡ result_err result
+StopsAtFirst result checks = first_holding checks ≡ result_err result
 
 -- none of the checks holds and what then does, or the first one is told
 abbrev pub Answers : Result (Unit {0}) Stop → Checks Refusal → Type 0 → Type 0
-Answers (Ok done) checks P = (first checks ≡ None) × P
+Answers (Ok done) checks P = (first_holding checks ≡ None) × P
 Answers (Err Memory) checks P = Unit {0}
-Answers (Err (Fault refusal)) checks P = first checks ≡ Some refusal
+Answers (Err (Fault refusal)) checks P = first_holding checks ≡ Some refusal
 
 -- one more command, refused for the first of its faults or obeyed
 abbrev pub Takes : Command → Running → Result (Unit {0}) Stop → Running → Type 0
@@ -220,8 +221,8 @@ pub record Ended (past : Past) (old new : Running) : Type 0 where
 abbrev pub EndsContour : Running → Result (Unit {0}) Stop → Running → Type 0
 EndsContour old result new =
     (past : Past) (says : Statement) → IsFaultless past → Tracks past old → IsMaker says
-    → made past says ≡ region_in past
-    → Answers result ((TooMuch, holds_of_one (is_full (home past) past) (region_in past)) ∷ []) (Ended (says
+    → made past says ≡ region_ended past
+    → Answers result ((TooMuch, holds_of_one (is_full (home past) past) (region_ended past)) ∷ []) (Ended (says
     ∷ past) old new)
 
 -- one more command, as what it says is read

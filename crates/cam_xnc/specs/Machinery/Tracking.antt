@@ -4,36 +4,36 @@ use Rattle.std.specs.Option.{option_map}
 use Rattle.cam_refusals.specs.declared.refusal.Refusal.{Refusal}
 use Rattle.cam_refusals.specs.declared.stop.Stop.{Stop}
 use Rattle.cam_refusals.specs.declared.stop.Stop.TheVariants.{Memory, Fault}
-use Rattle.cam_refusals.specs.Checks.{Checks, first}
+use Rattle.cam_refusals.specs.Checks.{Checks, first_holding}
 use Rattle.cam_units.specs.declared.length.Unit.{Unit as FileUnit}
 use Rattle.cam_units.specs.declared.point.Point.{Point}
 use Rattle.cam_xnc.specs.declared.statement.Coordinate.{Coordinate}
 use Rattle.cam_xnc.specs.declared.statement.Statement.{Statement}
 use Rattle.cam_xnc.specs.declared.state.DrillState.{DrillState}
-use Rattle.cam_xnc.specs.DrillState.{Past, part_in, unit_in, mode_in, tool_in, point_in, points_in, tools_in, items_in}
-use Rattle.cam_xnc.specs.DrillState.{leaves_in, value_told, length_nm}
+use Rattle.cam_xnc.specs.DrillState.{DrillPast, part_in, drill_unit_in, drill_mode_in, tool_in_force, drill_point_in, rout_points_in, tools_in, drill_items_in}
+use Rattle.cam_xnc.specs.DrillState.{drilled_leaves, value_told, length_nm}
 
 -- the state has the values of the past
-pub record Tracks (past : Past) (s : DrillState) : Type 0 where
+pub record Tracks (past : DrillPast) (s : DrillState) : Type 0 where
   pub part : s.part ≡ part_in past
-  pub unit : s.unit ≡ unit_in past
-  pub mode : s.mode ≡ mode_in past
-  pub tool : s.tool ≡ tool_in past
-  pub at : s.at ≡ point_in past
-  pub points : s.points.items ≡ points_in past
+  pub unit : s.unit ≡ drill_unit_in past
+  pub mode : s.mode ≡ drill_mode_in past
+  pub tool : s.tool ≡ tool_in_force past
+  pub at : s.at ≡ drill_point_in past
+  pub points : s.points.items ≡ rout_points_in past
   pub tools : s.layer.tools ≡ tools_in past
-  pub items : s.layer.items.items ≡ items_in past
-  pub leaves : s.leaves.count ≡ leaves_in past
+  pub items : s.layer.items.items ≡ drill_items_in past
+  pub leaves : s.leaves.count ≡ drilled_leaves past
 
 -- no check holds and what then does, or the first that holds is told
 abbrev pub Answers : Result (Unit {0}) Stop → Checks Refusal → Type 0 → Type 0
-Answers (Ok done) list P = (first list ≡ None) × P
+Answers (Ok done) list P = (first_holding list ≡ None) × P
 Answers (Err Memory) list P = Unit {0}
-Answers (Err (Fault refusal)) list P = first list ≡ Some refusal
+Answers (Err (Fault refusal)) list P = first_holding list ≡ Some refusal
 
 -- one more line, which says this, refused for the first of these checks that holds, or obeyed
-abbrev pub Obeys : (Past → Statement → Checks Refusal) → Statement → DrillState → Result (Unit {0}) Stop → DrillState → Type 0
-Obeys list says old result new = (past : Past) → Tracks past old → Answers result (list past says) (Tracks (says ∷ past) new)
+abbrev pub Obeys : (DrillPast → Statement → Checks Refusal) → Statement → DrillState → Result (Unit {0}) Stop → DrillState → Type 0
+Obeys list says old result new = (past : DrillPast) → Tracks past old → Answers result (list past says) (Tracks (says ∷ past) new)
 
 -- the coordinate that a line leaves
 abbrev pub moved : Option FileUnit → Coordinate → ℤ → ℤ

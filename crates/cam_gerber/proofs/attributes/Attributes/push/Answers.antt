@@ -1,5 +1,5 @@
 use Rattle.std.proofs.Common.{◌≡◌, [], ◌∷◌, ◌++◌, None, cond, ap, ap₂, ◌∙◌}
-use Rattle.cam_objects.specs.Attributes.{attribute_of, place_of}
+use Rattle.cam_objects.specs.Attributes.{attribute_of, attribute_place}
 use Rattle.cam_gerber.proofs.KeptAttributes.{grown, new_key}
 use Rattle.cam_gerber.proofs.attributes.Attributes.push.Goals as goal
 
@@ -9,7 +9,7 @@ invariant_of-self-in-Ok c =
     let keys = c.self.inside.names.keys in
     let key = c.in_ok-from_slice.field-0 in
     let is : key.items ≡ c.args.name.now = c.in_ok-from_slice.ensures.items in
-    let none : place_of key.items list ≡ None = ap₂ place_of is c.self.view_is ∙ c.requires in
+    let none : attribute_place key.items list ≡ None = ap₂ attribute_place is c.self.view_is ∙ c.requires in
     grown list c.add.new.list.items keys c.insert.new.self.keys (attribute_of c.args.name.now c.args.fields.now) key c.self.invariant is
     c.in-Ok.ensures.ok
     (c.in_ok-insert.ensures.keys

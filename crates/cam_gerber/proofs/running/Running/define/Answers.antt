@@ -2,11 +2,12 @@ use Rattle.std.proofs.Common.{◌≡◌, ◌∷◌, sym, ap, refl, subst, ◌∙
 use Rattle.cam_refusals.specs.Checks.{IsLeast}
 use Rattle.cam_refusals.specs.Refusals.{number_of}
 use Rattle.cam_words.specs.Heads.{packed}
-use Rattle.cam_apertures.specs.Definition.{definition_of, faults_of}
+use Rattle.cam_apertures.specs.Definition.{template_form, faults_of}
 use Rattle.cam_commands.specs.Commands.{DefineAperture}
 use Rattle.cam_gerber.specs.Statements.{Says}
 use Rattle.cam_gerber.specs.Layers.{macros_in}
-use Rattle.cam_gerber.specs.State.{unit_in, unit_or_mm}
+use Rattle.cam_gerber.specs.State.{unit_in}
+use Rattle.cam_units.specs.Nearest.{unit_or_mm}
 use Rattle.cam_gerber.proofs.Defining.{meant, definition_faults, some_fault, new_number, defined_tracks}
 use Rattle.cam_gerber.proofs.Defining.{same_macros}
 use Rattle.cam_gerber.proofs.Defining.{defined_number_is, faultless_definition}
@@ -33,10 +34,10 @@ push-requires c =
     let same = same_macros past c.args.self.now c.parse_ad.new.macros c.parse_ad.ensures.macros t in
     definition_may_add c.args.self.now.built.layer.apertures c.args.text.now c.args.self.now.built.macros c.unwrap_or-unit.result
     c.in-Ok.number c.in-Ok.aperture c.in-Ok.ensures.ok
-    (new_number past c.in-Ok.number (faults_of (definition_of c.args.text.now) c.args.self.now.built.macros c.unwrap_or-unit.result)
+    (new_number past c.in-Ok.number (faults_of (template_form c.args.text.now) c.args.self.now.built.macros c.unwrap_or-unit.result)
     c.args.self.now.built.layer.apertures t.built.entries
     (sym (c.lowest-in-Ok.ensures past
-    (faults_of (definition_of c.args.text.now) c.args.self.now.built.macros c.unwrap_or-unit.result) same
+    (faults_of (template_form c.args.text.now) c.args.self.now.built.macros c.unwrap_or-unit.result) same
     (sym (faultless_definition _ _ _ _ _ c.in-Ok.ensures.ok))) ∙ c.in_default-lowest.is))
 
 pub returns-in_ok-push-in-Ok : goal.returns-in_ok-push-in-Ok
@@ -63,7 +64,7 @@ returns-in_ok-number-in_default c = λ past none t.
     let macros : c.args.self.now.built.macros ≡ macros_in past = t.built.macros in
     let same = same_macros past c.args.self.now c.parse_ad.new.macros c.parse_ad.ensures.macros t in
     let unit : c.unwrap_or-unit.result ≡ unit_or_mm (unit_in past) = c.unwrap_or-unit.ensures ∙ ap unit_or_mm t.modal.unit in
-    let checks = faults_of (definition_of c.args.text.now) c.args.self.now.built.macros c.unwrap_or-unit.result in
+    let checks = faults_of (template_form c.args.text.now) c.args.self.now.built.macros c.unwrap_or-unit.result in
     let is : IsLeast number_of checks c.refusal-code.result =
     subst (IsLeast number_of checks) (sym c.refusal-code.ensures)
     (meant c.in-Err.fault _ (λ e. c.in_default.not-OutOfMemory e) c.in-Err.ensures.fault) in

@@ -1,6 +1,6 @@
 use Rattle.std.proofs.Common.{sym, ap, ◌∙◌}
 use Rattle.cam_objects.specs.declared.object.Object.TheVariants.{Flash}
-use Rattle.cam_gerber.specs.Faults.{is_on_board}
+use Rattle.cam_objects.specs.Soundness.{is_on_board}
 use Rattle.cam_gerber.proofs.Flashing.{flash_tracks}
 use Rattle.cam_gerber.proofs.FlashesInside.{flash_well}
 use Rattle.cam_gerber.proofs.running.Running.flash.Goals as goal

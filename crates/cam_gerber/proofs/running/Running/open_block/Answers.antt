@@ -1,6 +1,6 @@
 use Rattle.std.proofs.Common.{◌≡◌, ◌∷◌, sym, ap, subst, ◌∙◌, length, None, arith}
 use Rattle.std.proofs.lemmas.Bool.{lt-leb}
-use Rattle.cam_refusals.specs.Checks.{first}
+use Rattle.cam_refusals.specs.Checks.{first_holding}
 use Rattle.cam_commands.specs.Commands.{OpenBlock}
 use Rattle.cam_gerber.specs.Statements.{Says}
 use Rattle.cam_gerber.specs.Faults.{command_faults}
@@ -10,7 +10,7 @@ use Rattle.cam_gerber.proofs.running.Running.open_block.Goals as goal
 
 pub returns : goal.returns
 returns c = λ past none t.
-    subst (λ number. (first (command_faults past (OpenBlock number)) ≡ None)
+    subst (λ number. (first_holding (command_faults past (OpenBlock number)) ≡ None)
     × Tracks (Says (OpenBlock number) ∷ past)
     (record c.args.self.now { frames = record c.args.self.now.frames { blocks = c.push_front.new.self } }))
     (sym c.in-Some.is)

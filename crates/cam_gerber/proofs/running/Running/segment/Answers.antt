@@ -1,7 +1,7 @@
 use Rattle.std.proofs.Common.{length, refl, ap, subst, ◌∙◌, arith}
 use Rattle.std.proofs.lemmas.Bool.{le-leb, lt-leb}
 use Rattle.cam_shapes.specs.Contour.{end_of}
-use Rattle.cam_gerber.specs.Faults.{is_on_board}
+use Rattle.cam_objects.specs.Soundness.{is_on_board}
 use Rattle.cam_gerber.specs.Machinery.Tracking.{IsOperated, mode_by, moved_point, centre_by}
 use Rattle.cam_gerber.proofs.Operated.{end_same}
 use Rattle.cam_gerber.proofs.Contours.{segment_tracks, segment_full, segment_told}

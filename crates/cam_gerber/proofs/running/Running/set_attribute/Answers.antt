@@ -4,7 +4,7 @@ use Rattle.cam_objects.specs.Attributes.{attribute_of, with_attribute}
 use Rattle.cam_commands.specs.declared.names.FreeText.TheVariants.{FileAttribute}
 use Rattle.cam_commands.specs.Commands.{KeepText}
 use Rattle.cam_gerber.specs.Statements.{Says}
-use Rattle.cam_gerber.specs.Attributes.{fields_of, names_in}
+use Rattle.cam_gerber.specs.Attributes.{attribute_fields, names_in}
 use Rattle.cam_gerber.proofs.FileAttributes.{names_counted, set_tracks}
 use Rattle.cam_gerber.proofs.running.Running.set_attribute.Goals as goal
 
@@ -14,8 +14,8 @@ returns-then-is_full_for c = λ past none t.
     let old = c.args.self.now.attributes in
     let counted : nat_lt 1000 (length (names_in (Says (KeepText FileAttribute text) ∷ past))) ≡ c.is_full_for.result =
     sym (names_counted past text old t.attributes)
-    ∙ ap (λ (n : List ℕ). nat_lt 1000 (length (with_attribute (attribute_of n (fields_of text)) old))) (sym c.split.ensures.name)
-    ∙ sym (c.is_full_for.ensures (fields_of text)) in
+    ∙ ap (λ (n : List ℕ). nat_lt 1000 (length (with_attribute (attribute_of n (attribute_fields text)) old))) (sym c.split.ensures.name)
+    ∙ sym (c.is_full_for.ensures (attribute_fields text)) in
     rw (counted ∙ c.if-is_full_for.true) refl
 
 pub returns : goal.returns
@@ -24,8 +24,8 @@ returns c = λ past none t.
     let old = c.args.self.now.attributes in
     let counted : nat_lt 1000 (length (names_in (Says (KeepText FileAttribute text) ∷ past))) ≡ c.is_full_for.result =
     sym (names_counted past text old t.attributes)
-    ∙ ap (λ (n : List ℕ). nat_lt 1000 (length (with_attribute (attribute_of n (fields_of text)) old))) (sym c.split.ensures.name)
-    ∙ sym (c.is_full_for.ensures (fields_of text)) in (
+    ∙ ap (λ (n : List ℕ). nat_lt 1000 (length (with_attribute (attribute_of n (attribute_fields text)) old))) (sym c.split.ensures.name)
+    ∙ sym (c.is_full_for.ensures (attribute_fields text)) in (
       rw (counted ∙ c.if-is_full_for.false) refl,
       set_tracks past text c.args.self.now c.set.new.self t
           (c.in_ok-set.ensures

@@ -1,7 +1,8 @@
 use Rattle.std.proofs.Common.{◌∷◌, [], sym, ap, subst, ◌∙◌}
 use Rattle.cam_refusals.specs.declared.refusal.Refusal.TheVariants.{TooMuch}
 use Rattle.cam_shapes.specs.Contour.{end_of}
-use Rattle.cam_gerber.specs.Faults.{is_full, is_on_board}
+use Rattle.cam_gerber.specs.Faults.{is_full}
+use Rattle.cam_objects.specs.Soundness.{is_on_board}
 use Rattle.cam_gerber.specs.Homes.{home}
 use Rattle.cam_gerber.specs.Making.{stroke_of}
 use Rattle.cam_gerber.specs.Machinery.Tracking.{Keeps, IsOperated, path_faults_by, mode_by, moved_point, centre_by}

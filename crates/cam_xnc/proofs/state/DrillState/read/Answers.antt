@@ -1,5 +1,5 @@
 use Rattle.std.proofs.Common.{[], ◌∷◌, refl, sym, ◌∙◌, inl}
-use Rattle.cam_xnc.specs.Bytes.{packed}
+use Rattle.cam_xnc.specs.Bytes.{line_packed}
 use Rattle.cam_xnc.specs.Machinery.Cutters.{found}
 use Rattle.cam_xnc.specs.Syntax.{statement_of}
 use Rattle.cam_xnc.proofs.Readings.{reading_goes_on, takes}
@@ -13,7 +13,7 @@ returns-then-holds_bad_byte-clause-fault c =
     let code = c.code_of-code.result.now in
     let bad = sym c.holds_bad_byte.ensures ∙ c.if-holds_bad_byte.true in
     inl (takes c.args.bytes.now c.loop-line.invariant.0 (found c.in-Some.line) _ c.next.new.self code c.leading_skipped.result
-    (statement_of (packed code)) c.loop-line.invariant.2 c.in-Some.ensures.some c.code_of-code.ensures.value
+    (statement_of (line_packed code)) c.loop-line.invariant.2 c.in-Some.ensures.some c.code_of-code.ensures.value
     (sym c.is_blank.ensures ∙ c.if-is_blank.false) c.leading_skipped.ensures.value refl ∙ rw bad refl)
 
 pub returns-in-Err-Fault-clause-fault : goal.returns-in-Err-Fault-clause-fault
@@ -26,12 +26,12 @@ returns-in-Err-Fault-clause-fault c =
     c.leading_skipped.result c.in-Ok.statement c.loop-line.invariant.2 c.in-Some.ensures.some c.code_of-code.ensures.value
     (sym c.is_blank.ensures ∙ c.if-is_blank.false) c.leading_skipped.ensures.value c.in-Ok.ensures ∙ rw (good, fault) refl))
 
-pub returns-then-is_end-clause-ends : goal.returns-then-is_end-clause-ends
-returns-then-is_end-clause-ends c =
+pub returns-then-is_last_line-clause-ends : goal.returns-then-is_last_line-clause-ends
+returns-then-is_last_line-clause-ends c =
     let past = c.loop-line.invariant.0 in
     let good = sym c.holds_bad_byte.ensures ∙ c.if-holds_bad_byte.false in
     let obeyed = c.in-Ok-obey.ensures past c.loop-line.invariant.1 in
-    let end = sym c.is_end.ensures ∙ c.if-is_end.true in (
+    let end = sym c.is_last_line.ensures ∙ c.if-is_last_line.true in (
       c.in-Ok.statement ∷ past,
       obeyed.1,
       takes c.args.bytes.now past (found c.in-Some.line) _ c.next.new.self c.code_of-code.result.now c.leading_skipped.result
@@ -45,7 +45,7 @@ loop-line-preserved c =
     let past = c.loop-line.invariant.0 in
     let good = sym c.holds_bad_byte.ensures ∙ c.if-holds_bad_byte.false in
     let obeyed = c.in-Ok-obey.ensures past c.loop-line.invariant.1 in
-    let more = sym c.is_end.ensures ∙ c.if-is_end.false in (
+    let more = sym c.is_last_line.ensures ∙ c.if-is_last_line.false in (
       c.in-Ok.statement ∷ past,
       obeyed.1,
       takes c.args.bytes.now past (found c.in-Some.line) _ c.next.new.self c.code_of-code.result.now c.leading_skipped.result

@@ -3,7 +3,7 @@ use Rattle.std.proofs.lemmas.List.Sums.{sum_by_push}
 use Rattle.cam_objects.specs.DrillSoundness.{drill_count_of}
 use Rattle.cam_objects.specs.declared.drill_item.DrillItem.{DrillItem}
 use Rattle.cam_xnc.specs.declared.statement.Statement.TheVariants.{Slot}
-use Rattle.cam_xnc.specs.DrillState.{items_in, point_in, slot_of, slot_start}
+use Rattle.cam_xnc.specs.DrillState.{drill_items_in, drill_point_in, slot_of, slot_start}
 use Rattle.cam_xnc.proofs.Slots.{slot_ends, slot_made, slot_refused}
 use Rattle.cam_xnc.proofs.state.DrillState.slot.Goals as goal
 
@@ -13,7 +13,7 @@ returns c past t =
     let start = c.moved_point-start.result in
     let end = c.moved_point-end.result in
     let start_told = slot_start past a.start_x a.start_y in
-    let end_told = point_in (Slot a.start_x a.start_y a.end_x a.end_y ∷ past) in
+    let end_told = drill_point_in (Slot a.start_x a.start_y a.end_x a.end_y ∷ past) in
     let ends = slot_ends past a.self.now a.start_x a.start_y a.end_x a.end_y start end t c.moved_point-start.ensures
     c.moved_point-end.ensures in
     let points : c.from_vec-points.result ≡ start ∷ end ∷ [] =
@@ -30,8 +30,8 @@ returns c past t =
         at = ends.1;
         points = search (rules, t.points);
         tools = search (rules, t.tools);
-        items = c.in_ok-push-3.ensures.items ∙ rw t.items (ap (λ (i : DrillItem). items_in past ++ i ∷ []) made);
+        items = c.in_ok-push-3.ensures.items ∙ rw t.items (ap (λ (i : DrillItem). drill_items_in past ++ i ∷ []) made);
         leaves = c.add.ensures ∙ ap (λ count. count + 1) t.leaves
-            ∙ sym (sum_by_push drill_count_of (items_in past) (slot_of past start_told end_told));
+            ∙ sym (sum_by_push drill_count_of (drill_items_in past) (slot_of past start_told end_told));
       },
     )

@@ -1,5 +1,5 @@
 use Rattle.cam_xnc.proofs.LeastFaults.{no_fault_is_memory}
-use Rattle.cam_xnc.proofs.laws.no_fault_of_memory.Goals as goal
+use Rattle.cam_xnc.proofs.laws.no_drill_fault_of_memory.Goals as goal
 
 pub returns : goal.returns
 returns c = no_fault_is_memory
