@@ -1,11 +1,11 @@
 -- Decimals that canonical texts write are read as the numbers that they are.
 use Rattle.std.proofs.Common.{◌≡◌, ℕ, zero, suc, ◌+◌, ◌-◌, ◌*◌, ◌/◌, ◌%◌, ◌^◌, ◌<◌, ◌≤◌, List, [], ◌∷◌, ◌++◌, length}
 use Rattle.std.proofs.Common.{Bool, true, false, eqb, Option, Some, refl, sym, ap, ◌∙◌, arith, rules, ne_eqb}
-use Rattle.std.specs.Prelude.{ℤ, pos, negsuc, neg_ℤ, ◌||◌, ◌&&◌, decimal, unsigned_abs}
+use Rattle.std.specs.Prelude.{ℤ, pos, negsuc, neg_ℤ, ◌||◌, decimal, unsigned_abs}
 use Rattle.std.specs.List.{list_all, list_any}
 use Rattle.std.specs.Char.{is_ascii_digit}
 use Rattle.std.proofs.lemmas.List.Folds.{list_all-append}
-use Rattle.std.proofs.lemmas.Bool.{le-ltb}
+use Rattle.std.proofs.lemmas.Bool.{and_parts, le-ltb}
 use Rattle.std.proofs.lemmas.Bool.Decides.{nat_tests}
 use Rattle.std.proofs.lemmas.Str.Parse.{IsDigitsTest, IsNumeralModel, numerals_by_fold, numerals_by_value}
 use Rattle.std.proofs.lemmas.Fmt.{digits_decimal, digits_value-decimal, decimal_nonempty}
@@ -17,7 +17,8 @@ use Rattle.cam_numbers.specs.Numbers.{behind_sign, signed, billionths, unsigned_
 use Rattle.cam_numbers.proofs.Naturals.{natural-digits}
 use Rattle.cam_numbers.proofs.Written.{read_pointed}
 use Rattle.cam_xnc.specs.Numbers.{is_pointed, selected_tool, declared_tool}
-use Rattle.cam_writers.specs.Lengths.{last_digit, last_six, unsigned_mm, mm}
+use Rattle.cam_writers.proofs.Runs.{all_pass}
+use Rattle.cam_writers.specs.Lengths.{last_digit, last_six, unsigned_mm, mm, scaled}
 
 are_digits_test : IsDigitsTest (λ ds. are_digits ds ≡ true)
 are_digits_test = search rules
@@ -80,21 +81,20 @@ six_value n =
 
 -- the point
 
-both : (a b : Bool) → (a && b) ≡ true → (a ≡ true) × (b ≡ true)
-both true b h = (refl, h)
-both false b h = absurd cc
-
 billionths_of_six : (n : ℕ) → billionths (last_six n) ≡ value_of (last_six n) * 1000
 unfolding billionths
 billionths_of_six n = refl
+
+pub sum_again : (n : ℕ) → n < 10 ^ 12 → value_of (decimal (n / 1000000)) * 1000000000 + billionths (last_six n) ≡ n * 1000
+sum_again n h =
+    let v : value_of (decimal (n / 1000000)) ≡ n / 1000000 = value_of_decimal (n / 1000000) (omega arith) in
+    omega (arith, v, billionths_of_six n, six_value n)
 
 pub unsigned_again : (n : ℕ) → n < 10 ^ 12 → unsigned_decimal (unsigned_mm n) ≡ Some (n * 1000)
 unfolding unsigned_mm
 unsigned_again n h =
     let small : n / 1000000 < 1000000 = omega arith in
     let v : value_of (decimal (n / 1000000)) ≡ n / 1000000 = value_of_decimal (n / 1000000) (omega arith) in
-    let sum : value_of (decimal (n / 1000000)) * 1000000000 + billionths (last_six n) ≡ n * 1000 =
-    omega (arith, v, billionths_of_six n, six_value n) in
     let some = decimal_nonempty (n / 1000000) (omega arith) in
     read_pointed (decimal (n / 1000000)) (last_six n) (record {
       before = digits_of_decimal (n / 1000000) (omega arith);
@@ -102,7 +102,7 @@ unsigned_again n h =
       some = omega (arith, some);
       small = omega (arith, v, small);
     })
-    ∙ ap Some sum
+    ∙ ap Some (sum_again n h)
 
 -- signs
 
@@ -117,7 +117,7 @@ digit_no_sign d h = (grind (arith, nat_tests), grind (arith, nat_tests))
 pub unsigned : (ds rest : List ℕ) → are_digits ds ≡ true → 0 < length ds → IsUnsigned (ds ++ rest)
 unsigned [] rest h some = absurd (omega (arith, some))
 unsigned (d ∷ ds) rest h some =
-    let k = digit_no_sign d (both (is_ascii_digit d) (are_digits ds) h).0 in
+    let k = digit_no_sign d (and_parts (is_ascii_digit d) (are_digits ds) h).0 in
     record { positive = k.0; behind = rw k.1 refl }
 
 pub signed_without : (size : List ℕ → Option ℕ) (run : List ℕ) (n : ℕ) → IsUnsigned run → size run ≡ Some n → signed size run ≡ Some (pos n)
@@ -125,11 +125,6 @@ signed_without size run n u e = rw (u.behind, u.positive, e) refl
 
 pub signed_minus : (size : List ℕ → Option ℕ) (run : List ℕ) (n : ℕ) → size run ≡ Some n → signed size (45 ∷ run) ≡ Some (neg_ℤ (pos n))
 signed_minus size run n e = rw e refl
-
--- a length in nm, in 10^-9 of a mm
-abbrev pub scaled : ℤ → ℤ
-scaled (pos n) = pos (n * 1000)
-scaled (negsuc n) = neg_ℤ (pos (suc n * 1000))
 
 pub mm_again : (z : ℤ) → unsigned_abs z < 10 ^ 12 → signed unsigned_decimal (mm z) ≡ Some (scaled z)
 unfolding unsigned_mm
@@ -175,8 +170,10 @@ unfolding is_numeric
 digit_numeric b h = rw h refl
 
 pub digits_numeric : (ds : List ℕ) → are_digits ds ≡ true → list_all is_numeric ds ≡ true
-digits_numeric [] h = refl
-digits_numeric (d ∷ ds) h = let k = both (is_ascii_digit d) (are_digits ds) h in rw (digit_numeric d k.0, digits_numeric ds k.1) refl
+digits_numeric ds h = all_pass is_ascii_digit is_numeric digit_numeric ds h
+
+pub decimal_run : (n : ℕ) → n < 2 ^ 64 → list_all is_numeric (decimal n) ≡ true
+decimal_run n h = digits_numeric (decimal n) (digits_of_decimal n h)
 
 unsigned_numeric : (n : ℕ) → n < 10 ^ 12 → list_all is_numeric (unsigned_mm n) ≡ true
 unfolding unsigned_mm is_numeric

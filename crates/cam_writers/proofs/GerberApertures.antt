@@ -1,37 +1,174 @@
--- The definitions of apertures of canonical texts define the same apertures, and have no fault.
-use Rattle.std.proofs.Common.{◌≡◌, ℕ, ◌+◌, ◌≤◌, List, [], ◌∷◌, length, map, Bool, true, false, eqb, leb, Some, None, Ok}
-use Rattle.std.proofs.Common.{refl, sym, arith, decimal}
-use Rattle.std.specs.Prelude.{ℤ, pos, negsuc, ◌==◌, nat_lt, slice_index_or, if◌then◌else◌}
-use Rattle.std.specs.List.{list_all, list_any}
-use Rattle.std.specs.Ordering.{int_eq}
-use Rattle.std.proofs.lemmas.Bool.{and_parts}
+-- Macros give the primitives of their apertures again, and definitions their apertures.
+use Rattle.std.proofs.Common.{◌≡◌, ℕ, ◌+◌, ◌*◌, ◌/◌, ◌%◌, ◌<◌, ◌≤◌, List, [], ◌∷◌, ◌++◌, length, take, drop, Bool}
+use Rattle.std.proofs.Common.{true, false, leb, ltb, Ok, refl, ap, sym, ◌∙◌, arith, append_assoc, length-append, map}
+use Rattle.std.proofs.Common.{eqb, Some, None, decimal}
+use Rattle.std.specs.Prelude.{◌≤ℤ◌, ℤ, pos, negsuc, ◌+ℤ◌, ◌*ℤ◌, unsigned_abs, ◌==◌, nat_lt, slice_index_or, if◌then◌else◌}
+use Rattle.std.specs.List.{flat_map, All, AllByRecursion}
+use Rattle.std.proofs.Math.Seq.{take-append_seam, drop-append_seam}
+use Rattle.std.proofs.lemmas.Bool.{lt-ltb, le-ltb}
 use Rattle.std.proofs.lemmas.Bool.Decides.{nat_tests, Decides-int_eq}
-use Rattle.std.proofs.lemmas.Fmt.{decimal_injective}
 use Rattle.std.proofs.lemmas.Int.{ints}
-use Rattle.cam_refusals.specs.Checks.{least}
-use Rattle.cam_refusals.specs.Refusals.{number_of}
+use Rattle.std.proofs.lemmas.List.Elements.{All-head, All-tail, recursion_from_All}
+use Rattle.std.specs.Ordering.{int_eq}
+use Rattle.std.proofs.lemmas.Fmt.{decimal_injective}
 use Rattle.cam_units.specs.declared.length.Nm.{Nm}
 use Rattle.cam_units.specs.declared.length.Unit.TheVariants.{Mm}
+use Rattle.cam_units.specs.declared.point.Point.{Point}
+use Rattle.cam_units.specs.declared.turn.Turn.TheVariants.{R0}
 use Rattle.cam_units.specs.Board.{IsSize}
+use Rattle.cam_macros.specs.declared.primitive.MacroPrimitive.{MacroPrimitive}
+use Rattle.cam_macros.specs.declared.primitive.PrimShape.{PrimShape}
+use Rattle.cam_macros.specs.declared.primitive.PrimShape.TheVariants.{Disc, Bar, Rect as Rectangle, Outline}
+use Rattle.cam_macros.specs.Numbers.{billion}
+use Rattle.cam_macros.specs.Arithmetic.{Values, parameter}
+use Rattle.cam_macros.specs.Expansion.{paint_of, size, size_of, rounded_coordinate, coordinate_of, point_of, outline_points}
+use Rattle.cam_macros.specs.Expansion.{count_of, outline_through, primitive_made, disc_of, bar_of, rect_of, outline_made}
+use Rattle.cam_macros.specs.Expansion.{primitive_of, all_worth, expansion, expansion_of, ◌>>=◌}
+use Rattle.cam_apertures.specs.Primitives.{IsMacroPoint, IsSoundShape, IsSoundPrim}
+use Rattle.cam_writers.specs.Phrases.{fields_of, definition_text, macro_name}
+use Rattle.cam_writers.proofs.Runs.{none_passes}
+use Rattle.cam_writers.proofs.Walks.{either}
+use Rattle.cam_writers.proofs.Decimals.{decimal_run, scaled_again, mm_again}
+use Rattle.cam_writers.proofs.GerberMacroFields.{code_number, parts_for, whole_value, point_values, exposure_value}
+use Rattle.cam_writers.proofs.GerberMacroFields.{trees_of, values_of, fields_worth, prim_fit}
+use Rattle.cam_refusals.specs.Checks.{least}
+use Rattle.cam_refusals.specs.Refusals.{number_of}
 use Rattle.cam_units.specs.Nearest.{nearest_of}
 use Rattle.cam_numbers.specs.Numbers.{is_numeric}
 use Rattle.cam_macros.specs.declared.aperture_macro.Macro.{Macro}
-use Rattle.cam_macros.specs.Expansion.{expansion_of}
-use Rattle.cam_macros.specs.Reading.{is_name}
+use Rattle.cam_macros.specs.Reading.{is_macro_name}
 use Rattle.cam_apertures.specs.declared.aperture.Aperture.{Aperture}
 use Rattle.cam_apertures.specs.declared.aperture.Aperture.TheVariants.{Circle, Rect, Obround, Prims}
-use Rattle.cam_apertures.specs.Definition.{definition_of, values_of, aperture_of, is_between, named, template_faults, faults_of}
-use Rattle.cam_apertures.specs.Soundness.{IsSide, IsSoundAperture}
-use Rattle.cam_objects.specs.declared.entry.Entry.TheVariants as entry
+use Rattle.cam_apertures.specs.Definition.{template_form, values_of as lengths_of, template_aperture, is_size_between, named}
+use Rattle.cam_apertures.specs.Definition.{template_faults, faults_of}
+use Rattle.cam_apertures.specs.Soundness.{IsSoundAperture}
 use Rattle.cam_gerber.specs.Faults.{is_reserved}
 use Rattle.cam_gerber.specs.Layers.{defined_by}
-use Rattle.cam_writers.specs.Lengths.{mm}
-use Rattle.cam_writers.specs.Commands.{macro_name}
-use Rattle.cam_writers.proofs.Decimals.{scaled, scaled_again, mm_again}
-use Rattle.cam_writers.proofs.GerberPasts.{definition_text}
-use Rattle.cam_writers.proofs.GerberSayings.{decimal_run}
-use Rattle.cam_writers.proofs.GerberRepeats.{defined_again}
-use Rattle.cam_writers.proofs.GerberDefinitions.{AreShort, hole_size, sizes_of, sizes_short, name_of, parameters_of, definition_form}
+use Rattle.cam_writers.specs.Lengths.{mm, scaled}
+use Rattle.cam_writers.proofs.GerberOperations.{defined_again}
+use Rattle.cam_writers.proofs.GerberDefinitions.{AreShort, hole_size, sizes_of, sizes_short, name_of, parameters_of}
+use Rattle.cam_writers.proofs.GerberDefinitions.{definition_form}
+use Rattle.cam_objects.specs.declared.entry.Entry.TheVariants as entry
+
+-- ---- lengths and points
+
+is_at_most : (a b : ℕ) → a ≤ b → leb a b ≡ true
+is_at_most a b h = grind (arith, nat_tests)
+
+size_is : (z : ℤ) → IsSize z → size z ≡ Ok (record { 0 = z })
+size_is (pos n) h = let high = h.1 in rw (is_at_most n 200000000 (omega (arith, ints, high))) refl
+size_is (negsuc n) h = let low = h.0 in absurd (omega (arith, ints, low))
+
+size_again : (d : Nm) → IsSize d.0 → size_of Mm (scaled d.0) ≡ Ok d
+size_again d h = ap size (scaled_again d.0) ∙ size_is d.0 h
+
+coordinate_again : (z : ℤ) → unsigned_abs z ≤ 200000000 → coordinate_of Mm (scaled z) ≡ Ok (record { 0 = z })
+coordinate_again z h =
+    ap rounded_coordinate (scaled_again z) ∙ rw (is_at_most (unsigned_abs z) 200000000 h) refl
+
+unturned : (x y : ℤ) → (pos 1 *ℤ x +ℤ pos 0 *ℤ y ≡ x) × (pos 0 *ℤ x +ℤ pos 1 *ℤ y ≡ y)
+unturned x y = (omega (arith, ints), omega (arith, ints))
+
+point_again : (p : Point) → IsMacroPoint p → point_of Mm R0 (scaled p.x) (scaled p.y) ≡ Ok p
+point_again p near =
+    let same = unturned p.x p.y in
+    rw (coordinate_again p.x near.x, coordinate_again p.y near.y, same.0, same.1) refl
+
+points_again : (points : List Point) → All IsMacroPoint points
+    → outline_points Mm R0 (flat_map point_values points) ≡ Ok points
+points_again [] near = refl
+points_again (p ∷ points) near =
+    rw (
+      point_again p (All-head IsMacroPoint p points near),
+      points_again points (All-tail IsMacroPoint p points near),
+    ) refl
+
+paint_again : (paint : Bool) → paint_of (exposure_value paint) ≡ Ok paint
+paint_again true = refl
+paint_again false = refl
+
+-- ---- outlines
+
+two_each : (points : List Point) → length (flat_map point_values points) ≡ 2 * length points
+two_each [] = refl
+two_each (p ∷ points) = omega (arith, two_each points)
+
+count_again : (n : ℕ) → 0 < n → n ≤ 5000 → count_of (whole_value n) ≡ Ok n
+count_again n some most =
+    let whole : n * billion % billion ≡ 0 = omega arith in
+    let least : ltb 0 (n * billion) ≡ true = lt-ltb 0 (n * billion) (omega (arith, some)) in
+    let greatest : leb (n * billion) (5000 * billion) ≡ true =
+    is_at_most (n * billion) (5000 * billion) (omega (arith, most)) in
+    let back : n * billion / billion ≡ n = omega arith in
+    rw (whole, least, greatest, back) refl
+
+-- the points, and behind them the first one again
+outline_read : (paint : Bool) (points : List Point) (values : List ℤ) → All IsMacroPoint points
+    → ltb (length values) (2 * length points + 2) ≡ false
+    → drop (2 * length points + 2) values ≡ whole_value 0 ∷ []
+    → take (2 * length points) values ≡ flat_map point_values points
+    → outline_through Mm paint (length points) values ≡ Ok (record { paint = paint; shape = Outline points })
+outline_read paint points values near long last front = rw (long, last, front, points_again points near) refl
+
+outline_again : (paint : Bool) (points : List Point) (more : List ℤ) → All IsMacroPoint points → length more ≡ 2
+    → outline_through Mm paint (length points) ((flat_map point_values points ++ more) ++ whole_value 0 ∷ [])
+    ≡ Ok (record { paint = paint; shape = Outline points })
+outline_again paint points more near two =
+    let front : List ℤ = flat_map point_values points in
+    let last : List ℤ = whole_value 0 ∷ [] in
+    let values : List ℤ = (front ++ more) ++ last in
+    let half : length front ≡ 2 * length points = two_each points in
+    let all : length (front ++ more) ≡ 2 * length points + 2 = omega (arith, length-append front more, half, two) in
+    outline_read paint points values near
+    (le-ltb (length values) (2 * length points + 2) (omega (arith, length-append (front ++ more) last, all)))
+    (ap (λ (k : ℕ). drop k values) (sym all) ∙ drop-append_seam (front ++ more) last)
+    (ap (λ (k : ℕ). take k values) (sym half) ∙ ap (take (length front)) (append_assoc front more last)
+    ∙ take-append_seam front (more ++ last))
+
+-- ---- primitives
+
+abbrev whole_prim : Bool → PrimShape → MacroPrimitive
+whole_prim paint shape = record { paint = paint; shape = shape }
+
+all_again : (prim : MacroPrimitive) (variables : Values) → IsSoundPrim prim
+    → all_worth variables (trees_of prim) ≡ Ok (values_of prim)
+all_again prim variables sound =
+    fields_worth variables (fields_of prim) (trees_of prim) (values_of prim) (prim_fit prim sound)
+
+made_again : (paint : Bool) (shape : PrimShape) (variables : Values) → IsSoundShape shape
+    → primitive_of (primitive_made (code_number shape)) Mm variables (trees_of (whole_prim paint shape))
+    ≡ Ok (whole_prim paint shape)
+made_again paint (Disc centre diameter) variables sound =
+    ap (λ all. all >>= disc_of Mm) (all_again (whole_prim paint (Disc centre diameter)) variables sound)
+    ∙ rw (paint_again paint, size_again diameter sound.1, point_again centre sound.0) refl
+made_again paint (Bar from to width) variables sound =
+    ap (λ all. all >>= bar_of Mm) (all_again (whole_prim paint (Bar from to width)) variables sound)
+    ∙ rw (paint_again paint, size_again width sound.2, point_again from sound.0, point_again to sound.1) refl
+made_again paint (Rectangle centre width height) variables sound =
+    ap (λ all. all >>= rect_of Mm) (all_again (whole_prim paint (Rectangle centre width height)) variables sound)
+    ∙ rw (
+      paint_again paint,
+      size_again width sound.1,
+      size_again height sound.2,
+      point_again centre sound.0,
+    ) refl
+made_again paint (Outline []) variables sound = let some = sound.some in absurd (omega (arith, some))
+made_again paint (Outline (p ∷ points)) variables sound =
+    ap (λ all. all >>= outline_made Mm) (all_again (whole_prim paint (Outline (p ∷ points))) variables sound)
+    ∙ rw (paint_again paint, count_again (length (p ∷ points)) sound.some sound.most)
+    (outline_again paint (p ∷ points) (point_values p) sound.near refl)
+
+-- ---- macros
+
+expands_with : (variables : Values) (prims : List MacroPrimitive) → AllByRecursion IsSoundPrim prims
+    → expansion Mm variables (parts_for prims) ≡ Ok prims
+expands_with variables [] sound = refl
+expands_with variables (prim ∷ prims) sound =
+    rw (made_again prim.paint prim.shape variables sound.0, expands_with variables prims sound.1) refl
+
+-- the parts of a canonical macro give its primitives
+pub expands : (prims : List MacroPrimitive) → All IsSoundPrim prims → expansion_of Mm [] (parts_for prims) ≡ Ok prims
+expands prims all = expands_with (parameter []) prims (recursion_from_All IsSoundPrim prims all)
 
 -- ---- the values of the parameters
 
@@ -39,11 +176,11 @@ use Rattle.cam_writers.proofs.GerberDefinitions.{AreShort, hole_size, sizes_of, 
 abbrev pub values_for : Aperture → List ℤ
 values_for a = map scaled (sizes_of a)
 
-values_again : (sizes : List ℤ) → AreShort sizes → values_of (map mm sizes) ≡ Some (map scaled sizes)
+values_again : (sizes : List ℤ) → AreShort sizes → lengths_of (map mm sizes) ≡ Some (map scaled sizes)
 values_again [] h = refl
 values_again (z ∷ sizes) h = rw (mm_again z h.0, values_again sizes h.1) refl
 
-pub parameters_again : (a : Aperture) → IsSoundAperture a → values_of (parameters_of a) ≡ Some (values_for a)
+pub parameters_again : (a : Aperture) → IsSoundAperture a → lengths_of (parameters_of a) ≡ Some (values_for a)
 parameters_again a sound = values_again (sizes_of a) (sizes_short a sound)
 
 -- a hole that is left out is none
@@ -58,16 +195,14 @@ hole_again hole = by (int_eq hole.0 (pos 0)) refl
 -- the macro of an aperture of primitives is there, and gives them
 
 abbrev pub IsMade : List Macro → ℕ → Aperture → Type 0
-IsMade macros n (Circle diameter hole) = Unit {0}
-IsMade macros n (Rect width height hole) = Unit {0}
-IsMade macros n (Obround width height hole) = Unit {0}
 IsMade macros n (Prims prims) =
     (m : Macro) × (named macros (macro_name n) ≡ Some m) × (expansion_of Mm [] m.parts ≡ Ok prims)
+IsMade macros n _ = Unit {0}
 
 -- ---- apertures
 
 pub aperture_again : (macros : List Macro) (n : ℕ) (a : Aperture) → IsMade macros n a
-    → aperture_of (name_of n a) macros Mm (values_for a) ≡ Some a
+    → template_aperture (name_of n a) macros Mm (values_for a) ≡ Some a
 aperture_again macros n (Circle diameter hole) h = rw (scaled_again diameter.0, hole_again hole) refl
 aperture_again macros n (Rect width height hole) h =
     rw (scaled_again width.0, scaled_again height.0, hole_again hole) refl
@@ -77,20 +212,11 @@ aperture_again macros n (Prims prims) h = rw (h.1, h.2) refl
 
 -- ---- sizes
 
-is_at_most : (a b : ℕ) → a ≤ b → leb a b ≡ true
-is_at_most a b h = grind (arith, nat_tests)
-
-size_between : (z : ℤ) → IsSize z → is_between (pos 0) z ≡ true
-size_between (pos n) h =
-    let high = h.1 in rw (is_at_most 0 n (omega arith), is_at_most n 200000000 (omega (arith, ints, high))) refl
-size_between (negsuc n) h = let low = h.0 in absurd (omega (arith, ints, low))
-
-side_between : (z : ℤ) → IsSide z → is_between (pos 1) z ≡ true
-side_between (pos n) h =
-    let low = h.0 in
-    let high = h.1 in
-    rw (is_at_most 1 n (omega (arith, ints, low)), is_at_most n 200000000 (omega (arith, ints, high))) refl
-side_between (negsuc n) h = let low = h.0 in absurd (omega (arith, ints, low))
+-- from a least length to 200 mm
+between : (least : ℕ) (z : ℤ) → pos least ≤ℤ z → z ≤ℤ pos 200000000 → is_size_between (pos least) z ≡ true
+between least (pos n) low high =
+    rw (is_at_most least n (omega (arith, ints, low)), is_at_most n 200000000 (omega (arith, ints, high))) refl
+between least (negsuc n) low high = absurd (omega (arith, ints, low))
 
 -- a hole is one parameter, or none
 record HasCount (fewest count : ℕ) : Type 0 where
@@ -98,18 +224,14 @@ record HasCount (fewest count : ℕ) : Type 0 where
   most : nat_lt (fewest + 1) count ≡ false
 
 one_count : (z : ℤ) (hole : Nm) → HasCount 1 (length (map mm (z ∷ hole_size hole)))
-one_count z hole = by (int_eq hole.0 (pos 0))
-  where
-    by : (b : Bool) → HasCount 1 (length (map mm (z ∷ (if b then [] else hole.0 ∷ []))))
-    by true = record { least = refl; most = refl }
-    by false = record { least = refl; most = refl }
+one_count z hole =
+    either (λ sizes. HasCount 1 (length (map mm (z ∷ sizes)))) (int_eq hole.0 (pos 0)) [] (hole.0 ∷ [])
+    (λ e. record { least = refl; most = refl }) (λ e. record { least = refl; most = refl })
 
 two_count : (y z : ℤ) (hole : Nm) → HasCount 2 (length (map mm (y ∷ z ∷ hole_size hole)))
-two_count y z hole = by (int_eq hole.0 (pos 0))
-  where
-    by : (b : Bool) → HasCount 2 (length (map mm (y ∷ z ∷ (if b then [] else hole.0 ∷ []))))
-    by true = record { least = refl; most = refl }
-    by false = record { least = refl; most = refl }
+two_count y z hole =
+    either (λ sizes. HasCount 2 (length (map mm (y ∷ z ∷ sizes)))) (int_eq hole.0 (pos 0)) [] (hole.0 ∷ [])
+    (λ e. record { least = refl; most = refl }) (λ e. record { least = refl; most = refl })
 
 -- ---- faults
 
@@ -122,8 +244,8 @@ template_faultless macros n (Circle diameter hole) sound h =
       count.most,
       scaled_again diameter.0,
       hole_again hole,
-      size_between diameter.0 sound.0,
-      size_between hole.0 sound.1,
+      between 0 diameter.0 sound.0.0 sound.0.1,
+      between 0 hole.0 sound.1.0 sound.1.1,
     ) refl
 template_faultless macros n (Rect width height hole) sound h =
     let count = two_count width.0 height.0 hole in
@@ -133,9 +255,9 @@ template_faultless macros n (Rect width height hole) sound h =
       scaled_again width.0,
       scaled_again height.0,
       hole_again hole,
-      side_between width.0 sound.0,
-      side_between height.0 sound.1,
-      size_between hole.0 sound.2,
+      between 1 width.0 sound.0.0 sound.0.1,
+      between 1 height.0 sound.1.0 sound.1.1,
+      between 0 hole.0 sound.2.0 sound.2.1,
     ) refl
 template_faultless macros n (Obround width height hole) sound h =
     let count = two_count width.0 height.0 hole in
@@ -145,40 +267,35 @@ template_faultless macros n (Obround width height hole) sound h =
       scaled_again width.0,
       scaled_again height.0,
       hole_again hole,
-      side_between width.0 sound.0,
-      side_between height.0 sound.1,
-      size_between hole.0 sound.2,
+      between 1 width.0 sound.0.0 sound.0.1,
+      between 1 height.0 sound.1.0 sound.1.1,
+      between 0 hole.0 sound.2.0 sound.2.1,
     ) refl
 template_faultless macros n (Prims prims) sound h = rw (h.1, h.2) refl
 
 -- no number of the table holds
 pub definition_faultless : (macros : List Macro) (n : ℕ) (a : Aperture) → 10 ≤ n → n ≤ 2147483647 → IsSoundAperture a
-    → IsMade macros n a → least number_of (faults_of (definition_of (definition_text n a)) macros Mm) ≡ None
+    → IsMade macros n a → least number_of (faults_of (template_form (definition_text n a)) macros Mm) ≡ None
 definition_faultless macros n a low high sound made =
     rw (definition_form n a high sound, defined_again n low high, parameters_again a sound)
     (template_faultless macros n a sound made)
 
 -- the entry that is defined
 pub definition_again : (macros : List Macro) (n : ℕ) (a : Aperture) → 10 ≤ n → n ≤ 2147483647 → IsSoundAperture a
-    → IsMade macros n a → defined_by (definition_of (definition_text n a)) macros Mm ≡ (n, entry.Aperture a) ∷ []
+    → IsMade macros n a → defined_by (template_form (definition_text n a)) macros Mm ≡ (n, entry.Aperture a) ∷ []
 definition_again macros n a low high sound made =
     rw (definition_form n a high sound, defined_again n low high, parameters_again a sound)
     (rw (aperture_again macros n a made) refl)
 
 -- ---- the names of macros
 
-no_comma : (byte : ℕ) → is_numeric byte ≡ true → eqb byte 44 ≡ false
+pub no_comma : (byte : ℕ) → is_numeric byte ≡ true → eqb byte 44 ≡ false
 unfolding is_numeric
 no_comma byte h = grind (arith, nat_tests)
 
-no_commas : (run : List ℕ) → list_all is_numeric run ≡ true → list_any (λ c. c == 44) run ≡ false
-no_commas [] all = refl
-no_commas (byte ∷ run) all =
-    let k = and_parts (is_numeric byte) (list_all is_numeric run) all in
-    rw (no_comma byte k.0, no_commas run k.1) refl
-
-pub macro_named : (n : ℕ) → n ≤ 2147483647 → is_name (macro_name n) ≡ true
-macro_named n high = rw (no_commas (decimal n) (decimal_run n (omega arith))) refl
+pub macro_named : (n : ℕ) → n ≤ 2147483647 → is_macro_name (macro_name n) ≡ true
+macro_named n high =
+    rw (none_passes is_numeric (λ c. c == 44) no_comma (decimal n) (decimal_run n (omega arith))) refl
 
 pub macro_unreserved : (n : ℕ) → is_reserved (macro_name n) ≡ false
 unfolding is_reserved

@@ -1,12 +1,12 @@
--- The opening of a canonical text: its file attributes are said, found, without a fault, and kept in their order.
+-- The opening of a canonical text: its file attributes are spelled, without a fault, and kept in their order.
 use Rattle.std.proofs.Common.{◌≡◌, ◌≢◌, ℕ, ◌+◌, ◌<◌, ◌≤◌, List, [], ◌∷◌, ◌++◌, ◌||◌, Bool, true, false, cond, not, length}
-use Rattle.std.proofs.Common.{take, drop, codes, None, Some, IsTrue, pos, refl, sym, ap, ap₂, subst, ◌∙◌, arith, append_assoc}
+use Rattle.std.proofs.Common.{take, drop, codes, None, Some, IsTrue, pos, refl, sym, ap, ap₂, subst, ◌∙◌, arith}
 use Rattle.std.specs.Prelude.{nat_lt, fold}
-use Rattle.std.specs.List.{All, AllByRecursion, IsDistinct, list_any, position_or_len}
+use Rattle.std.specs.List.{AllByRecursion, IsDistinct, list_any, position_or_len}
 use Rattle.std.specs.Str.{bytes_eq}
 use Rattle.std.proofs.lemmas.Bool.{eq-eqb, false≢true, le-ltb, ne_eqb}
 use Rattle.std.proofs.lemmas.Bool.Decides.{nat_tests}
-use Rattle.std.proofs.lemmas.List.{append-nil, length-append}
+use Rattle.std.proofs.lemmas.List.{length-append}
 use Rattle.std.proofs.lemmas.List.Elements.{All-cons, All-head, All-nil, All-tail, recursion_from_All}
 use Rattle.std.proofs.lemmas.Map.Keys.{IsDistinct-head, IsDistinct-tail}
 use Rattle.std.proofs.Math.Seq.{drop-append_seam, take-append_seam}
@@ -14,7 +14,6 @@ use Rattle.cam_refusals.specs.declared.refusal.Refusal.TheVariants.{TooMuch}
 use Rattle.cam_units.specs.declared.length.Unit.TheVariants.{Mm}
 use Rattle.cam_units.specs.declared.turn.Turn.TheVariants.{R0}
 use Rattle.cam_words.specs.Bytes.{is_control, is_forbidden_in_code, is_star, percent}
-use Rattle.cam_words.specs.Cutting.{IsCommand}
 use Rattle.cam_words.specs.Heads.{is_free_text}
 use Rattle.cam_objects.specs.declared.attribute.Attribute.{Attribute}
 use Rattle.cam_objects.specs.Attributes.{AreAttributes, AreFields, IsAttribute, attribute_of, has_name, is_attribute_byte}
@@ -22,26 +21,20 @@ use Rattle.cam_objects.specs.Attributes.{names_of, with_attribute}
 use Rattle.cam_objects.proofs.EditedAttributes.{Lacks}
 use Rattle.cam_commands.specs.declared.names.FreeText.TheVariants.{FileAttribute}
 use Rattle.cam_commands.specs.declared.names.Name.TheVariants.{Free}
-use Rattle.cam_commands.specs.declared.parts.Mode.TheVariants.{Linear}
-use Rattle.cam_commands.specs.Commands.{KeepText, MultiQuadrant, SetMode}
 use Rattle.cam_commands.specs.ExtendedCommands.{named_command}
 use Rattle.cam_commands.specs.Syntax.{command_of}
 use Rattle.cam_commands.proofs.NameLaws.{names_decide}
-use Rattle.cam_gerber.specs.Statements.{Says}
 use Rattle.cam_gerber.specs.State.{Past, aperture_in, dark_in, format_in, in_region, mirror_in, point_in, rotation_in, unit_in}
 use Rattle.cam_gerber.specs.Homes.{open_blocks, open_repeat}
 use Rattle.cam_gerber.specs.Layers.{entries_in, items_in, leaves_in, macros_in}
-use Rattle.cam_gerber.specs.Computing.{statement_of}
-use Rattle.cam_gerber.specs.Attributes.{attributes_in, fields_of, is_comma, name_of, names_in}
+use Rattle.cam_gerber.specs.Computing.{statement_said}
+use Rattle.cam_gerber.specs.Attributes.{attributes_in, attribute_fields, is_comma, attribute_name, names_in}
 use Rattle.cam_gerber.specs.Laws.{IsFaultless}
-use Rattle.cam_gerber.specs.Reading.{is_end}
 use Rattle.cam_gerber.proofs.FileAttributes.{names_counted, sets_its_attribute}
-use Rattle.cam_writers.specs.Commands.{attribute_command, word}
-use Rattle.cam_writers.specs.GerberTexts.{Commands, opening, said_by, says, text_of, units, with_attribute_of}
-use Rattle.cam_writers.specs.Machinery.Writing.{attribute_lines, line_of}
-use Rattle.cam_objects.proofs.EditedLayers.{all_at}
-use Rattle.cam_writers.proofs.GerberPasts.{past_attribute, past_opening, past_units}
-use Rattle.cam_writers.proofs.GerberSettings.{arcs_found, arcs_say, lines_found, lines_say, units_found, units_say}
+use Rattle.cam_writers.specs.Phrases.{Attach, said, spelled}
+use Rattle.cam_writers.specs.GerberTexts.{said_by, units, with_attribute_of}
+use Rattle.cam_writers.proofs.GerberSayings.{Spells}
+use Rattle.cam_writers.proofs.Walks.{fewer, sound_at, walk}
 
 abbrev text_in : Attribute → List ℕ
 text_in a = a.name ++ a.fields
@@ -73,10 +66,6 @@ starless (byte ∷ text) h = ap₂ (λ a b. a || b) (allowed byte h.0).2 (starle
 
 -- ---- what an attribute says
 
-attribute_says : (a : Attribute) → IsAttribute a → says (attribute_command a) ≡ Says (KeepText FileAttribute (text_in a))
-unfolding command_of named_command attribute_command
-attribute_says a h = ap statement_of (names_decide.known (Free FileAttribute) (text_in a) (starless (text_in a) (text_is a h)))
-
 is_free : (text : List ℕ) → is_free_text (codes "TF" ++ text) ≡ true
 unfolding is_free_text
 is_free text = refl
@@ -88,38 +77,16 @@ may_hold free (byte ∷ text) is h =
     let a = allowed byte h.0 in
     ((a.0, subst (λ b. cond b is_control is_forbidden_in_code byte ≡ false) (sym is) a.1), may_hold free text is h.1)
 
-attribute_found : (a : Attribute) → IsAttribute a → IsCommand (attribute_command a)
-unfolding attribute_command
-attribute_found a h =
-    (may_hold (is_free_text (codes "TF" ++ text_in a)) (codes "TF" ++ text_in a) (is_free (text_in a)) (refl, (refl, text_is a h)), tt)
-
--- ---- what the attributes say
-
-told : (attributes : List Attribute) (commands : Commands) → All IsAttribute attributes
-    → said_by (fold with_attribute_of commands attributes) ≡ fold past_attribute (said_by commands) attributes
-told [] commands h = refl
-told (a ∷ attributes) commands h =
-    told attributes (attribute_command a ∷ commands) (All-tail IsAttribute a attributes h)
-    ∙ ap (λ s. fold past_attribute (s ∷ said_by commands) attributes)
-    (attribute_says a (All-head IsAttribute a attributes h))
-
-found : (attributes : List Attribute) (commands : Commands) → All IsAttribute attributes → AllByRecursion IsCommand commands
-    → AllByRecursion IsCommand (fold with_attribute_of commands attributes)
-found [] commands h cut = cut
-found (a ∷ attributes) commands h cut =
-    found attributes (attribute_command a ∷ commands) (All-tail IsAttribute a attributes h)
-    (attribute_found a (All-head IsAttribute a attributes h), cut)
-
-pub opening_says : (attributes : List Attribute) → All IsAttribute attributes → said_by (opening attributes) ≡ past_opening attributes
-unfolding opening
-opening_says attributes h =
-    rw (arcs_say, lines_say)
-    (ap (λ past. Says MultiQuadrant ∷ Says (SetMode Linear) ∷ past)
-    (told attributes units h ∙ ap (λ past. fold past_attribute past attributes) units_say))
-
-pub opening_found : (attributes : List Attribute) → All IsAttribute attributes → AllByRecursion IsCommand (opening attributes)
-unfolding opening
-opening_found attributes h = (arcs_found, (lines_found, found attributes units h units_found))
+pub attribute_spells : (a : Attribute) → IsAttribute a → Spells (Attach a)
+unfolding spelled command_of named_command
+attribute_spells a h = record {
+  means = ap statement_said (names_decide.known (Free FileAttribute) (text_in a) (starless (text_in a) (text_is a h)));
+  found = (
+    may_hold (is_free_text (codes "TF" ++ text_in a)) (codes "TF" ++ text_in a) (is_free (text_in a))
+        (refl, (refl, text_is a h)),
+    tt,
+  );
+}
 
 -- ---- its name and its fields
 
@@ -132,7 +99,7 @@ comma_at (byte ∷ name) fields plain apart =
     ap (λ b. cond (not b) (1 + position_or_len is_comma (name ++ fields)) 0) (ne_eqb byte 44 plain.0)
     ∙ (let rest = comma_at name fields plain.1 apart in omega arith)
 
-itself : (a : Attribute) → IsAttribute a → attribute_of (name_of (text_in a)) (fields_of (text_in a)) ≡ a
+itself : (a : Attribute) → IsAttribute a → attribute_of (attribute_name (text_in a)) (attribute_fields (text_in a)) ≡ a
 itself a h =
     let at = comma_at a.name a.fields (recursion_from_All (λ byte. byte ≢ 44) a.name h.whole) h.apart in
     ap₂ attribute_of (ap (λ n. take n (text_in a)) at ∙ take-append_seam a.name a.fields)
@@ -175,85 +142,27 @@ pub record Opens (past : Past) (front : List Attribute) : Type 0 where
   pub leaves : leaves_in past ≡ 0
   pub macros : macros_in past ≡ []
   pub attributes : attributes_in past ≡ front
-  pub endless : AllByRecursion (λ s. is_end s ≡ false) past
   pub none : IsFaultless past
 
 attribute_added : (past : Past) (front : List Attribute) (a : Attribute) → Opens past front → IsAttribute a → Lacks a.name front
-    → length front < 1000 → Opens (past_attribute past a) (front ++ a ∷ [])
+    → length front < 1000 → Opens (said (Attach a) ∷ past) (front ++ a ∷ [])
 attribute_added past front a o set lacks few =
-    let added : with_attribute (attribute_of (name_of (text_in a)) (fields_of (text_in a))) front ≡ front ++ a ∷ [] =
+    let added : with_attribute (attribute_of (attribute_name (text_in a)) (attribute_fields (text_in a))) front ≡ front ++ a ∷ [] =
     ap (λ (b : Attribute). with_attribute b front) (itself a set) ∙ set_last a front lacks in
     let size : length (front ++ a ∷ []) ≤ 1000 = omega (arith, length-append front (a ∷ [])) in
-    let counted : nat_lt 1000 (length (names_in (past_attribute past a))) ≡ false =
+    let counted : nat_lt 1000 (length (names_in (said (Attach a) ∷ past))) ≡ false =
     sym (names_counted past (text_in a) front (sym o.attributes))
     ∙ ap (λ (l : List Attribute). nat_lt 1000 (length l)) added ∙ le-ltb 1000 (length (front ++ a ∷ [])) size in
-    record {
-      format = o.format;
-      unit = o.unit;
-      dark = o.dark;
-      mirror = o.mirror;
-      rotation = o.rotation;
-      aperture = o.aperture;
-      point = o.point;
-      region = o.region;
-      blocks = o.blocks;
-      repeat = o.repeat;
-      entries = o.entries;
-      listed = o.listed;
-      leaves = o.leaves;
-      macros = o.macros;
-      attributes =
-          sets_its_attribute past (text_in a)
-          ∙ ap (with_attribute (attribute_of (name_of (text_in a)) (fields_of (text_in a)))) o.attributes ∙ added;
-      endless = (refl, o.endless);
-      none = (ap (λ b. cond b (Some TooMuch) None) counted, o.none);
-    }
+    let attributes : attributes_in (said (Attach a) ∷ past) ≡ front ++ a ∷ [] =
+    sets_its_attribute past (text_in a)
+    ∙ ap (with_attribute (attribute_of (attribute_name (text_in a)) (attribute_fields (text_in a)))) o.attributes ∙ added in
+    search (attributes, ap (λ b. cond b (Some TooMuch) None) counted, o)
 
-behind : (past : Past) (all front rest : List Attribute) → AreAttributes all → front ++ rest ≡ all → Opens past front
-    → Opens (fold past_attribute past rest) all
-behind past all front [] set e o = subst (Opens past) (sym (append-nil front) ∙ e) o
-behind past all front (a ∷ rest) set e o =
-    let each : All IsAttribute (front ++ a ∷ rest) = subst (All IsAttribute) (sym e) set.each in
-    let distinct : IsDistinct bytes_eq (names_of (front ++ a ∷ rest)) =
-    subst (λ (l : List Attribute). IsDistinct bytes_eq (names_of l)) (sym e) set.distinct in
-    let few : length front < 1000 = omega (arith, set.few, ap length e, length-append front (a ∷ rest)) in
-    behind (past_attribute past a) all (front ++ a ∷ []) rest set (append_assoc front (a ∷ []) rest ∙ e)
-    (attribute_added past front a o (all_at IsAttribute front rest a each) (lacking front rest a distinct) few)
-
-pub opens : (attributes : List Attribute) → AreAttributes attributes → Opens (fold past_attribute past_units attributes) attributes
-opens attributes set = behind past_units attributes [] attributes set refl (record {
-  format = refl;
-  unit = refl;
-  dark = refl;
-  mirror = refl;
-  rotation = refl;
-  aperture = refl;
-  point = refl;
-  region = refl;
-  blocks = refl;
-  repeat = refl;
-  entries = refl;
-  listed = refl;
-  leaves = refl;
-  macros = refl;
-  attributes = refl;
-  endless = (refl, (refl, tt));
-  none = (refl, (refl, tt));
-})
-
--- ---- its lines
-
-lines_told : (attributes : List Attribute) (commands : Commands)
-    → text_of (fold with_attribute_of commands attributes) ≡ text_of commands ++ attribute_lines attributes
-lines_told [] commands = sym (append-nil (text_of commands))
-lines_told (a ∷ attributes) commands =
-    lines_told attributes (attribute_command a ∷ commands)
-    ∙ append_assoc (text_of commands) (line_of (attribute_command a)) (attribute_lines attributes)
-
--- the lines of the opening, one behind the other
-pub opening_text : (attributes : List Attribute) (text : List ℕ)
-    → text ≡ ((text_of units ++ attribute_lines attributes) ++ line_of (word (codes "G01"))) ++ line_of (word (codes "G75"))
-    → text ≡ text_of (opening attributes)
-unfolding opening
-opening_text attributes text e =
-    e ∙ ap (λ (l : List ℕ). (l ++ line_of (word (codes "G01"))) ++ line_of (word (codes "G75"))) (sym (lines_told attributes units))
+pub opens : (attributes : List Attribute) → AreAttributes attributes → Opens (said_by (fold with_attribute_of units attributes)) attributes
+opens attributes set =
+    walk with_attribute_of (λ phrases front. Opens (said_by phrases) front) attributes
+    (λ phrases front a rest e o.
+    attribute_added (said_by phrases) front a o (sound_at IsAttribute attributes front a rest e set.each)
+    (lacking front rest a (subst (λ (all : List Attribute). IsDistinct bytes_eq (names_of all)) (sym e) set.distinct))
+    (omega (arith, set.few, fewer attributes front a rest e)))
+    units [] attributes refl search

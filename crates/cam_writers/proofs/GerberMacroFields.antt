@@ -1,6 +1,6 @@
 -- The fields of the primitives of canonical macros: runs of bytes that numbers may hold, which stand for trees by the
 -- grammar of macros, and the trees for values whatever the variables are.
-use Rattle.std.proofs.Common.{◌≡◌, ℕ, zero, suc, ◌*◌, ◌/◌, ◌^◌, ◌<◌, List, [], ◌∷◌, ◌++◌, length, take, Bool, true}
+use Rattle.std.proofs.Common.{◌≡◌, ℕ, zero, suc, ◌*◌, ◌/◌, ◌^◌, ◌<◌, List, [], ◌∷◌, ◌++◌, length, map, take, Bool, true, sym}
 use Rattle.std.proofs.Common.{false, Some, refl, ap, arith, decimal, codes, Ok}
 use Rattle.std.specs.Prelude.{ℤ, pos, negsuc, neg_ℤ, unsigned_abs}
 use Rattle.std.specs.List.{list_all, flat_map, All, AllByRecursion}
@@ -11,20 +11,56 @@ use Rattle.std.proofs.lemmas.List.Elements.{All-head, All-tail, All-take}
 use Rattle.cam_units.specs.declared.point.Point.{Point}
 use Rattle.cam_units.specs.Board.{IsSize}
 use Rattle.cam_numbers.specs.Numbers.{is_numeric, are_digits, value_of, billionths}
+use Rattle.cam_macros.specs.declared.part.Part.{Part}
+use Rattle.cam_macros.specs.declared.part.Part.TheVariants.{Primitive}
 use Rattle.cam_macros.specs.declared.primitive.MacroPrimitive.{MacroPrimitive}
 use Rattle.cam_macros.specs.declared.primitive.PrimShape.{PrimShape}
 use Rattle.cam_macros.specs.declared.primitive.PrimShape.TheVariants.{Disc, Bar, Rect as Rectangle, Outline}
 use Rattle.cam_macros.specs.Tree.{Tree, Number, Negative}
 use Rattle.cam_macros.specs.Numbers.{number_written}
 use Rattle.cam_macros.specs.Grammar.{Whole, Pointed, Sum, OneTerm, OneFactor, Factor, Numeral, Signed, Minus, IsNumber, IsExpression}
-use Rattle.cam_macros.specs.Arithmetic.{Values, within, value_of as worth_of}
+use Rattle.cam_macros.specs.Arithmetic.{Values, within, tree_value as worth_of}
 use Rattle.cam_macros.specs.Expansion.{all_worth}
 use Rattle.cam_macros.specs.Reading.{AreExpressions}
 use Rattle.cam_apertures.specs.Primitives.{IsMacroPoint, IsSoundShape, IsSoundPrim}
-use Rattle.cam_writers.specs.Lengths.{last_six, unsigned_mm, mm}
-use Rattle.cam_writers.specs.Commands.{point_fields, shape_fields, exposure, fields_of}
-use Rattle.cam_writers.proofs.Decimals.{digits_of_decimal, value_of_decimal, six_digits, six_value, scaled, digits_numeric, mm_numeric}
-use Rattle.cam_writers.proofs.GerberPasts.{length_tree, whole_tree, point_trees, shape_trees, exposure_tree}
+use Rattle.cam_writers.specs.Lengths.{last_six, unsigned_mm, mm, scaled}
+use Rattle.cam_writers.specs.Phrases.{point_fields, shape_fields, exposure, fields_of}
+use Rattle.cam_writers.proofs.Decimals.{digits_of_decimal, value_of_decimal, six_digits, sum_again, digits_numeric, mm_numeric}
+
+-- ---- what is read of a macro
+
+-- a length in nm as a number of mm, in 10^-9 of a mm
+abbrev pub length_tree : ℤ → Tree
+length_tree (pos nm) = Number (nm * 1000)
+length_tree (negsuc nm) = Negative (Number (suc nm * 1000))
+
+abbrev pub whole_tree : ℕ → Tree
+whole_tree n = Number (n * 1000000000)
+
+abbrev pub point_trees : Point → List Tree
+point_trees p = length_tree p.x ∷ length_tree p.y ∷ []
+
+abbrev pub code_number : PrimShape → ℕ
+code_number (Disc centre diameter) = 1
+code_number (Bar from to width) = 20
+code_number (Rectangle centre width height) = 21
+code_number (Outline points) = 4
+
+abbrev pub shape_trees : PrimShape → List Tree
+shape_trees (Disc centre diameter) = length_tree diameter.0 ∷ point_trees centre
+shape_trees (Bar from to width) = length_tree width.0 ∷ (point_trees from ++ point_trees to)
+shape_trees (Rectangle centre width height) = length_tree width.0 ∷ length_tree height.0 ∷ point_trees centre
+shape_trees (Outline points) = whole_tree (length points) ∷ (flat_map point_trees points ++ flat_map point_trees (take 1 points))
+
+abbrev pub exposure_tree : Bool → Tree
+exposure_tree true = whole_tree 1
+exposure_tree false = whole_tree 0
+
+abbrev pub part_for : MacroPrimitive → Part
+part_for prim = Primitive (code_number prim.shape) (exposure_tree prim.paint ∷ (shape_trees prim.shape ++ whole_tree 0 ∷ []))
+
+abbrev pub parts_for : List MacroPrimitive → List Part
+parts_for prims = map part_for prims
 
 -- ---- one field
 
@@ -44,14 +80,8 @@ neg_within : (n : ℕ) → n < 10 ^ 15 → within (neg_ℤ (pos n)) ≡ Some (ne
 neg_within zero h = refl
 neg_within (suc n) h = rw (lt-ltb (suc n) 1000000000000000 h) refl
 
-thousandfold : (n : ℕ) → billionths (last_six n) ≡ value_of (last_six n) * 1000
-unfolding billionths
-thousandfold n = refl
-
 number_again : (n : ℕ) → n < 10 ^ 12 → n * 1000 ≡ number_written (decimal (n / 1000000)) (last_six n)
-number_again n h =
-    let v : value_of (decimal (n / 1000000)) ≡ n / 1000000 = value_of_decimal (n / 1000000) (omega arith) in
-    omega (arith, v, thousandfold n, six_value n)
+number_again n h = sym (sum_again n h)
 
 pointed_number : (n : ℕ) → n < 10 ^ 12 → IsNumber (decimal (n / 1000000)) (last_six n)
 pointed_number n h =
@@ -146,21 +176,15 @@ one_field = written_field (codes "1") 1 refl (omega arith) refl (omega arith)
 abbrev pub AreFields : List (List ℕ) → List Tree → List ℤ → Type 0
 AreFields [] [] [] = Unit {0}
 AreFields (text ∷ texts) (tree ∷ trees) (value ∷ values) = IsField text tree value × AreFields texts trees values
-AreFields [] [] (_ ∷ _) = ⊥
-AreFields [] (_ ∷ _) _ = ⊥
-AreFields (_ ∷ _) [] _ = ⊥
-AreFields (_ ∷ _) (_ ∷ _) [] = ⊥
+AreFields _ _ _ = ⊥
 
 pub more_fields : (texts more : List (List ℕ)) (trees others : List Tree) (values rest : List ℤ)
     → AreFields texts trees values → AreFields more others rest
     → AreFields (texts ++ more) (trees ++ others) (values ++ rest)
 more_fields [] more [] others [] rest h k = k
-more_fields [] more [] others (_ ∷ _) rest h k = absurd h
-more_fields [] more (_ ∷ _) others values rest h k = absurd h
-more_fields (_ ∷ _) more [] others values rest h k = absurd h
-more_fields (_ ∷ _) more (_ ∷ _) others [] rest h k = absurd h
 more_fields (_ ∷ texts) more (_ ∷ trees) others (_ ∷ values) rest h k =
     (h.0, more_fields texts more trees others values rest h.1 k)
+more_fields _ more _ others _ rest h k = absurd h
 
 -- runs of bytes that numbers may hold
 abbrev pub AreRuns : List (List ℕ) → Type 0
@@ -169,27 +193,21 @@ AreRuns texts = AllByRecursion (λ text. list_all is_numeric text ≡ true) text
 pub fields_numeric : (texts : List (List ℕ)) (trees : List Tree) (values : List ℤ) → AreFields texts trees values
     → AreRuns texts
 fields_numeric [] trees values h = tt
-fields_numeric (_ ∷ _) [] values h = absurd h
-fields_numeric (_ ∷ _) (_ ∷ _) [] h = absurd h
 fields_numeric (_ ∷ texts) (_ ∷ trees) (_ ∷ values) h = (h.0.numeric, fields_numeric texts trees values h.1)
+fields_numeric _ _ _ h = absurd h
 
 pub fields_read : (texts : List (List ℕ)) (trees : List Tree) (values : List ℤ) → AreFields texts trees values
     → AreExpressions texts trees
 fields_read [] [] values h = tt
-fields_read [] (_ ∷ _) values h = absurd h
-fields_read (_ ∷ _) [] values h = absurd h
-fields_read (_ ∷ _) (_ ∷ _) [] h = absurd h
 fields_read (_ ∷ texts) (_ ∷ trees) (_ ∷ values) h = (h.0.reads, fields_read texts trees values h.1)
+fields_read _ _ _ h = absurd h
 
 pub fields_worth : (variables : Values) (texts : List (List ℕ)) (trees : List Tree) (values : List ℤ)
     → AreFields texts trees values → all_worth variables trees ≡ Ok values
 fields_worth variables [] [] [] h = refl
-fields_worth variables [] [] (_ ∷ _) h = absurd h
-fields_worth variables [] (_ ∷ _) values h = absurd h
-fields_worth variables (_ ∷ _) [] values h = absurd h
-fields_worth variables (_ ∷ _) (_ ∷ _) [] h = absurd h
 fields_worth variables (_ ∷ texts) (_ ∷ trees) (_ ∷ values) h =
     rw (h.0.is_worth variables, fields_worth variables texts trees values h.1) refl
+fields_worth variables _ _ _ h = absurd h
 
 -- ---- the fields of a primitive
 

@@ -1,27 +1,36 @@
--- What the operations of canonical texts say.
+-- How operations, blocks and repeats are spelled.
 use Rattle.std.proofs.Common.{◌≡◌, ℕ, suc, ◌^◌, ◌<◌, ◌≤◌, List, [], ◌∷◌, ◌++◌, length, Option, None, Some, refl, sym}
-use Rattle.std.proofs.Common.{ap, subst, ◌∙◌, arith, append_assoc, append-nil, codes, decimal}
+use Rattle.std.proofs.Common.{ap, subst, ◌∙◌, arith, append_assoc, append-nil, codes, decimal, true, false, eqb}
+use Rattle.std.proofs.Common.{eq-eqb, ne_eqb}
 use Rattle.std.specs.Prelude.{ℤ, pos, negsuc, ◌-ℤ◌, unsigned_abs}
 use Rattle.std.proofs.lemmas.Int.{ints}
 use Rattle.std.proofs.lemmas.Bool.{le-ltb}
 use Rattle.std.proofs.lemmas.Fmt.{decimal_nonempty, length-decimal-le}
+use Rattle.std.specs.List.{list_all}
 use Rattle.cam_units.specs.declared.point.Point.{Point}
 use Rattle.cam_units.specs.Board.{IsOnBoard}
-use Rattle.cam_words.specs.Cutting.{IsCommand}
-use Rattle.cam_numbers.specs.Numbers.{is_numeric, natural, natural_within, value_of, integer}
+use Rattle.cam_numbers.specs.Numbers.{is_numeric, natural, natural_within, value_of, integer, defined_number}
 use Rattle.cam_commands.specs.declared.parts.Slot.TheVariants.{Omitted}
 use Rattle.cam_commands.specs.declared.parts.OperationCode.{OperationCode}
 use Rattle.cam_commands.specs.declared.parts.OperationCode.TheVariants.{Plot, Move, Flash}
-use Rattle.cam_commands.specs.WordCommands.{Parts, operation_code, operation_of}
-use Rattle.cam_commands.specs.Laws.{IsRun, AreRuns, text_of}
+use Rattle.cam_commands.specs.WordCommands.{OperationParts, operation_code, operation_of}
+use Rattle.cam_commands.specs.Laws.{IsNumberRun, ArePartRuns, parts_text}
 use Rattle.cam_commands.proofs.Written.{words_say_their_parts}
-use Rattle.cam_gerber.specs.Computing.{statement_of}
-use Rattle.cam_writers.specs.Lengths.{whole}
-use Rattle.cam_writers.specs.Commands.{word, coordinates, offsets, move_command, flash_command, line_command, arc_command}
-use Rattle.cam_writers.specs.GerberTexts.{says}
-use Rattle.cam_writers.proofs.Decimals.{IsUnsigned, unsigned, signed_without, signed_minus, digits_of_decimal, natural_again}
-use Rattle.cam_writers.proofs.GerberPasts.{operation_to, move_to, flash_at, line_to, arc_to}
-use Rattle.cam_writers.proofs.GerberSayings.{IsCode, code_append, word_found, word_says, whole_run, whole_code}
+use Rattle.cam_gerber.specs.Computing.{statement_said}
+use Rattle.cam_writers.specs.Lengths.{whole, mm, scaled}
+use Rattle.cam_writers.specs.Phrases.{ArcTo, FlashAt, LineTo, MoveTo, coordinates, offsets, operation_to, said}
+use Rattle.cam_writers.specs.Phrases.{spelled, word, EnterBlock, EnterRepeat, LeaveBlock, LeaveRepeat}
+use Rattle.cam_writers.proofs.Decimals.{IsUnsigned, unsigned, signed_without, signed_minus, digits_of_decimal}
+use Rattle.cam_writers.proofs.Decimals.{decimal_run, natural_again, mm_again, mm_numeric}
+use Rattle.cam_writers.proofs.GerberSayings.{IsCode, Spells, Tells, code_append, whole_code, whole_run, word_tells}
+use Rattle.cam_writers.proofs.GerberSayings.{extended_tells, packed_code, decimal_code, mm_code}
+use Rattle.cam_commands.specs.declared.names.Name.TheVariants.{ApertureBlock, StepAndRepeat}
+use Rattle.cam_commands.specs.Fields.{field}
+use Rattle.cam_commands.specs.Numbers.{count}
+use Rattle.cam_commands.specs.Commands.{OpenBlock}
+use Rattle.cam_commands.specs.ExtendedCommands.{named_command, block_command, repeat_command}
+use Rattle.cam_writers.proofs.Runs.{Stops, run_read, run_left, run_alone_read, run_alone_left}
+use Rattle.cam_numbers.specs.Numbers as numbers
 
 -- ---- coordinates
 
@@ -43,7 +52,7 @@ integer_again (negsuc n) h = signed_minus (natural_within 15) (decimal (suc n)) 
 -- ---- operations by their parts
 
 -- a point, and the runs behind I, J and D
-abbrev parts_to : Point → Option (List ℕ) → Option (List ℕ) → List ℕ → Parts
+abbrev parts_to : Point → Option (List ℕ) → Option (List ℕ) → List ℕ → OperationParts
 parts_to to across up code = record {
   mode = None;
   x = Some (whole to.x);
@@ -71,60 +80,39 @@ point_code x y first second rest hx hy one two others =
     (code_append (whole x) (second ∷ (whole y ++ rest)) (whole_code x hx)
     (code_append (second ∷ []) (whole y ++ rest) two (code_append (whole y) rest (whole_code y hy) others)))
 
-plain_says : (to : Point) (code : List ℕ) (n : ℕ) (named : OperationCode) → IsOnBoard to
-    → AreRuns (parts_to to None None code) → IsCode (68 ∷ code) → natural code ≡ Some n → operation_code n ≡ Some named
-    → says (word (coordinates to ++ 68 ∷ code)) ≡ operation_to to Omitted Omitted named
-unfolding operation_of
-plain_says to code n named on runs good is e =
-    let p : Parts = parts_to to None None code in
-    let x = point_code to.x to.y 88 89 (68 ∷ code) (omega (arith, on.x)) (omega (arith, on.y)) refl refl good in
-    let said = words_say_their_parts.bare p runs refl (omega arith) in
-    let ex = integer_again to.x (omega (arith, on.x)) in
-    let ey = integer_again to.y (omega (arith, on.y)) in
-    ap (λ (t : List ℕ). says (word t)) (coordinates_are to (68 ∷ code)) ∙ word_says (text_of p) x refl
-    ∙ ap statement_of said ∙ rw (is, e, ex, ey) refl
-
 -- ---- moves, flashes and lines
 
-runs_to : (to : Point) (code : List ℕ) → IsOnBoard to → IsRun code → AreRuns (parts_to to None None code)
-runs_to to code on is = record {
-  x = whole_run to.x (omega (arith, on.x));
-  y = whole_run to.y (omega (arith, on.y));
-  i = tt;
-  j = tt;
-  d = is;
-}
+plain_tells : (to : Point) (code : List ℕ) (n : ℕ) (named : OperationCode) → IsOnBoard to → IsNumberRun code
+    → IsCode (68 ∷ code) → natural code ≡ Some n → operation_code n ≡ Some named
+    → Tells (word (coordinates to ++ 68 ∷ code)) (operation_to to Omitted Omitted named)
+unfolding operation_of
+plain_tells to code n named on run good is e =
+    let p : OperationParts = parts_to to None None code in
+    let runs : ArePartRuns p = record {
+      x = whole_run to.x (omega (arith, on.x));
+      y = whole_run to.y (omega (arith, on.y));
+      i = tt;
+      j = tt;
+      d = run;
+    } in
+    let all = point_code to.x to.y 88 89 (68 ∷ code) (omega (arith, on.x)) (omega (arith, on.y)) refl refl good in
+    let ex = integer_again to.x (omega (arith, on.x)) in
+    let ey = integer_again to.y (omega (arith, on.y)) in
+    subst (λ (t : List ℕ). Tells (word t) (operation_to to Omitted Omitted named)) (sym (coordinates_are to (68 ∷ code)))
+    (word_tells (parts_text p) _ all refl
+    (ap statement_said (words_say_their_parts.bare p runs refl (omega arith)) ∙ rw (is, e, ex, ey) refl))
 
-plain_found : (to : Point) (code : List ℕ) → IsOnBoard to → IsCode (68 ∷ code)
-    → IsCommand (word (coordinates to ++ 68 ∷ code))
-plain_found to code on good =
-    subst (λ (t : List ℕ). IsCommand (word t)) (sym (coordinates_are to (68 ∷ code)))
-    (word_found (text_of (parts_to to None None code))
-    (point_code to.x to.y 88 89 (68 ∷ code) (omega (arith, on.x)) (omega (arith, on.y)) refl refl good))
+pub move_spells : (to : Point) → IsOnBoard to → Spells (MoveTo to)
+unfolding spelled operation_code natural value_of is_numeric
+move_spells to on = plain_tells to (codes "02") 2 Move on refl refl refl refl
 
-pub move_says : (to : Point) → IsOnBoard to → says (move_command to) ≡ move_to to
-unfolding move_command operation_code natural value_of is_numeric
-move_says to on = plain_says to (codes "02") 2 Move on (runs_to to (codes "02") on refl) refl refl refl
+pub flash_spells : (at : Point) → IsOnBoard at → Spells (FlashAt at)
+unfolding spelled operation_code natural value_of is_numeric
+flash_spells at on = plain_tells at (codes "03") 3 Flash on refl refl refl refl
 
-pub move_found : (to : Point) → IsOnBoard to → IsCommand (move_command to)
-unfolding move_command
-move_found to on = plain_found to (codes "02") on refl
-
-pub flash_says : (at : Point) → IsOnBoard at → says (flash_command at) ≡ flash_at at
-unfolding flash_command operation_code natural value_of is_numeric
-flash_says at on = plain_says at (codes "03") 3 Flash on (runs_to at (codes "03") on refl) refl refl refl
-
-pub flash_found : (at : Point) → IsOnBoard at → IsCommand (flash_command at)
-unfolding flash_command
-flash_found at on = plain_found at (codes "03") on refl
-
-pub line_says : (to : Point) → IsOnBoard to → says (line_command to) ≡ line_to to
-unfolding line_command operation_code natural value_of is_numeric
-line_says to on = plain_says to (codes "01") 1 Plot on (runs_to to (codes "01") on refl) refl refl refl
-
-pub line_found : (to : Point) → IsOnBoard to → IsCommand (line_command to)
-unfolding line_command
-line_found to on = plain_found to (codes "01") on refl
+pub line_spells : (to : Point) → IsOnBoard to → Spells (LineTo to)
+unfolding spelled operation_code natural value_of is_numeric
+line_spells to on = plain_tells to (codes "01") 1 Plot on refl refl refl refl
 
 -- ---- arcs
 
@@ -143,18 +131,18 @@ short_offsets start centre from about = record {
   up = short_offset start.y centre.y from.y about.y;
 }
 
-abbrev arc_parts : Point → Point → Point → Parts
+abbrev arc_parts : Point → Point → Point → OperationParts
 arc_parts start to centre =
     parts_to to (Some (whole (centre.x -ℤ start.x))) (Some (whole (centre.y -ℤ start.y))) (codes "01")
 
 arc_text : (start to centre : Point)
-    → coordinates to ++ (offsets start centre ++ codes "D01") ≡ text_of (arc_parts start to centre)
+    → coordinates to ++ (offsets start centre ++ codes "D01") ≡ parts_text (arc_parts start to centre)
 arc_text start to centre =
     coordinates_are to (offsets start centre ++ codes "D01")
     ∙ ap (λ (t : List ℕ). 88 ∷ (whole to.x ++ 89 ∷ (whole to.y ++ t))) (offsets_are start centre (codes "D01"))
 
 arc_code : (start to centre : Point) → IsOnBoard to → HasOffsets start centre
-    → IsCode (text_of (arc_parts start to centre))
+    → IsCode (parts_text (arc_parts start to centre))
 arc_code start to centre on short =
     point_code to.x to.y 88 89
     (73 ∷ (whole (centre.x -ℤ start.x) ++ 74 ∷ (whole (centre.y -ℤ start.y) ++ codes "D01")))
@@ -162,7 +150,7 @@ arc_code start to centre on short =
     (point_code (centre.x -ℤ start.x) (centre.y -ℤ start.y) 73 74 (codes "D01") (omega (arith, short.across))
     (omega (arith, short.up)) refl refl refl)
 
-arc_runs : (start to centre : Point) → IsOnBoard to → HasOffsets start centre → AreRuns (arc_parts start to centre)
+arc_runs : (start to centre : Point) → IsOnBoard to → HasOffsets start centre → ArePartRuns (arc_parts start to centre)
 unfolding is_numeric
 arc_runs start to centre on short = record {
   x = whole_run to.x (omega (arith, on.x));
@@ -173,7 +161,7 @@ arc_runs start to centre on short = record {
 }
 
 arc_said : (start to centre : Point) → IsOnBoard to → HasOffsets start centre
-    → statement_of (operation_of (arc_parts start to centre)) ≡ arc_to start to centre
+    → statement_said (operation_of (arc_parts start to centre)) ≡ said (ArcTo start to centre)
 unfolding operation_of operation_code natural value_of
 arc_said start to centre on short =
     rw (
@@ -183,21 +171,121 @@ arc_said start to centre on short =
       integer_again (centre.y -ℤ start.y) (omega (arith, short.up)),
     ) refl
 
-pub arc_says : (start to centre : Point) → IsOnBoard start → IsOnBoard to → IsOnBoard centre
-    → says (arc_command start to centre) ≡ arc_to start to centre
-unfolding arc_command
-arc_says start to centre from on about =
+pub arc_spells : (start to centre : Point) → IsOnBoard start → IsOnBoard to → IsOnBoard centre → Spells (ArcTo start to centre)
+unfolding spelled
+arc_spells start to centre from on about =
     let short = short_offsets start centre from about in
-    let runs = arc_runs start to centre on short in
-    let said = words_say_their_parts.bare (arc_parts start to centre) runs refl (omega arith) in
-    ap (λ (t : List ℕ). says (word t)) (arc_text start to centre)
-    ∙ word_says (text_of (arc_parts start to centre)) (arc_code start to centre on short) refl
-    ∙ ap statement_of said ∙ arc_said start to centre on short
+    let parts = words_say_their_parts.bare (arc_parts start to centre) (arc_runs start to centre on short) refl (omega arith) in
+    subst (λ (t : List ℕ). Tells (word t) (said (ArcTo start to centre))) (sym (arc_text start to centre))
+    (word_tells (parts_text (arc_parts start to centre)) _ (arc_code start to centre on short) refl
+    (ap statement_said parts ∙ arc_said start to centre on short))
 
-pub arc_found : (start to centre : Point) → IsOnBoard start → IsOnBoard to → IsOnBoard centre
-    → IsCommand (arc_command start to centre)
-unfolding arc_command
-arc_found start to centre from on about =
-    subst (λ (t : List ℕ). IsCommand (word t)) (sym (arc_text start to centre))
-    (word_found (text_of (arc_parts start to centre))
-    (arc_code start to centre on (short_offsets start centre from about)))
+-- ---- fields
+
+field_read : (letter : ℕ) (run rest : List ℕ) → list_all is_numeric run ≡ true → Stops is_numeric rest
+    → field letter (letter ∷ (run ++ rest)) ≡ (Some run, rest)
+unfolding field
+field_read letter run rest all stops =
+    rw (eq-eqb letter letter refl, run_read is_numeric run rest all stops, run_left is_numeric run rest all stops) refl
+
+field_alone : (letter : ℕ) (run : List ℕ) → list_all is_numeric run ≡ true
+    → field letter (letter ∷ run) ≡ (Some run, [])
+unfolding field
+field_alone letter run all = rw (eq-eqb letter letter refl, run_alone_read is_numeric run all, run_alone_left is_numeric run all) refl
+
+-- ---- numbers
+
+pub defined_again : (n : ℕ) → 10 ≤ n → n ≤ 2147483647 → defined_number (decimal n) ≡ Some n
+defined_again n least greatest =
+    rw (natural_again n (omega arith), le-ltb n 10 least, le-ltb 2147483647 n greatest) refl
+
+count_again : (n : ℕ) → 0 < n → n ≤ 999999999 → count (decimal n) ≡ Some n
+unfolding count natural_within
+count_again n some few =
+    let short : length (decimal n) ≤ 9 = length-decimal-le 9 n (omega arith) (omega arith) (omega arith) in
+    let e : eqb n 0 ≡ false = ne_eqb n 0 (λ (z : n ≡ 0). omega (arith, some)) in
+    rw (le-ltb 9 (length (decimal n)) short, natural_again n (omega arith), e) refl
+
+step_again : (z : ℤ) → unsigned_abs z < 1000000000 → numbers.decimal (mm z) ≡ Some (scaled z)
+step_again z h = mm_again z (omega arith)
+
+-- ---- blocks
+
+block_begun : (n : ℕ) → 10 ≤ n → n ≤ 2147483647 → block_command (68 ∷ decimal n) ≡ OpenBlock (Some n)
+unfolding block_command
+block_begun n least greatest =
+    let some : eqb (length (68 ∷ decimal n)) 0 ≡ false =
+    ne_eqb (length (68 ∷ decimal n)) 0 (λ (z : length (68 ∷ decimal n) ≡ 0). omega arith) in
+    rw (some, field_alone 68 (decimal n) (decimal_run n (omega arith)), defined_again n least greatest) refl
+
+pub block_begun_spells : (n : ℕ) → 10 ≤ n → n ≤ 2147483647 → Spells (EnterBlock n)
+unfolding spelled named_command
+block_begun_spells n least greatest =
+    let code = decimal_code n (omega arith) in
+    extended_tells ApertureBlock (68 ∷ decimal n) _ refl code
+    (rw (packed_code (68 ∷ decimal n) code, block_begun n least greatest) refl)
+
+pub block_ended_spells : Spells LeaveBlock
+unfolding spelled named_command block_command
+block_ended_spells = extended_tells ApertureBlock [] _ refl refl refl
+
+-- ---- repeats
+
+-- what a repeat may have
+pub record IsWritableRepeat (columns rows : ℕ) (i j : ℤ) : Type 0 where
+  pub some_columns : 0 < columns
+  pub few_columns : columns ≤ 999999999
+  pub some_rows : 0 < rows
+  pub few_rows : rows ≤ 999999999
+  pub across : unsigned_abs i < 1000000000
+  pub up : unsigned_abs j < 1000000000
+
+-- behind `SR`
+abbrev repeat_text : ℕ → ℕ → ℤ → ℤ → List ℕ
+repeat_text columns rows i j = 88 ∷ (decimal columns ++ 89 ∷ (decimal rows ++ 73 ∷ (mm i ++ 74 ∷ mm j)))
+
+repeat_begun : (columns rows : ℕ) (i j : ℤ) → IsWritableRepeat columns rows i j
+    → statement_said (repeat_command (repeat_text columns rows i j)) ≡ said (EnterRepeat columns rows i j)
+unfolding repeat_command is_numeric
+repeat_begun columns rows i j h =
+    let text : List ℕ = repeat_text columns rows i j in
+    let some : eqb (length text) 0 ≡ false = ne_eqb (length text) 0 (λ (z : length text ≡ 0). omega arith) in
+    let few_columns = h.few_columns in
+    let few_rows = h.few_rows in
+    let behind_rows : List ℕ = 73 ∷ (mm i ++ 74 ∷ mm j) in
+    let behind_columns : List ℕ = 89 ∷ (decimal rows ++ behind_rows) in
+    let x = field_read 88 (decimal columns) behind_columns (decimal_run columns (omega arith)) refl in
+    let y = field_read 89 (decimal rows) behind_rows (decimal_run rows (omega arith)) refl in
+    let across = field_read 73 (mm i) (74 ∷ mm j) (mm_numeric i (omega (arith, h.across))) refl in
+    let up = field_alone 74 (mm j) (mm_numeric j (omega (arith, h.up))) in
+    rw (
+      some,
+      x,
+      y,
+      across,
+      up,
+      count_again columns h.some_columns few_columns,
+      count_again rows h.some_rows few_rows,
+      step_again i h.across,
+      step_again j h.up,
+    ) refl
+
+repeat_code : (columns rows : ℕ) (i j : ℤ) → IsWritableRepeat columns rows i j → IsCode (repeat_text columns rows i j)
+repeat_code columns rows i j h =
+    let few_columns = h.few_columns in
+    let few_rows = h.few_rows in
+    code_append (decimal columns) (89 ∷ (decimal rows ++ 73 ∷ (mm i ++ 74 ∷ mm j))) (decimal_code columns (omega arith))
+    (code_append (decimal rows) (73 ∷ (mm i ++ 74 ∷ mm j)) (decimal_code rows (omega arith))
+    (code_append (mm i) (74 ∷ mm j) (mm_code i (omega (arith, h.across))) (mm_code j (omega (arith, h.up)))))
+
+pub repeat_begun_spells : (columns rows : ℕ) (i j : ℤ) → IsWritableRepeat columns rows i j
+    → Spells (EnterRepeat columns rows i j)
+unfolding spelled named_command
+repeat_begun_spells columns rows i j h =
+    let code = repeat_code columns rows i j h in
+    extended_tells StepAndRepeat (repeat_text columns rows i j) _ refl code
+    (rw (packed_code (repeat_text columns rows i j) code) (repeat_begun columns rows i j h))
+
+pub repeat_ended_spells : Spells LeaveRepeat
+unfolding spelled named_command repeat_command field
+repeat_ended_spells = extended_tells StepAndRepeat [] _ refl refl refl

@@ -6,14 +6,14 @@ use Rattle.cam_objects.specs.Contents.{Content, DrillContent}
 use Rattle.cam_objects.specs.Soundness.{IsSoundContent}
 use Rattle.cam_words.specs.Reading.{reading}
 use Rattle.cam_gerber.specs.Computing.{told_of, reading_of as gerber_reading}
-use Rattle.cam_xnc.specs.Reading.{said, told_lines, reading_of as drill_reading}
+use Rattle.cam_xnc.specs.Reading.{line_said, told_lines, drill_reading_of as drill_reading}
 use Rattle.cam_writers.specs.DrillTexts.{Lines, text_of, said_by, lines_before_end, drill_text}
-use Rattle.cam_writers.specs.GerberTexts.{Commands, text_of as gerber_text_of, said_by as said_by_commands}
-use Rattle.cam_writers.specs.GerberTexts.{commands_before_end, gerber_text}
+use Rattle.cam_writers.specs.GerberTexts.{Phrases, text_of as gerber_text_of, said_by as said_by_phrases}
+use Rattle.cam_writers.specs.GerberTexts.{phrases_before_end, gerber_text}
 
 -- what the reader has read of the text of these lines is what they say
 abbrev pub IsTold : Lines → Type 0
-IsTold lines = map said (reverse (told_lines (text_of lines))) ≡ said_by lines
+IsTold lines = map line_said (reverse (told_lines (text_of lines))) ≡ said_by lines
 
 -- wherever a canonical text is cut behind a line: so the state that settings are read off is the reader's
 abbrev pub TellsItsLines : Type 0
@@ -36,16 +36,16 @@ DrillWritesAgain =
 
 -- ---- Gerber texts
 
--- what the reader is told by the text of these commands is what they say
-abbrev pub IsToldByCommands : Commands → Type 0
-IsToldByCommands commands =
-    map (λ answer. (told_of answer).says) (reverse (reading 0 (gerber_text_of commands))) ≡ said_by_commands commands
+-- what the reader is told by the text of these phrases is what they say
+abbrev pub IsToldByPhrases : Phrases → Type 0
+IsToldByPhrases phrases =
+    map (λ answer. (told_of answer).says) (reverse (reading 0 (gerber_text_of phrases))) ≡ said_by_phrases phrases
 
--- wherever a canonical text is cut behind a command: so the state that settings are read off is the reader's
+-- wherever a canonical text is cut behind a phrase: so the state that settings are read off is the reader's
 abbrev pub TellsItsCommands : Type 0
 TellsItsCommands =
     (layer : Content) (left : ℕ) → AreAttributes layer.attributes → IsSoundContent layer.entries layer.items
-    → IsToldByCommands (drop left (commands_before_end layer.attributes layer.entries layer.items))
+    → IsToldByPhrases (drop left (phrases_before_end layer.attributes layer.entries layer.items))
 
 -- the canonical text of a layer is read as its file attributes in order, its dictionary and its items
 abbrev pub GerberReadsBack : Type 0

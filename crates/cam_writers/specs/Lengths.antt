@@ -1,7 +1,7 @@
 -- Lengths as canonical texts write them: coordinates of Gerber operations as whole nm, all others in millimetres with
 -- exactly six decimals. Gerber Layer Format Specification, "Coordinate data"; XNC Format Specification, "Coordinates"
 -- and "Tool declaration".
-use Rattle.std.specs.Prelude.{ℕ, suc, ◌+◌, ◌/◌, ◌%◌, ℤ, pos, negsuc, List, [], ◌∷◌, ◌++◌, decimal}
+use Rattle.std.specs.Prelude.{ℕ, suc, ◌+◌, ◌*◌, ◌/◌, ◌%◌, ℤ, pos, negsuc, neg_ℤ, List, [], ◌∷◌, ◌++◌, decimal}
 
 -- the last digit of a number
 abbrev pub last_digit : ℕ → ℕ
@@ -26,3 +26,8 @@ mm (negsuc nm) = 45 ∷ unsigned_mm (suc nm)
 abbrev pub whole : ℤ → List ℕ
 whole (pos nm) = decimal nm
 whole (negsuc nm) = 45 ∷ decimal (suc nm)
+
+-- a length in nm as a number of mm, in 10^-9 of a mm
+abbrev pub scaled : ℤ → ℤ
+scaled (pos nm) = pos (nm * 1000)
+scaled (negsuc nm) = neg_ℤ (pos (suc nm * 1000))

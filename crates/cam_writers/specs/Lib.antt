@@ -1,5 +1,5 @@
 pub mod Lengths
-pub mod Commands
+pub mod Phrases
 pub mod DrillTexts
 pub mod GerberTexts
 pub mod Laws

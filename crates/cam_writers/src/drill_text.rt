@@ -1,14 +1,13 @@
 //! The text of a drill layer.
 
-ghost use Rattle.std.specs.Prelude.{◌≡◌, ◌++◌, codes, All, IfOk, OnOk, Ok};
-ghost use Rattle.cam_units.specs.Board.{IsOnBoard};
-ghost use Rattle.cam_objects.specs.DrillSoundness.{IsSoundDrillLayer, drill_points_of, tool_of};
-ghost use Rattle.cam_xnc.specs.Reading.{reading_of};
-ghost use Rattle.cam_writers.specs.DrillTexts.{Lines, declaration, drill_text, opening, point_line, text_of, tool_line};
-ghost use Rattle.cam_writers.specs.DrillTexts.{with_cuts, with_drill_mode, with_hit, with_item, with_rout};
-ghost use Rattle.cam_writers.specs.DrillTexts.{with_selected, with_tools};
-ghost use Rattle.cam_writers.specs.Machinery.Tracking.{AreSoundTools, IsInRange, Tracks};
+ghost use Rattle.std.specs.Prelude.{◌≡◌, ◌≤◌, ◌++◌, ◌∷◌, [], codes, decimal, fold, IfOk, OnOk, Ok};
 ghost use Rattle.cam_objects.specs.Contents.{drill_content_of};
+ghost use Rattle.cam_objects.specs.DrillSoundness.{IsSoundDrillLayer, tool_of};
+ghost use Rattle.cam_xnc.specs.declared.statement.Statement.TheVariants.{HitAt};
+ghost use Rattle.cam_xnc.specs.Reading.{drill_reading_of};
+ghost use Rattle.cam_writers.specs.DrillTexts.{Lines, declaration, drill_text, line_at, opening, point_line, text_of};
+ghost use Rattle.cam_writers.specs.DrillTexts.{with_cut, with_drill_mode, with_item, with_rout, with_selected, with_tool};
+ghost use Rattle.cam_writers.specs.Machinery.Tracking.{Tracks};
 
 use crate::lengths::{push_mm, push_number};
 use cam_objects::{DrillItem, DrillLayer, Tools};
@@ -24,9 +23,8 @@ fn push_line(text: &mut Vec<u8>, line: &[u8]) -> Result<(), AllocError>
 }
 
 /// Writes the line that selects a tool.
-#[tactic(auto, unfolding(crate::specs::DrillTexts::tool_line))]
 fn push_tool_line(text: &mut Vec<u8>, tool: u16) -> Result<(), AllocError>
-    ensures { OnOk result (text.new.items ≡ text.old.items ++ (tool_line tool ++ codes "\n")) }
+    ensures { OnOk result (text.new.items ≡ text.old.items ++ ((codes "T" ++ decimal tool) ++ codes "\n")) }
 {
     text.extend_from_slice(b"T")?;
     push_number(text, u64::from(tool))?;
@@ -50,7 +48,7 @@ pub fn push_declaration(text: &mut Vec<u8>, tool: u16, diameter: Nm) -> Result<(
 /// Writes the line of each tool.
 fn push_declarations(text: &mut Vec<u8>, tools: &Tools) -> Result<(), AllocError>
     ensures { (lines : Lines) → text.old.items ≡ text_of lines
-        → OnOk result (text.new.items ≡ text_of (with_tools lines tools.now)) }
+        → OnOk result (text.new.items ≡ text_of (fold with_tool lines tools.now)) }
 {
     for place in 0..tools.len() {
         if let Some((tool, diameter)) = tools.at(place) {
@@ -77,7 +75,7 @@ fn push_point_line(text: &mut Vec<u8>, word: &[u8], at: Point) -> Result<(), All
 /// Writes the line of each cut of a rout.
 fn push_cuts(text: &mut Vec<u8>, points: &[Point]) -> Result<(), AllocError>
     ensures { (lines : Lines) → text.old.items ≡ text_of lines
-        → OnOk result (text.new.items ≡ text_of (with_cuts lines points.now)) }
+        → OnOk result (text.new.items ≡ text_of (fold with_cut lines points.now)) }
 {
     for to in points {
         push_point_line(text, b"G01", *to)?;
@@ -98,7 +96,6 @@ struct DrillText {
 impl DrillText {
     /// The lines before the items.
     fn new(alloc: Global, tools: &Tools) -> Result<DrillText, AllocError>
-        requires { AreSoundTools tools.now }
         ensures { IfOk result (Tracks (opening tools.now)) }
     {
         let mut text = Vec::new(alloc);
@@ -116,7 +113,7 @@ impl DrillText {
 
     /// Selects a tool, where another is in force.
     fn select(&mut self, tool: u16) -> Result<(), AllocError>
-        requires { IsInRange tool }
+        requires { 1 ≤ tool }
         ensures { (lines : Lines) → Tracks lines self.old
             → OnOk result (Tracks (with_selected tool lines) self.new) }
     {
@@ -141,16 +138,14 @@ impl DrillText {
 
     /// Writes a hit.
     fn write_hit(&mut self, at: Point) -> Result<(), AllocError>
-        requires { IsOnBoard at }
         ensures { (lines : Lines) → Tracks lines self.old
-            → OnOk result (Tracks (with_hit at lines) self.new) }
+            → OnOk result (Tracks (line_at [] HitAt at ∷ lines) self.new) }
     {
         push_point_line(&mut self.text, b"", at)
     }
 
     /// Writes a rout.
     fn write_rout(&mut self, points: &[Point]) -> Result<(), AllocError>
-        requires { All IsOnBoard points.now }
         ensures { (lines : Lines) → Tracks lines self.old
             → OnOk result (Tracks (with_rout points.now lines) self.new) }
     {
@@ -167,8 +162,7 @@ impl DrillText {
 
     /// Writes an item, and before it the settings in which it differs from those in force.
     fn write_item(&mut self, item: &DrillItem) -> Result<(), AllocError>
-        requires tool { IsInRange (tool_of item.now) }
-        requires points { All IsOnBoard (drill_points_of item.now) }
+        requires { 1 ≤ tool_of item.now }
         ensures { (lines : Lines) → Tracks lines self.old
             → OnOk result (Tracks (with_item lines item.now) self.new) }
     {
@@ -194,7 +188,7 @@ pub fn xnc_text(alloc: Global, layer: &DrillLayer) -> Result<Vec<u8>, AllocError
     requires { IsSoundDrillLayer layer.now }
     ensures text { IfOk result (λ text.
         text.items ≡ drill_text layer.now.tools layer.now.items.items) }
-    ensures reads_back { IfOk result (λ text. reading_of text.items ≡ Ok (drill_content_of layer.now)) }
+    ensures reads_back { IfOk result (λ text. drill_reading_of text.items ≡ Ok (drill_content_of layer.now)) }
 {
     let mut written = DrillText::new(alloc, &layer.tools)?;
     for item in &layer.items {

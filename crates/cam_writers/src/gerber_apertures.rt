@@ -1,8 +1,8 @@
 //! The definitions of apertures, as Gerber texts write them.
 
 ghost use Rattle.std.specs.Prelude.{◌≡◌, ◌++◌, OnOk};
-ghost use Rattle.cam_writers.specs.Commands.{definition_command, hole_text, macro_name, template_text};
-ghost use Rattle.cam_writers.specs.Machinery.Writing.{line_of, sides_text};
+ghost use Rattle.cam_writers.specs.Phrases.{NameAperture, hole_text, line_of, macro_name, spelled, template_text};
+ghost use Rattle.cam_writers.specs.Machinery.Tracking.{sides_text};
 
 use crate::lengths::{push_mm, push_number};
 use cam_apertures::Aperture;
@@ -70,14 +70,14 @@ fn push_template(text: &mut Vec<u8>, number: u32, aperture: &Aperture) -> Result
 }
 
 /// Writes the command that defines an aperture.
-#[tactic(auto, unfolding(crate::specs::Commands::definition_command))]
+#[tactic(auto, unfolding(crate::specs::Phrases::spelled))]
 pub fn push_definition(
     text: &mut Vec<u8>,
     number: u32,
     aperture: &Aperture,
 ) -> Result<(), AllocError>
     ensures { OnOk result
-        (text.new.items ≡ text.old.items ++ line_of (definition_command number aperture.now)) }
+        (text.new.items ≡ text.old.items ++ line_of (spelled (NameAperture number aperture.now))) }
 {
     text.extend_from_slice(b"%ADD")?;
     push_number(text, u64::from(number))?;

@@ -2,11 +2,10 @@
 
 ghost use Rattle.std.specs.Prelude.{◌≡◌, ◌++◌, ◌-ℤ◌, OnOk};
 ghost use Rattle.cam_units.specs.Board.{IsOnBoard};
-ghost use Rattle.cam_writers.specs.Commands.{arc_command, coordinates, extended, flash_command, line_command};
-ghost use Rattle.cam_writers.specs.Commands.{mirror_command, mode_command, move_command, offsets, open_block};
-ghost use Rattle.cam_writers.specs.Commands.{open_repeat, polarity_command, rotation_command, selection_command};
-ghost use Rattle.cam_writers.specs.Commands.{word};
-ghost use Rattle.cam_writers.specs.Machinery.Writing.{attribute_line, attribute_lines, line_of, steps_text};
+ghost use Rattle.cam_writers.specs.Phrases.{ArcTo, Attach, EnterBlock, EnterRepeat, FlashAt, LineTo, MoveTo, UseAperture};
+ghost use Rattle.cam_writers.specs.Phrases.{UseMirror, UseMode, UsePolarity, UseRotation, coordinates, extended, line_of};
+ghost use Rattle.cam_writers.specs.Phrases.{offsets, spelled, word};
+ghost use Rattle.cam_writers.specs.Machinery.Tracking.{attribute_lines, steps_text};
 
 use crate::lengths::{push_mm, push_number, push_whole};
 use cam_commands::Mode;
@@ -43,9 +42,9 @@ pub fn push_extended(text: &mut Vec<u8>, command: &[u8]) -> Result<(), AllocErro
 }
 
 /// Writes the command that sets a file attribute.
-#[tactic(auto, unfolding(crate::specs::Commands::attribute_command))]
+#[tactic(auto, unfolding(crate::specs::Phrases::spelled))]
 fn push_attribute(text: &mut Vec<u8>, attribute: &Attribute) -> Result<(), AllocError>
-    ensures { OnOk result (text.new.items ≡ text.old.items ++ attribute_line attribute.now) }
+    ensures { OnOk result (text.new.items ≡ text.old.items ++ line_of (spelled (Attach attribute.now))) }
 {
     text.extend_from_slice(b"%TF")?;
     text.extend_from_slice(attribute.name.as_slice())?;
@@ -64,17 +63,17 @@ pub fn push_attributes(text: &mut Vec<u8>, attributes: &[Attribute]) -> Result<(
 }
 
 /// Writes the command that sets the polarity.
-#[tactic(auto, unfolding(crate::specs::Commands::polarity_command))]
+#[tactic(auto, unfolding(crate::specs::Phrases::spelled))]
 pub fn push_polarity(text: &mut Vec<u8>, dark: bool) -> Result<(), AllocError>
-    ensures { OnOk result (text.new.items ≡ text.old.items ++ line_of (polarity_command dark)) }
+    ensures { OnOk result (text.new.items ≡ text.old.items ++ line_of (spelled (UsePolarity dark))) }
 {
     push_extended(text, if dark { b"LPD" } else { b"LPC" })
 }
 
 /// Writes the command that sets the mirror of a turn.
-#[tactic(auto, unfolding(crate::specs::Commands::mirror_command))]
+#[tactic(auto, unfolding(crate::specs::Phrases::spelled))]
 pub fn push_mirror(text: &mut Vec<u8>, turn: Turn) -> Result<(), AllocError>
-    ensures { OnOk result (text.new.items ≡ text.old.items ++ line_of (mirror_command turn)) }
+    ensures { OnOk result (text.new.items ≡ text.old.items ++ line_of (spelled (UseMirror turn))) }
 {
     match turn {
         Turn::R0 | Turn::R90 | Turn::R180 | Turn::R270 => push_extended(text, b"LMN"),
@@ -83,9 +82,9 @@ pub fn push_mirror(text: &mut Vec<u8>, turn: Turn) -> Result<(), AllocError>
 }
 
 /// Writes the command that sets the rotation of a turn.
-#[tactic(auto, unfolding(crate::specs::Commands::rotation_command))]
+#[tactic(auto, unfolding(crate::specs::Phrases::spelled))]
 pub fn push_rotation(text: &mut Vec<u8>, turn: Turn) -> Result<(), AllocError>
-    ensures { OnOk result (text.new.items ≡ text.old.items ++ line_of (rotation_command turn)) }
+    ensures { OnOk result (text.new.items ≡ text.old.items ++ line_of (spelled (UseRotation turn))) }
 {
     match turn {
         Turn::R0 | Turn::M0 => push_extended(text, b"LR0"),
@@ -96,9 +95,9 @@ pub fn push_rotation(text: &mut Vec<u8>, turn: Turn) -> Result<(), AllocError>
 }
 
 /// Writes the command that selects an aperture.
-#[tactic(auto, unfolding(crate::specs::Commands::selection_command))]
+#[tactic(auto, unfolding(crate::specs::Phrases::spelled))]
 pub fn push_selection(text: &mut Vec<u8>, number: u32) -> Result<(), AllocError>
-    ensures { OnOk result (text.new.items ≡ text.old.items ++ line_of (selection_command number)) }
+    ensures { OnOk result (text.new.items ≡ text.old.items ++ line_of (spelled (UseAperture number))) }
 {
     text.extend_from_slice(b"D")?;
     push_number(text, u64::from(number))?;
@@ -106,9 +105,9 @@ pub fn push_selection(text: &mut Vec<u8>, number: u32) -> Result<(), AllocError>
 }
 
 /// Writes the command that sets the mode of plots.
-#[tactic(auto, unfolding(crate::specs::Commands::mode_command))]
+#[tactic(auto, unfolding(crate::specs::Phrases::spelled))]
 pub fn push_mode(text: &mut Vec<u8>, mode: Mode) -> Result<(), AllocError>
-    ensures { OnOk result (text.new.items ≡ text.old.items ++ line_of (mode_command mode)) }
+    ensures { OnOk result (text.new.items ≡ text.old.items ++ line_of (spelled (UseMode mode))) }
 {
     match mode {
         Mode::Linear => push_word(text, b"G01"),
@@ -118,7 +117,7 @@ pub fn push_mode(text: &mut Vec<u8>, mode: Mode) -> Result<(), AllocError>
 }
 
 /// Writes the coordinates of a point.
-#[tactic(auto, unfolding(crate::specs::Commands::coordinates))]
+#[tactic(auto, unfolding(crate::specs::Phrases::coordinates))]
 fn push_coordinates(text: &mut Vec<u8>, at: Point) -> Result<(), AllocError>
     ensures { OnOk result (text.new.items ≡ text.old.items ++ coordinates at) }
 {
@@ -129,27 +128,27 @@ fn push_coordinates(text: &mut Vec<u8>, at: Point) -> Result<(), AllocError>
 }
 
 /// Writes the command that goes to a point.
-#[tactic(auto, unfolding(crate::specs::Commands::move_command))]
+#[tactic(auto, unfolding(crate::specs::Phrases::spelled))]
 pub fn push_move(text: &mut Vec<u8>, to: Point) -> Result<(), AllocError>
-    ensures { OnOk result (text.new.items ≡ text.old.items ++ line_of (move_command to)) }
+    ensures { OnOk result (text.new.items ≡ text.old.items ++ line_of (spelled (MoveTo to))) }
 {
     push_coordinates(text, to)?;
     text.extend_from_slice(b"D02*\n")
 }
 
 /// Writes the command that flashes at a point.
-#[tactic(auto, unfolding(crate::specs::Commands::flash_command))]
+#[tactic(auto, unfolding(crate::specs::Phrases::spelled))]
 pub fn push_flash(text: &mut Vec<u8>, at: Point) -> Result<(), AllocError>
-    ensures { OnOk result (text.new.items ≡ text.old.items ++ line_of (flash_command at)) }
+    ensures { OnOk result (text.new.items ≡ text.old.items ++ line_of (spelled (FlashAt at))) }
 {
     push_coordinates(text, at)?;
     text.extend_from_slice(b"D03*\n")
 }
 
 /// Writes the command that plots a line to a point.
-#[tactic(auto, unfolding(crate::specs::Commands::line_command))]
+#[tactic(auto, unfolding(crate::specs::Phrases::spelled))]
 pub fn push_line(text: &mut Vec<u8>, to: Point) -> Result<(), AllocError>
-    ensures { OnOk result (text.new.items ≡ text.old.items ++ line_of (line_command to)) }
+    ensures { OnOk result (text.new.items ≡ text.old.items ++ line_of (spelled (LineTo to))) }
 {
     push_coordinates(text, to)?;
     text.extend_from_slice(b"D01*\n")
@@ -169,7 +168,7 @@ fn offset(from: Point, to: Point) -> Point
 }
 
 /// Writes how far an arc's centre is from its start.
-#[tactic(auto, unfolding(crate::specs::Commands::offsets))]
+#[tactic(auto, unfolding(crate::specs::Phrases::offsets))]
 fn push_offsets(text: &mut Vec<u8>, start: Point, centre: Point) -> Result<(), AllocError>
     requires start { IsOnBoard start }
     requires centre { IsOnBoard centre }
@@ -183,7 +182,7 @@ fn push_offsets(text: &mut Vec<u8>, start: Point, centre: Point) -> Result<(), A
 }
 
 /// Writes the command that plots an arc.
-#[tactic(auto, unfolding(crate::specs::Commands::arc_command))]
+#[tactic(auto, unfolding(crate::specs::Phrases::spelled))]
 pub fn push_arc(
     text: &mut Vec<u8>,
     start: Point,
@@ -192,7 +191,7 @@ pub fn push_arc(
 ) -> Result<(), AllocError>
     requires start { IsOnBoard start }
     requires centre { IsOnBoard centre }
-    ensures { OnOk result (text.new.items ≡ text.old.items ++ line_of (arc_command start to centre)) }
+    ensures { OnOk result (text.new.items ≡ text.old.items ++ line_of (spelled (ArcTo start to centre))) }
 {
     push_coordinates(text, to)?;
     push_offsets(text, start, centre)?;
@@ -200,9 +199,9 @@ pub fn push_arc(
 }
 
 /// Writes the command that opens a block.
-#[tactic(auto, unfolding(crate::specs::Commands::open_block))]
+#[tactic(auto, unfolding(crate::specs::Phrases::spelled))]
 pub fn push_open_block(text: &mut Vec<u8>, number: u32) -> Result<(), AllocError>
-    ensures { OnOk result (text.new.items ≡ text.old.items ++ line_of (open_block number)) }
+    ensures { OnOk result (text.new.items ≡ text.old.items ++ line_of (spelled (EnterBlock number))) }
 {
     text.extend_from_slice(b"%ABD")?;
     push_number(text, u64::from(number))?;
@@ -220,10 +219,10 @@ fn push_steps(text: &mut Vec<u8>, i: Nm, j: Nm) -> Result<(), AllocError>
 }
 
 /// Writes the command that opens a repeat.
-#[tactic(auto, unfolding(crate::specs::Commands::open_repeat))]
+#[tactic(auto, unfolding(crate::specs::Phrases::spelled))]
 pub fn push_open_repeat(text: &mut Vec<u8>, grid: Grid) -> Result<(), AllocError>
     ensures { OnOk result (text.new.items
-        ≡ text.old.items ++ line_of (open_repeat grid.columns grid.rows grid.i.0 grid.j.0)) }
+        ≡ text.old.items ++ line_of (spelled (EnterRepeat grid.columns grid.rows grid.i.0 grid.j.0))) }
 {
     text.extend_from_slice(b"%SRX")?;
     push_number(text, u64::from(grid.columns))?;

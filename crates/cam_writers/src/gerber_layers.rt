@@ -1,15 +1,11 @@
 //! The text of a Gerber layer.
 
 ghost use Rattle.std.specs.Prelude.{◌≡◌, ◌++◌, [], All, IfOk, OnOk, fold};
-ghost use Rattle.cam_numbers.specs.Numbers.{IsApertureNumber};
-ghost use Rattle.cam_apertures.specs.Soundness.{IsSoundAperture};
-ghost use Rattle.cam_objects.specs.Soundness.{IsSound, IsSoundDictionary};
+ghost use Rattle.cam_objects.specs.Soundness.{IsSound, objects_of};
 ghost use Rattle.cam_objects.specs.Contents.{content_of};
 ghost use Rattle.cam_gerber.specs.Computing.{reading_of};
-ghost use Rattle.cam_writers.specs.GerberTexts.{Commands, gerber_text, text_of, with_entry, with_item};
-ghost use Rattle.cam_writers.specs.GerberTexts.{with_macro};
-ghost use Rattle.cam_writers.specs.Machinery.GerberTracking.{IsWritableEntry, IsWritableGrid, IsWritableItem};
-ghost use Rattle.cam_writers.specs.Machinery.GerberTracking.{IsWritableObject, TracksCommands};
+ghost use Rattle.cam_writers.specs.GerberTexts.{Phrases, gerber_text, text_of, with_entry, with_item, with_macro};
+ghost use Rattle.cam_writers.specs.Machinery.Tracking.{ArePoints, AreEntryPoints, TracksPhrases};
 
 use crate::gerber_apertures::push_definition;
 use crate::gerber_commands::{Grid, push_extended, push_open_block, push_open_repeat, push_word};
@@ -36,8 +32,8 @@ pub fn push_aperture(text: &mut Vec<u8>, number: u32, aperture: &Aperture) -> Re
 impl GerberText {
     /// Writes the macro that an aperture is made of, where it is made of one.
     fn write_macro(&mut self, number: u32, aperture: &Aperture) -> Result<(), AllocError>
-        ensures { (commands : Commands) → TracksCommands commands self.old
-            → OnOk result (TracksCommands (with_macro number aperture.now commands) self.new) }
+        ensures { (phrases : Phrases) → TracksPhrases phrases self.old
+            → OnOk result (TracksPhrases (with_macro number aperture.now phrases) self.new) }
     {
         match aperture {
             Aperture::Prims(primitives) => push_macro(&mut self.text, number, primitives),
@@ -47,10 +43,8 @@ impl GerberText {
 
     /// Writes the definition of an aperture, behind the macro that it is made of.
     fn write_aperture(&mut self, number: u32, aperture: &Aperture) -> Result<(), AllocError>
-        requires number { IsApertureNumber number }
-        requires aperture { IsSoundAperture aperture.now }
-        ensures { (commands : Commands) → TracksCommands commands self.old
-            → OnOk result (TracksCommands (with_entry commands (number, Entry.Aperture aperture.now)) self.new) }
+        ensures { (phrases : Phrases) → TracksPhrases phrases self.old
+            → OnOk result (TracksPhrases (with_entry phrases (number, Entry.Aperture aperture.now)) self.new) }
     {
         self.write_macro(number, aperture)?;
         push_definition(&mut self.text, number, aperture)
@@ -58,10 +52,9 @@ impl GerberText {
 
     /// Writes a block.
     fn write_block(&mut self, number: u32, objects: &[Object]) -> Result<(), AllocError>
-        requires number { IsApertureNumber number }
-        requires objects { All IsWritableObject objects.now }
-        ensures { (commands : Commands) → TracksCommands commands self.old
-            → OnOk result (TracksCommands (with_entry commands (number, Entry.Block objects.now)) self.new) }
+        requires { All ArePoints objects.now }
+        ensures { (phrases : Phrases) → TracksPhrases phrases self.old
+            → OnOk result (TracksPhrases (with_entry phrases (number, Entry.Block objects.now)) self.new) }
     {
         push_open_block(&mut self.text, number)?;
         self.write_objects(objects)?;
@@ -70,9 +63,9 @@ impl GerberText {
 
     /// Writes an entry of the dictionary.
     fn write_entry(&mut self, number: u32, entry: &Entry) -> Result<(), AllocError>
-        requires { IsWritableEntry number entry.now }
-        ensures { (commands : Commands) → TracksCommands commands self.old
-            → OnOk result (TracksCommands (with_entry commands (number, entry.now)) self.new) }
+        requires { AreEntryPoints entry.now }
+        ensures { (phrases : Phrases) → TracksPhrases phrases self.old
+            → OnOk result (TracksPhrases (with_entry phrases (number, entry.now)) self.new) }
     {
         match entry {
             Entry::Aperture(aperture) => self.write_aperture(number, aperture),
@@ -82,9 +75,9 @@ impl GerberText {
 
     /// Writes the entries of a dictionary in order.
     fn write_entries(&mut self, entries: &Dictionary) -> Result<(), AllocError>
-        requires { IsSoundDictionary entries.now }
-        ensures { (commands : Commands) → TracksCommands commands self.old
-            → OnOk result (TracksCommands (fold with_entry commands entries.now) self.new) }
+        requires { All (λ e. AreEntryPoints e.1) entries.now }
+        ensures { (phrases : Phrases) → TracksPhrases phrases self.old
+            → OnOk result (TracksPhrases (fold with_entry phrases entries.now) self.new) }
     {
         for place in 0..entries.len() {
             if let Some((number, entry)) = entries.at(place) {
@@ -96,10 +89,9 @@ impl GerberText {
 
     /// Writes a repeat.
     fn write_repeat(&mut self, grid: Grid, objects: &[Object]) -> Result<(), AllocError>
-        requires grid { IsWritableGrid grid.columns grid.rows grid.i.0 grid.j.0 }
-        requires objects { All IsWritableObject objects.now }
-        ensures { (commands : Commands) → TracksCommands commands self.old → OnOk result (TracksCommands
-            (with_item commands (Item.Repeat grid.columns grid.rows grid.i.0 grid.j.0 objects.now)) self.new) }
+        requires { All ArePoints objects.now }
+        ensures { (phrases : Phrases) → TracksPhrases phrases self.old → OnOk result (TracksPhrases
+            (with_item phrases (Item.Repeat grid.columns grid.rows grid.i.0 grid.j.0 objects.now)) self.new) }
     {
         push_open_repeat(&mut self.text, grid)?;
         self.write_objects(objects)?;
@@ -108,9 +100,9 @@ impl GerberText {
 
     /// Writes an item.
     fn write_item(&mut self, item: &Item) -> Result<(), AllocError>
-        requires { IsWritableItem item.now }
-        ensures { (commands : Commands) → TracksCommands commands self.old
-            → OnOk result (TracksCommands (with_item commands item.now) self.new) }
+        requires { All ArePoints (objects_of item.now) }
+        ensures { (phrases : Phrases) → TracksPhrases phrases self.old
+            → OnOk result (TracksPhrases (with_item phrases item.now) self.new) }
     {
         match item {
             Item::One(object) => self.write_object(object),

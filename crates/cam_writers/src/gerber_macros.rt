@@ -2,15 +2,17 @@
 
 ghost use Rattle.std.specs.Prelude.{◌≡◌, ◌++◌, OnOk};
 ghost use Rattle.std.specs.List.{flat_map};
-ghost use Rattle.cam_apertures.specs.Views.{primitive_of, shape_of};
-ghost use Rattle.cam_writers.specs.Commands.{macro_command, point_fields, primitive_text, shape_code, shape_fields};
+ghost use Rattle.cam_macros.specs.declared.primitive.PrimShape.TheVariants.{Outline};
+ghost use Rattle.cam_writers.specs.Phrases.{NameMacro, line_of, point_fields, primitive_text, shape_code, shape_fields};
+ghost use Rattle.cam_writers.specs.Phrases.{spelled};
 ghost use Rattle.cam_writers.specs.Lengths.{mm};
-ghost use Rattle.cam_writers.specs.Machinery.Writing.{behind_comma, fields_text, line_of, outline_fields};
-ghost use Rattle.cam_writers.specs.Machinery.Writing.{primitive_lines};
+ghost use Rattle.cam_writers.specs.Machinery.Tracking.{behind_comma, fields_text};
+ghost use Rattle.cam_writers.specs.Machinery.Tracking.{primitive_lines};
 
 use crate::gerber_apertures::push_macro_name;
 use crate::lengths::{push_mm, push_number};
-use cam_apertures::{PrimitiveView, Primitives, ShapeView};
+use cam_apertures::Primitives;
+use cam_macros::{Prim, PrimShape};
 use cam_units::{Nm, Point};
 use std::alloc::AllocError;
 
@@ -43,7 +45,7 @@ fn push_points(text: &mut Vec<u8>, points: &[Point]) -> Result<(), AllocError>
 
 /// Writes how many points an outline has, its points, and again the first.
 fn push_outline(text: &mut Vec<u8>, points: &[Point]) -> Result<(), AllocError>
-    ensures { OnOk result (text.new.items ≡ text.old.items ++ fields_text (outline_fields points.now)) }
+    ensures { OnOk result (text.new.items ≡ text.old.items ++ fields_text (shape_fields (Outline points.now))) }
 {
     text.extend_from_slice(b",")?;
     push_number(text, points.len() as u64)?;
@@ -55,52 +57,52 @@ fn push_outline(text: &mut Vec<u8>, points: &[Point]) -> Result<(), AllocError>
 }
 
 /// Writes the fields of a shape.
-fn push_shape(text: &mut Vec<u8>, shape: ShapeView<'_>) -> Result<(), AllocError>
-    ensures { OnOk result (text.new.items ≡ text.old.items ++ fields_text (shape_fields (shape_of shape.entry))) }
+fn push_shape(text: &mut Vec<u8>, shape: &PrimShape) -> Result<(), AllocError>
+    ensures { OnOk result (text.new.items ≡ text.old.items ++ fields_text (shape_fields shape.now)) }
 {
     match shape {
-        ShapeView::Disc { centre, diameter } => {
-            push_length(text, diameter)?;
-            push_point(text, centre)
+        PrimShape::Disc { centre, diameter } => {
+            push_length(text, *diameter)?;
+            push_point(text, *centre)
         }
-        ShapeView::Bar { from, to, width } => {
-            push_length(text, width)?;
-            push_point(text, from)?;
-            push_point(text, to)
+        PrimShape::Bar { from, to, width } => {
+            push_length(text, *width)?;
+            push_point(text, *from)?;
+            push_point(text, *to)
         }
-        ShapeView::Rect {
+        PrimShape::Rect {
             centre,
             width,
             height,
         } => {
-            push_length(text, width)?;
-            push_length(text, height)?;
-            push_point(text, centre)
+            push_length(text, *width)?;
+            push_length(text, *height)?;
+            push_point(text, *centre)
         }
-        ShapeView::Outline { points } => push_outline(text, points),
+        PrimShape::Outline { points } => push_outline(text, points.as_slice()),
     }
 }
 
 /// The code of a shape.
-fn shape_code(shape: ShapeView<'_>) -> &'static [u8]
-    ensures { result.now ≡ shape_code (shape_of shape.entry) }
+fn shape_code(shape: &PrimShape) -> &'static [u8]
+    ensures { result.now ≡ shape_code shape.now }
 {
     match shape {
-        ShapeView::Disc { .. } => b"1",
-        ShapeView::Bar { .. } => b"20",
-        ShapeView::Rect { .. } => b"21",
-        ShapeView::Outline { .. } => b"4",
+        PrimShape::Disc { .. } => b"1",
+        PrimShape::Bar { .. } => b"20",
+        PrimShape::Rect { .. } => b"21",
+        PrimShape::Outline { .. } => b"4",
     }
 }
 
 /// Writes a primitive.
-#[tactic(auto, unfolding(crate::specs::Commands::primitive_text))]
-fn push_primitive(text: &mut Vec<u8>, primitive: PrimitiveView<'_>) -> Result<(), AllocError>
-    ensures { OnOk result (text.new.items ≡ text.old.items ++ primitive_text (primitive_of primitive.entry)) }
+#[tactic(auto, unfolding(crate::specs::Phrases::primitive_text))]
+fn push_primitive(text: &mut Vec<u8>, primitive: &Prim) -> Result<(), AllocError>
+    ensures { OnOk result (text.new.items ≡ text.old.items ++ primitive_text primitive.now) }
 {
-    text.extend_from_slice(shape_code(primitive.shape))?;
+    text.extend_from_slice(shape_code(&primitive.shape))?;
     text.extend_from_slice(if primitive.paint { b",1" } else { b",0" })?;
-    push_shape(text, primitive.shape)?;
+    push_shape(text, &primitive.shape)?;
     text.extend_from_slice(b",0")
 }
 
@@ -117,14 +119,14 @@ fn push_primitives(text: &mut Vec<u8>, primitives: &Primitives) -> Result<(), Al
 }
 
 /// Writes the command that defines the macro of an aperture.
-#[tactic(auto, unfolding(crate::specs::Commands::macro_command))]
+#[tactic(auto, unfolding(crate::specs::Phrases::spelled))]
 pub fn push_macro(
     text: &mut Vec<u8>,
     number: u32,
     primitives: &Primitives,
 ) -> Result<(), AllocError>
     ensures { OnOk result
-        (text.new.items ≡ text.old.items ++ line_of (macro_command number primitives.now)) }
+        (text.new.items ≡ text.old.items ++ line_of (spelled (NameMacro number primitives.now))) }
 {
     text.extend_from_slice(b"%AM")?;
     push_macro_name(text, number)?;

@@ -1,11 +1,12 @@
 //! The objects of Gerber texts, each behind the settings in which it differs from those in force.
 
-ghost use Rattle.std.specs.Prelude.{◌≡◌, All, OnOk};
+ghost use Rattle.std.specs.Prelude.{◌≡◌, ◌∷◌, All, OnOk};
+ghost use Rattle.std.specs.List.{flat_map};
 ghost use Rattle.cam_units.specs.Board.{IsOnBoard};
-ghost use Rattle.cam_writers.specs.GerberTexts.{Commands, arc_mode, end_of, with_contour, with_object, with_objects};
+ghost use Rattle.cam_objects.specs.Soundness.{points_of_contour, points_of_seg};
+ghost use Rattle.cam_writers.specs.GerberTexts.{Phrases, arc_mode, end_of, with_contour, with_object, with_objects};
 ghost use Rattle.cam_writers.specs.GerberTexts.{with_segment, with_segments};
-ghost use Rattle.cam_writers.specs.Machinery.GerberTracking.{IsWritableContour, IsWritableObject, IsWritableSegment};
-ghost use Rattle.cam_writers.specs.Machinery.GerberTracking.{TracksCommands};
+ghost use Rattle.cam_writers.specs.Machinery.Tracking.{ArePoints, TracksPhrases};
 
 use crate::gerber_commands::push_word;
 use crate::gerber_state::GerberText;
@@ -40,9 +41,9 @@ impl GerberText {
     /// Writes a segment of a contour from a point, behind its mode where another is in force.
     fn write_segment(&mut self, here: Point, seg: &Seg) -> Result<(), AllocError>
         requires here { IsOnBoard here }
-        requires seg { IsWritableSegment seg.now }
-        ensures { (commands : Commands) → TracksCommands commands self.old
-            → OnOk result (TracksCommands (with_segment here seg.now commands) self.new) }
+        requires seg { All IsOnBoard (points_of_seg seg.now) }
+        ensures { (phrases : Phrases) → TracksPhrases phrases self.old
+            → OnOk result (TracksPhrases (with_segment here seg.now phrases) self.new) }
     {
         match seg {
             Seg::Line { to } => {
@@ -59,9 +60,9 @@ impl GerberText {
     /// Writes the segments of a contour from a point.
     fn write_segments(&mut self, start: Point, segs: &[Seg]) -> Result<(), AllocError>
         requires start { IsOnBoard start }
-        requires segs { All IsWritableSegment segs.now }
-        ensures { (commands : Commands) → TracksCommands commands self.old
-            → OnOk result (TracksCommands (with_segments start segs.now commands) self.new) }
+        requires segs { All (λ seg. All IsOnBoard (points_of_seg seg)) segs.now }
+        ensures { (phrases : Phrases) → TracksPhrases phrases self.old
+            → OnOk result (TracksPhrases (with_segments start segs.now phrases) self.new) }
     {
         let mut here = start;
         for seg in segs {
@@ -73,9 +74,9 @@ impl GerberText {
 
     /// Writes a contour.
     fn write_contour(&mut self, contour: &Contour) -> Result<(), AllocError>
-        requires { IsWritableContour contour.now }
-        ensures { (commands : Commands) → TracksCommands commands self.old
-            → OnOk result (TracksCommands (with_contour contour.now commands) self.new) }
+        requires { All IsOnBoard (points_of_contour contour.now) }
+        ensures { (phrases : Phrases) → TracksPhrases phrases self.old
+            → OnOk result (TracksPhrases (with_contour contour.now phrases) self.new) }
     {
         push_word(&mut self.text, b"G36")?;
         self.go_to(contour.start)?;
@@ -85,9 +86,9 @@ impl GerberText {
 
     /// Writes an object, and before it the settings in which it differs from those in force.
     pub fn write_object(&mut self, object: &Object) -> Result<(), AllocError>
-        requires { IsWritableObject object.now }
-        ensures { (commands : Commands) → TracksCommands commands self.old
-            → OnOk result (TracksCommands (with_object commands object.now) self.new) }
+        requires { ArePoints object.now }
+        ensures { (phrases : Phrases) → TracksPhrases phrases self.old
+            → OnOk result (TracksPhrases (with_object phrases object.now) self.new) }
     {
         match object {
             Object::Flash {
@@ -138,9 +139,9 @@ impl GerberText {
 
     /// Writes objects in order.
     pub fn write_objects(&mut self, objects: &[Object]) -> Result<(), AllocError>
-        requires { All IsWritableObject objects.now }
-        ensures { (commands : Commands) → TracksCommands commands self.old
-            → OnOk result (TracksCommands (with_objects commands objects.now) self.new) }
+        requires { All ArePoints objects.now }
+        ensures { (phrases : Phrases) → TracksPhrases phrases self.old
+            → OnOk result (TracksPhrases (with_objects phrases objects.now) self.new) }
     {
         for object in objects {
             self.write_object(object)?;

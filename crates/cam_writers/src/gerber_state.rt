@@ -2,15 +2,13 @@
 
 ghost use Rattle.std.specs.Prelude.{◌≡◌, ◌∷◌, IfOk, OnOk};
 ghost use Rattle.cam_units.specs.Board.{IsOnBoard};
-ghost use Rattle.cam_numbers.specs.Numbers.{IsApertureNumber};
 ghost use Rattle.cam_objects.specs.Attributes.{AreAttributes};
 ghost use Rattle.cam_gerber.specs.Faults.{is_same_point};
-ghost use Rattle.cam_writers.specs.Commands.{arc_command, flash_command, line_command, mirror_of, move_command};
-ghost use Rattle.cam_writers.specs.Commands.{rotation_of};
-ghost use Rattle.cam_writers.specs.GerberTexts.{Commands, is_same_mode, is_same_turn, opening, with_aperture};
+ghost use Rattle.cam_writers.specs.Phrases.{ArcTo, FlashAt, LineTo, MoveTo, mirror_of, rotation_of};
+ghost use Rattle.cam_writers.specs.GerberTexts.{Phrases, is_same_mode, is_same_turn, opening, with_aperture};
 ghost use Rattle.cam_writers.specs.GerberTexts.{with_mirror, with_mode, with_polarity, with_rotation, with_start};
 ghost use Rattle.cam_writers.specs.GerberTexts.{with_turn};
-ghost use Rattle.cam_writers.specs.Machinery.GerberTracking.{TracksCommands};
+ghost use Rattle.cam_writers.specs.Machinery.Tracking.{TracksPhrases};
 
 use crate::gerber_commands::{
     push_arc, push_attributes, push_extended, push_flash, push_line, push_mirror, push_mode,
@@ -82,7 +80,7 @@ impl GerberText {
     /// The commands before the dictionary, file attributes among them.
     pub fn new(alloc: Global, attributes: &[Attribute]) -> Result<GerberText, AllocError>
         requires { AreAttributes attributes.now }
-        ensures { IfOk result (TracksCommands (opening attributes.now)) }
+        ensures { IfOk result (TracksPhrases (opening attributes.now)) }
     {
         let mut text = Vec::new(alloc);
         push_extended(&mut text, b"FSLAX46Y46")?;
@@ -103,8 +101,8 @@ impl GerberText {
 
     /// Sets the polarity, where another is in force.
     pub fn set_polarity(&mut self, dark: bool) -> Result<(), AllocError>
-        ensures { (commands : Commands) → TracksCommands commands self.old
-            → OnOk result (TracksCommands (with_polarity dark commands) self.new) }
+        ensures { (phrases : Phrases) → TracksPhrases phrases self.old
+            → OnOk result (TracksPhrases (with_polarity dark phrases) self.new) }
     {
         if self.dark != dark {
             push_polarity(&mut self.text, dark)?;
@@ -115,8 +113,8 @@ impl GerberText {
 
     /// Sets the mirror of a turn, where another is in force.
     fn set_mirror(&mut self, turn: Turn) -> Result<(), AllocError>
-        ensures { (commands : Commands) → TracksCommands commands self.old
-            → OnOk result (TracksCommands (with_mirror turn commands) self.new) }
+        ensures { (phrases : Phrases) → TracksPhrases phrases self.old
+            → OnOk result (TracksPhrases (with_mirror turn phrases) self.new) }
     {
         let mirror = mirror_of(turn);
         if !is_same_turn(self.mirror, mirror) {
@@ -128,8 +126,8 @@ impl GerberText {
 
     /// Sets the rotation of a turn, where another is in force.
     fn set_rotation(&mut self, turn: Turn) -> Result<(), AllocError>
-        ensures { (commands : Commands) → TracksCommands commands self.old
-            → OnOk result (TracksCommands (with_rotation turn commands) self.new) }
+        ensures { (phrases : Phrases) → TracksPhrases phrases self.old
+            → OnOk result (TracksPhrases (with_rotation turn phrases) self.new) }
     {
         let rotation = rotation_of(turn);
         if !is_same_turn(self.rotation, rotation) {
@@ -141,8 +139,8 @@ impl GerberText {
 
     /// Sets the mirror and the rotation of a turn, each where another is in force.
     pub fn set_turn(&mut self, turn: Turn) -> Result<(), AllocError>
-        ensures { (commands : Commands) → TracksCommands commands self.old
-            → OnOk result (TracksCommands (with_turn turn commands) self.new) }
+        ensures { (phrases : Phrases) → TracksPhrases phrases self.old
+            → OnOk result (TracksPhrases (with_turn turn phrases) self.new) }
     {
         self.set_mirror(turn)?;
         self.set_rotation(turn)
@@ -150,9 +148,8 @@ impl GerberText {
 
     /// Selects an aperture, where another is in force.
     pub fn select(&mut self, number: u32) -> Result<(), AllocError>
-        requires { IsApertureNumber number }
-        ensures { (commands : Commands) → TracksCommands commands self.old
-            → OnOk result (TracksCommands (with_aperture number commands) self.new) }
+        ensures { (phrases : Phrases) → TracksPhrases phrases self.old
+            → OnOk result (TracksPhrases (with_aperture number phrases) self.new) }
     {
         if self.aperture != Some(number) {
             push_selection(&mut self.text, number)?;
@@ -163,8 +160,8 @@ impl GerberText {
 
     /// Sets the mode, where another is in force.
     pub fn set_mode(&mut self, mode: Mode) -> Result<(), AllocError>
-        ensures { (commands : Commands) → TracksCommands commands self.old
-            → OnOk result (TracksCommands (with_mode mode commands) self.new) }
+        ensures { (phrases : Phrases) → TracksPhrases phrases self.old
+            → OnOk result (TracksPhrases (with_mode mode phrases) self.new) }
     {
         if !is_same_mode(self.mode, mode) {
             push_mode(&mut self.text, mode)?;
@@ -175,9 +172,8 @@ impl GerberText {
 
     /// Goes to a point.
     pub fn go_to(&mut self, to: Point) -> Result<(), AllocError>
-        requires { IsOnBoard to }
-        ensures { (commands : Commands) → TracksCommands commands self.old
-            → OnOk result (TracksCommands (move_command to ∷ commands) self.new) }
+        ensures { (phrases : Phrases) → TracksPhrases phrases self.old
+            → OnOk result (TracksPhrases (MoveTo to ∷ phrases) self.new) }
     {
         push_move(&mut self.text, to)?;
         self.point = to;
@@ -186,9 +182,8 @@ impl GerberText {
 
     /// Goes to the start of a stroke, where the current point is another.
     pub fn start_at(&mut self, from: Point) -> Result<(), AllocError>
-        requires { IsOnBoard from }
-        ensures { (commands : Commands) → TracksCommands commands self.old
-            → OnOk result (TracksCommands (with_start from commands) self.new) }
+        ensures { (phrases : Phrases) → TracksPhrases phrases self.old
+            → OnOk result (TracksPhrases (with_start from phrases) self.new) }
     {
         if !is_same_point(self.point, from) {
             self.go_to(from)?;
@@ -198,9 +193,8 @@ impl GerberText {
 
     /// Flashes at a point.
     pub fn flash(&mut self, at: Point) -> Result<(), AllocError>
-        requires { IsOnBoard at }
-        ensures { (commands : Commands) → TracksCommands commands self.old
-            → OnOk result (TracksCommands (flash_command at ∷ commands) self.new) }
+        ensures { (phrases : Phrases) → TracksPhrases phrases self.old
+            → OnOk result (TracksPhrases (FlashAt at ∷ phrases) self.new) }
     {
         push_flash(&mut self.text, at)?;
         self.point = at;
@@ -209,9 +203,8 @@ impl GerberText {
 
     /// Plots a line to a point.
     pub fn plot_line(&mut self, to: Point) -> Result<(), AllocError>
-        requires { IsOnBoard to }
-        ensures { (commands : Commands) → TracksCommands commands self.old
-            → OnOk result (TracksCommands (line_command to ∷ commands) self.new) }
+        ensures { (phrases : Phrases) → TracksPhrases phrases self.old
+            → OnOk result (TracksPhrases (LineTo to ∷ phrases) self.new) }
     {
         push_line(&mut self.text, to)?;
         self.point = to;
@@ -221,10 +214,9 @@ impl GerberText {
     /// Plots an arc.
     pub fn plot_arc(&mut self, from: Point, to: Point, centre: Point) -> Result<(), AllocError>
         requires from { IsOnBoard from }
-        requires to { IsOnBoard to }
         requires centre { IsOnBoard centre }
-        ensures { (commands : Commands) → TracksCommands commands self.old
-            → OnOk result (TracksCommands (arc_command from to centre ∷ commands) self.new) }
+        ensures { (phrases : Phrases) → TracksPhrases phrases self.old
+            → OnOk result (TracksPhrases (ArcTo from to centre ∷ phrases) self.new) }
     {
         push_arc(&mut self.text, from, to, centre)?;
         self.point = to;

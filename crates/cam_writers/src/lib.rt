@@ -40,8 +40,19 @@
 //! force. Reading that text gives the layer again: see [`gerber_texts_read_back`] and [`drill_texts_read_back`].
 //!
 //! The texts are defined in `specs/`: `Lengths` says how lengths are written, `DrillTexts` which lines a drill layer
-//! has, `Commands` how the commands of Gerber files are written and `GerberTexts` which of them a layer has, and `Laws`
-//! what holds of the texts. `specs/Machinery/` ties the running state of the code to them.
+//! has, how each is spelled and what it says, `Phrases` how each phrase of a Gerber file is spelled and what it says,
+//! `GerberTexts` which phrases a layer has, and `Laws` what holds of the texts. `specs/Machinery/` ties the running state
+//! of the code to them.
+//!
+//! ```rust
+//! use cam_gerber::read_gerber;
+//! use cam_writers::gerber_text;
+//!
+//! let layer = read_gerber(alloc, b"%FSLAX23Y23*%%MOMM*%%ADD11C,.5*%D11*X1000Y0D03*M02*")?;
+//! let text = gerber_text(alloc, &layer)?;
+//! let canonical = b"%FSLAX46Y46*%\n%MOMM*%\nG01*\nG75*\n%ADD11C,0.500000*%\nD11*\nX1000000Y0D03*\nM02*\n";
+//! assert!(rt; text.as_slice() == canonical.as_slice());
+//! ```
 #![tactic(auto)]
 
 mod drill_text;

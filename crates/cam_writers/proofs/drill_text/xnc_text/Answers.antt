@@ -1,22 +1,21 @@
 use Rattle.std.proofs.Common.{◌∙◌, ap}
 use Rattle.cam_objects.proofs.SoundItems.{meets_drill}
-use Rattle.cam_xnc.specs.Reading.{reading_of}
-use Rattle.cam_writers.proofs.InForce.{item_sound, item_in_range, ended}
-use Rattle.cam_writers.proofs.ReadingBack.{reads_back}
-use Rattle.cam_writers.proofs.drill_text.xnc_text.Goals as goal
 use Rattle.cam_objects.specs.Contents.{drill_content_of}
+use Rattle.cam_objects.specs.DrillSoundness.{IsSoundDrillItem, tool_of}
+use Rattle.cam_xnc.specs.Reading.{drill_reading_of}
+use Rattle.cam_writers.proofs.InForce.{ended}
+use Rattle.cam_writers.proofs.ReadingBack.{reads_back}
+use Rattle.cam_writers.proofs.Standing.{known_in_range}
+use Rattle.cam_writers.proofs.Walks.{sound_in}
+use Rattle.cam_writers.proofs.drill_text.xnc_text.Goals as goal
 
-pub write_item-requires-clause-tool : goal.write_item-requires-clause-tool
-write_item-requires-clause-tool c =
-    item_in_range c.args.layer.now c.item-item.result c.requires
-    (item_sound c.args.layer.now c.deref-item-items.result.now c.loop-item.item-index c.item-item.result c.requires
-    c.deref-item-items.ensures.value c.loop-item-test.true c.item-item.is)
-
-pub write_item-requires-clause-points : goal.write_item-requires-clause-points
-write_item-requires-clause-points c =
-    (meets_drill c.args.layer.now.tools _
-    (item_sound c.args.layer.now c.deref-item-items.result.now c.loop-item.item-index c.item-item.result c.requires
-    c.deref-item-items.ensures.value c.loop-item-test.true c.item-item.is)).inside
+pub write_item-requires : goal.write_item-requires
+write_item-requires c =
+    let tools = c.args.layer.now.tools in
+    let item = c.item-item.result in
+    let sound = sound_in (IsSoundDrillItem tools) c.deref-item-items.result.now c.args.layer.now.items.items c.loop-item.item-index item
+    c.requires.items c.deref-item-items.ensures.value c.loop-item-test.true c.item-item.is in
+    (known_in_range tools (tool_of item) c.requires.tools (meets_drill tools item sound).known).0
 
 pub returns-clause-text : goal.returns-clause-text
 returns-clause-text c =
@@ -25,4 +24,4 @@ returns-clause-text c =
     c.deref-item-items.ensures.value c.in_ok-push_line.ensures
 
 pub returns-clause-reads_back : goal.returns-clause-reads_back
-returns-clause-reads_back c = ap reading_of (returns-clause-text c) ∙ reads_back (drill_content_of c.args.layer.now) c.requires
+returns-clause-reads_back c = ap drill_reading_of (returns-clause-text c) ∙ reads_back (drill_content_of c.args.layer.now) c.requires

@@ -1,17 +1,27 @@
-use Rattle.std.proofs.Common.{◌∙◌, ap}
+use Rattle.std.proofs.Common.{◌∙◌, ap, List, ℕ, subst, sym}
+use Rattle.std.specs.List.{All}
+use Rattle.cam_objects.specs.declared.entry.Entry.{Entry}
 use Rattle.cam_objects.specs.Contents.{content_of}
 use Rattle.cam_gerber.specs.Computing.{reading_of}
+use Rattle.cam_writers.specs.Phrases.{spelled}
+use Rattle.cam_writers.specs.Machinery.Tracking.{AreEntryPoints}
 use Rattle.cam_writers.proofs.GerberReadingBack.{gerber_reads_back}
-use Rattle.cam_writers.proofs.GerberWritable.{item_at_writable, ended}
+use Rattle.cam_writers.proofs.GerberTracks.{ended, entry_points, item_points}
 use Rattle.cam_writers.proofs.gerber_layers.gerber_text.Goals as goal
+
+pub write_entries-requires : goal.write_entries-requires
+write_entries-requires c =
+    subst (λ (es : List (ℕ × Entry)). All (λ e. AreEntryPoints e.1) es) (sym c.entries.ensures)
+    (entry_points c.args.layer.now.apertures c.requires.content.entries)
 
 pub write_item-requires : goal.write_item-requires
 write_item-requires c =
-    item_at_writable c.args.layer.now.apertures c.items-item-items.result.now c.args.layer.now.items.items
+    item_points c.args.layer.now.apertures c.items-item-items.result.now c.args.layer.now.items.items
     c.loop-item.item-index c.item-item.result c.requires.content c.items-item-items.ensures c.loop-item-test.true
     c.item-item.is
 
 pub returns-clause-text : goal.returns-clause-text
+unfolding spelled
 returns-clause-text c =
     ended c.args.layer.now.attributes.items c.args.layer.now.apertures c.items-item-items.result.now c.args.layer.now.items.items
     c.loop-item.item-index c.loop-item.written c.push_word.new.text c.loop-item.invariant c.loop-item-test.false

@@ -1,7 +1,7 @@
 use Rattle.std.proofs.Common.{◌≡◌, ◌++◌, take}
 use Rattle.std.specs.List.{flat_map}
-use Rattle.cam_writers.specs.Commands.{point_fields}
-use Rattle.cam_writers.specs.Machinery.Writing.{fields_text}
+use Rattle.cam_writers.specs.Phrases.{point_fields}
+use Rattle.cam_writers.specs.Machinery.Tracking.{fields_text}
 use Rattle.cam_writers.proofs.gerber_macros.push_points.Given as goal
 
 abbrev pub invariant-loop-point : goal.invariant-loop-point

@@ -3,9 +3,8 @@ use Rattle.std.proofs.lemmas.List.{flat_map_more, take_more}
 use Rattle.std.proofs.lemmas.Option.{get_or_from_slice_get}
 use Rattle.std.specs.Prelude.{codes, slice_get}
 use Rattle.cam_macros.specs.declared.primitive.MacroPrimitive.{MacroPrimitive}
-use Rattle.cam_apertures.specs.Views.{primitive_of}
-use Rattle.cam_writers.specs.Commands.{primitive_text}
-use Rattle.cam_writers.specs.Machinery.Writing.{primitive_line, primitive_lines}
+use Rattle.cam_writers.specs.Phrases.{primitive_text}
+use Rattle.cam_writers.specs.Machinery.Tracking.{primitive_line, primitive_lines}
 use Rattle.cam_writers.proofs.gerber_macros.push_primitives.Goals as goal
 
 -- one line more
@@ -22,7 +21,7 @@ written_more before ps place p here line text within is so ended written =
 
 pub loop-place-preserved : goal.loop-place-preserved
 loop-place-preserved c =
-    written_more c.args.text.now.items c.args.primitives.now c.loop-place.place (primitive_of c.at-primitive.result)
+    written_more c.args.text.now.items c.args.primitives.now c.loop-place.place c.at-primitive.result.now
     c.loop-place.text.items c.extend_from_slice.new.self.items c.push_primitive.new.text.items
     (omega (arith, c.loop-place-test.true, c.len-place-end.ensures)) c.at-primitive.ensures c.loop-place.invariant
     c.in_ok-extend_from_slice.ensures.items c.in_ok-push_primitive.ensures

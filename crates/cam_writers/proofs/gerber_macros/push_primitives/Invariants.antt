@@ -1,5 +1,5 @@
 use Rattle.std.proofs.Common.{◌≡◌, ◌++◌, take}
-use Rattle.cam_writers.specs.Machinery.Writing.{primitive_lines}
+use Rattle.cam_writers.specs.Machinery.Tracking.{primitive_lines}
 use Rattle.cam_writers.proofs.gerber_macros.push_primitives.Given as goal
 
 abbrev pub invariant-loop-place : goal.invariant-loop-place

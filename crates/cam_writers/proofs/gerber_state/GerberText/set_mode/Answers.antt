@@ -4,5 +4,6 @@ use Rattle.cam_writers.proofs.gerber_state.GerberText.set_mode.Goals as goal
 
 pub returns-in_ok-push_mode : goal.returns-in_ok-push_mode
 returns-in_ok-push_mode c =
-    λ commands h. mode_written c.args.mode commands c.args.self.now c.push_mode.new.text h
-    (sym c.is_same_mode.ensures ∙ c.if-not-is_same_mode.true) c.in_ok-push_mode.ensures
+    λ phrases h. mode_written phrases c.args.self.now c.push_mode.new.text h c.args.mode
+    (sym c.is_same_mode.ensures ∙ c.if-not-is_same_mode.true)
+    c.in_ok-push_mode.ensures

@@ -4,6 +4,6 @@ use Rattle.cam_writers.proofs.gerber_state.GerberText.set_rotation.Goals as goal
 
 pub returns-in_ok-push_rotation : goal.returns-in_ok-push_rotation
 returns-in_ok-push_rotation c =
-    λ commands h. rotation_written c.args.turn c.rotation_of-rotation.result commands c.args.self.now
-    c.push_rotation.new.text h c.rotation_of-rotation.ensures
-    (sym c.is_same_turn.ensures ∙ c.if-not-is_same_turn.true) c.in_ok-push_rotation.ensures
+    λ phrases h. rotation_written phrases c.args.self.now c.push_rotation.new.text h c.args.turn c.rotation_of-rotation.result
+    c.rotation_of-rotation.ensures (sym c.is_same_turn.ensures ∙ c.if-not-is_same_turn.true)
+    c.in_ok-push_rotation.ensures

@@ -1,6 +1,6 @@
 use Rattle.std.proofs.Common.{◌∙◌, sym, subst}
 use Rattle.cam_units.specs.Board.{IsOnBoard}
-use Rattle.cam_writers.proofs.GerberSegments.{end_more, ends_on_board, segment_tracked}
+use Rattle.cam_writers.proofs.GerberTracks.{end_more, ends_on_board, segment_tracked}
 use Rattle.cam_writers.proofs.gerber_state.GerberText.write_segments.Goals as goal
 
 pub loop-seg-preserved : goal.loop-seg-preserved
@@ -10,8 +10,8 @@ loop-seg-preserved c = record {
   on_board = subst IsOnBoard (sym c.end_of-here.ensures)
       (ends_on_board _ (c.requires.segs c.loop-seg.seg-index _ c.loop-seg-test.true));
   tracks =
-      λ commands h.
-      segment_tracked c.args.start c.loop-seg.here c.args.segs.now c.loop-seg.seg-index _ commands
+      λ phrases h.
+      segment_tracked c.args.start c.loop-seg.here c.args.segs.now c.loop-seg.seg-index _ phrases
       c.write_segment.new.self c.loop-seg-test.true
-      c.loop-seg.invariant.here (c.in_ok-write_segment.ensures _ (c.loop-seg.invariant.tracks commands h));
+      c.loop-seg.invariant.here (c.in_ok-write_segment.ensures _ (c.loop-seg.invariant.tracks phrases h));
 }

@@ -1,14 +1,14 @@
 use Rattle.std.proofs.Common.{◌≡◌, take}
 use Rattle.cam_units.specs.Board.{IsOnBoard}
-use Rattle.cam_writers.specs.GerberTexts.{Commands, with_segments}
-use Rattle.cam_writers.specs.Machinery.GerberTracking.{TracksCommands}
-use Rattle.cam_writers.proofs.GerberSegments.{where_after}
+use Rattle.cam_writers.specs.GerberTexts.{Phrases, with_segments}
+use Rattle.cam_writers.specs.Machinery.Tracking.{TracksPhrases}
+use Rattle.cam_writers.proofs.GerberTracks.{where_after}
 use Rattle.cam_writers.proofs.gerber_state.GerberText.write_segments.Given as goal
 
 abbrev pub invariant-loop-seg : goal.invariant-loop-seg
 invariant-loop-seg l = record {
   here : l.here ≡ where_after l.fn.start (take l.seg-index l.segs);
   on_board : IsOnBoard l.here;
-  tracks : (commands : Commands) → TracksCommands commands l.fn.self
-      → TracksCommands (with_segments l.fn.start (take l.seg-index l.segs) commands) l.self;
+  tracks : (phrases : Phrases) → TracksPhrases phrases l.fn.self
+      → TracksPhrases (with_segments l.fn.start (take l.seg-index l.segs) phrases) l.self;
 }
