@@ -6,7 +6,7 @@ use Rattle.cam_refusals.specs.declared.refusal.Refusal.TheVariants.{BadLine, NoI
 use Rattle.cam_edits.specs.Boards.{content_at, place_named}
 use Rattle.cam_edits.specs.Sheets.{Content, Sheet}
 use Rattle.cam_undo.specs.Counted.{counts_at}
-use Rattle.cam_script.specs.Faults.{refusal_of}
+use Rattle.cam_script.specs.Faults.{line_refusal}
 use Rattle.cam_script.specs.Questions.{asked}
 use Rattle.cam_script.specs.declared.line.LineFault.{LineFault}
 use Rattle.cam_script.specs.declared.question.Query.{Query}
@@ -14,7 +14,7 @@ use Rattle.cam_script.specs.declared.question.Question.{Question}
 use Rattle.cam_script.specs.declared.question.Question.TheVariants as questions
 use Rattle.cam_station.specs.Machine.{State, fault}
 use Rattle.cam_station.specs.declared.fault.Fault.{Fault}
-use Rattle.cam_ask.specs.Telling.{IsTold, can_be_asked, has_place}
+use Rattle.cam_ask.specs.Telling.{IsLayerTold, can_be_asked, has_place}
 use Rattle.cam_ask.specs.Texts.{history_line, layer_line}
 
 abbrev pub Answer : Type 0
@@ -34,7 +34,7 @@ IsAnswerBy (Some refusal) told (Ok text) = ⊥
 IsAnswerBy (Some refusal) told (Err why) = why ≡ fault refusal
 
 abbrev pub IsAnswerOf : Content → Query → Answer → Type 0
-IsAnswerOf c query answer = IsAnswerBy (refusal_in c query) (IsTold c query) answer
+IsAnswerOf c query answer = IsAnswerBy (refusal_in c query) (IsLayerTold c query) answer
 
 -- of the layer at a place, if there is one
 abbrev pub IsAnswerAt : List Sheet → Option ℕ → Query → Answer → Type 0
@@ -52,7 +52,7 @@ IsAnswer s (questions.OfLayer name query) answer =
 
 -- of what a line says, or why it says nothing
 abbrev pub IsAnswerTo : State → Result Question LineFault → Answer → Type 0
-IsAnswerTo s (Err why) answer = answer ≡ Err (fault (refusal_of why))
+IsAnswerTo s (Err why) answer = answer ≡ Err (fault (line_refusal why))
 IsAnswerTo s (Ok question) answer = IsAnswer s question answer
 
 pub record IsAsked (s : State) (line : List ℕ) (answer : Answer) : Type 0 where

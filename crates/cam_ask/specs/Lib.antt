@@ -1,3 +1,4 @@
 pub mod Texts
+pub mod Painted
 pub mod Telling
 pub mod Answers

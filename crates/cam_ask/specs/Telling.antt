@@ -15,6 +15,7 @@ use Rattle.cam_edits.specs.Images.{sheet_leaves}
 use Rattle.cam_edits.specs.Sheets.{Content, entry_count, item_count}
 use Rattle.cam_script.specs.declared.question.Query.{Query}
 use Rattle.cam_script.specs.declared.question.Query.TheVariants as queries
+use Rattle.cam_ask.specs.Painted.{painted_boxes}
 use Rattle.cam_ask.specs.Texts.{attributes_text, box_line, entries_text, entry_text, items_text, place_line}
 
 -- the place of a point, in half nm
@@ -46,27 +47,27 @@ pub record IsTopmostTold (c : Content) (s : Spot) (before : ℕ) (text : List �
   pub elsewhere : ¬ IsPlace s → place ≡ None
   pub text_is : text ≡ flat_map place_line (option_to_list place)
 
--- all the items, from one on, whose boxes a box encloses, in order
+-- all the items, from one on, of which a box encloses what they paint, in order
 abbrev pub AreEnclosed : List Bounds → Bounds → ℕ → List ℕ → Type 0
 AreEnclosed boxes outer from [] = AreNoneEnclosed boxes outer from
 AreEnclosed boxes outer from (k ∷ ks) = IsFirstEnclosed boxes outer from k × AreEnclosed boxes outer (k + 1) ks
 
 pub record IsEnclosedTold (c : Content) (outer : Bounds) (text : List ℕ) : Type 0 where
   pub places : List ℕ
-  pub enclosed : AreEnclosed (sheet_boxes c) outer 0 places
+  pub enclosed : AreEnclosed (painted_boxes c) outer 0 places
   pub text_is : text ≡ flat_map place_line places
 
 -- what is told of a layer
-abbrev pub IsTold : Content → Query → List ℕ → Type 0
-IsTold c (queries.At at before) text = IsTopmostTold c (spot_of at) (before_in c before) text
-IsTold c (queries.In from to) text = IsEnclosedTold c (box_of from to) text
-IsTold c (queries.Item k) text = text ≡ items_text c k 1
-IsTold c (queries.Items from count) text = text ≡ items_text c from count
-IsTold c queries.Bounds text = text ≡ box_line (bounds_of (sheet_leaves c))
-IsTold c (queries.ItemBounds k) text = text ≡ flat_map box_line (option_to_list (slice_get (sheet_boxes c) k))
-IsTold c (queries.Entry i) text = text ≡ entry_text c i
-IsTold c queries.Entries text = text ≡ entries_text c
-IsTold c queries.Attributes text = text ≡ attributes_text c
+abbrev pub IsLayerTold : Content → Query → List ℕ → Type 0
+IsLayerTold c (queries.At at before) text = IsTopmostTold c (spot_of at) (before_in c before) text
+IsLayerTold c (queries.In from to) text = IsEnclosedTold c (box_of from to) text
+IsLayerTold c (queries.Item k) text = text ≡ items_text c k 1
+IsLayerTold c (queries.Items from count) text = text ≡ items_text c from count
+IsLayerTold c queries.Bounds text = text ≡ box_line (bounds_of (sheet_leaves c))
+IsLayerTold c (queries.ItemBounds k) text = text ≡ flat_map box_line (option_to_list (slice_get (sheet_boxes c) k))
+IsLayerTold c (queries.Entry i) text = text ≡ entry_text c i
+IsLayerTold c queries.Entries text = text ≡ entries_text c
+IsLayerTold c queries.Attributes text = text ≡ attributes_text c
 
 -- whether the layer has the place that is asked for
 abbrev pub has_place : Content → Query → Bool

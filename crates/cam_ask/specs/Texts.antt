@@ -22,8 +22,8 @@ use Rattle.cam_writers.specs.DrillTexts.{declaration}
 use Rattle.cam_writers.specs.GerberTexts.{text_of, with_entry}
 
 -- a line of a first word and of others
-abbrev pub line_of : List ℕ → List (List ℕ) → List ℕ
-line_of word more = word ++ (spaced more ++ codes "\n")
+abbrev pub text_line : List ℕ → List (List ℕ) → List ℕ
+text_line word more = word ++ (spaced more ++ codes "\n")
 
 -- a layer: its name, its kind, how many items it has, and how many apertures and blocks, or tools
 abbrev pub kind_word : Content → List ℕ
@@ -32,21 +32,21 @@ kind_word (Drill c) = codes "drill"
 
 abbrev pub layer_line : List ℕ → Content → List ℕ
 layer_line name content =
-    line_of name (kind_word content ∷ decimal (item_count content) ∷ decimal (entry_count content) ∷ [])
+    text_line name (kind_word content ∷ decimal (item_count content) ∷ decimal (entry_count content) ∷ [])
 
 -- a place of a list
 abbrev pub place_line : ℕ → List ℕ
-place_line k = line_of (decimal k) []
+place_line k = text_line (decimal k) []
 
 -- a coordinate of so many half nm, in nm: `.5` stands behind what is between two of them
 abbrev pub half_of : ℕ → List ℕ
 half_of halves = decimal (halves / 2) ++ (if halves % 2 == 0 then [] else codes ".5")
 
-unfoldable pub coordinate : ℤ → List ℕ
-coordinate z = (if int_lt z (pos 0) then codes "-" else []) ++ half_of (unsigned_abs z)
+unfoldable pub coordinate_text : ℤ → List ℕ
+coordinate_text z = (if int_lt z (pos 0) then codes "-" else []) ++ half_of (unsigned_abs z)
 
 abbrev pub corner_text : Spot → List ℕ
-corner_text corner = coordinate corner.x ++ (codes " " ++ coordinate corner.y)
+corner_text corner = coordinate_text corner.x ++ (codes " " ++ coordinate_text corner.y)
 
 -- a box: its low corner and its high corner; no line where no place lies in it
 abbrev pub box_line : Bounds → List ℕ
@@ -81,13 +81,13 @@ drill_item_lines item = drill_item_text item ++ codes "\n"
 -- and how many objects it has, and these below it
 abbrev pub entry_lines : ℕ → Entry → List ℕ
 entry_lines n (Aperture aperture) =
-    line_of (codes "aperture") (decimal n ∷ []) ++ text_of (with_entry [] (n, Aperture aperture))
+    text_line (codes "aperture") (decimal n ∷ []) ++ text_of (with_entry [] (n, Aperture aperture))
 entry_lines n (Block objects) =
-    line_of (codes "block") (decimal n ∷ decimal (length objects) ∷ []) ++ part_lines objects
+    text_line (codes "block") (decimal n ∷ decimal (length objects) ∷ []) ++ part_lines objects
 
 abbrev pub tool_lines : ℕ → Nm → List ℕ
 tool_lines tool diameter =
-    line_of (codes "tool") (decimal tool ∷ []) ++ (declaration (tool, diameter) ++ codes "\n")
+    text_line (codes "tool") (decimal tool ∷ []) ++ (declaration (tool, diameter) ++ codes "\n")
 
 -- a file attribute: its name and its fields, each behind a comma
 abbrev pub attribute_line : Attribute → List ℕ
@@ -100,7 +100,7 @@ group_words None = []
 group_words (Some edits) = decimal edits ∷ []
 
 abbrev pub history_line : Counts → List ℕ
-history_line counts = line_of (decimal counts.past) (decimal counts.future ∷ group_words counts.group)
+history_line counts = text_line (decimal counts.past) (decimal counts.future ∷ group_words counts.group)
 
 -- ---- of what a layer lists
 

@@ -7,7 +7,7 @@ ghost use Rattle.cam_script.specs.Spelling.{spaced};
 ghost use Rattle.cam_ask.specs.Texts.{
   attribute_line,
   box_line,
-  coordinate,
+  coordinate_text,
   corner_text,
   drill_item_lines,
   entry_lines,
@@ -98,9 +98,9 @@ fn push_half(text: &mut Vec<u8>, halves: u64) -> Result<(), AllocError>
 }
 
 /// Writes a coordinate of so many half nm, in nm.
-#[tactic(auto, unfolding(crate::specs::Texts::coordinate))]
+#[tactic(auto, unfolding(crate::specs::Texts::coordinate_text))]
 fn push_coordinate(text: &mut Vec<u8>, halves: i64) -> Result<(), AllocError>
-    ensures { OnOk result (text.new.items ≡ text.old.items ++ coordinate halves) }
+    ensures { OnOk result (text.new.items ≡ text.old.items ++ coordinate_text halves) }
 {
     if halves < 0 {
         text.push(b'-')?;

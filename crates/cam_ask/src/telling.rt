@@ -2,13 +2,14 @@
 
 ghost use Rattle.std.specs.Prelude.{◌↔◌, ◌++◌, ◌≡◌, IfOk, IsTrue, OnOk, option_to_list, slice_get, true};
 ghost use Rattle.std.specs.List.{flat_map};
-ghost use Rattle.cam_units.specs.Board.{IsPlace};
+ghost use Rattle.cam_objects.specs.Enclosed.{FindsEnclosed};
 ghost use Rattle.cam_edits.specs.Asking.{sheet_boxes};
 ghost use Rattle.cam_edits.specs.Sheets.{IsSound, content_of};
+ghost use Rattle.cam_ask.specs.Painted.{painted_boxes};
 ghost use Rattle.cam_ask.specs.Texts.{box_line};
 ghost use Rattle.cam_ask.specs.Telling.{
   IsEnclosedTold,
-  IsTold,
+  IsLayerTold,
   IsTopmostTold,
   before_in,
   box_of,
@@ -20,16 +21,15 @@ ghost use Rattle.cam_ask.specs.Telling.{
 
 use crate::contents::{push_attributes, push_entries, push_entry_at, push_items};
 use crate::lines::{push_box, push_place};
+use crate::painted::next_enclosed;
 use cam_edits::SheetContent;
+use cam_objects::is_place;
 use cam_script::Query;
 use cam_units::{Bounds, Point, Spot};
 use std::alloc::{AllocError, Global};
 
 /// The greatest absolute value of a coordinate that a line can say, in nm.
 const LENGTHS: u64 = 4_000_000_000;
-
-/// The coordinates of a place are under two metres in absolute value, in half nm.
-const PLACES: u64 = 2_000_000_000;
 
 /// Whether a line can say a point.
 fn is_said(point: Point) -> bool
@@ -88,13 +88,6 @@ fn box_of(from: Point, to: Point) -> Bounds
     corner.joined(Bounds::Closed { low: to, high: to })
 }
 
-/// Whether a spot is a place of the board.
-fn is_place(spot: Spot) -> bool
-    ensures { IsTrue result ↔ IsPlace spot }
-{
-    spot.x.unsigned_abs() < PLACES && spot.y.unsigned_abs() < PLACES
-}
-
 /// The items before which the topmost is looked for.
 fn before_in(content: &SheetContent, before: Option<usize>) -> usize
     ensures { result ≡ before_in (content_of content.now) before }
@@ -125,6 +118,17 @@ fn told_topmost(
     Ok(text)
 }
 
+/// The place of the next item, from one on, of which the box of what it paints lies in a box.
+fn next_in(content: &SheetContent, outer: Bounds, from: usize) -> Option<usize>
+    requires { IsSound (content_of content.now) }
+    ensures { FindsEnclosed (painted_boxes (content_of content.now)) outer from result }
+{
+    match content {
+        SheetContent::Gerber(layer) => next_enclosed(layer.layer(), outer, from),
+        SheetContent::Drill(_) => content.item_in(outer, from),
+    }
+}
+
 /// Writes the places of the items that a box encloses.
 fn told_enclosed(
     alloc: Global,
@@ -136,7 +140,7 @@ fn told_enclosed(
 {
     let mut text = Vec::new(alloc);
     let mut from = 0;
-    while let Some(place) = content.item_in(outer, from) {
+    while let Some(place) = next_in(content, outer, from) {
         push_place(&mut text, place)?;
         from = place + 1;
     }
@@ -160,7 +164,7 @@ pub fn told(alloc: Global, content: &SheetContent, query: Query) -> Result<Vec<u
     requires sound { IsSound (content_of content.now) }
     requires asked { can_be_asked query ≡ true }
     requires place { has_place (content_of content.now) query ≡ true }
-    ensures { IfOk result (λ text. IsTold (content_of content.now) query text.items) }
+    ensures { IfOk result (λ text. IsLayerTold (content_of content.now) query text.items) }
 {
     let mut text = Vec::new(alloc);
     match query {

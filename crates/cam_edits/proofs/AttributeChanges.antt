@@ -6,7 +6,7 @@ use Rattle.std.specs.List.{position_or_len}
 use Rattle.std.specs.Option.{option_map}
 use Rattle.std.specs.Str.{bytes_eq}
 use Rattle.std.proofs.lemmas.List.Quantifiers.{position-Some}
-use Rattle.cam_objects.specs.Attributes.{has_name, place_of as attribute_place}
+use Rattle.cam_objects.specs.Attributes.{has_name, attribute_place}
 use Rattle.cam_objects.specs.Contents.{Content as GerberContent}
 use Rattle.cam_objects.specs.declared.attribute.Attribute.{Attribute}
 use Rattle.cam_edits.specs.declared.edit.Change.{Change}
@@ -124,9 +124,6 @@ same_names [] k s t here same = absurd cc
 same_names (x ∷ xs) zero s t here same =
     let is : s ≡ x = cc in ap (λ (n : List ℕ). n ∷ map name_of xs) (same ∙ ap name_of is)
 same_names (x ∷ xs) (suc k) s t here same = ap (λ (ns : List (List ℕ)). x.name ∷ ns) (same_names xs k s t here same)
-
-abbrev accepted : List Sheet → Result (List Sheet) EditFault
-accepted sheets = Ok sheets
 
 module _ (change : Change) (is : IsOfAttributes change) (sheets after : List Sheet) (place : ℕ) (s : Sheet)
     (here : slice_get sheets place ≡ Some s) where

@@ -8,9 +8,9 @@ use Rattle.std.proofs.lemmas.List.Edits.{insert_end}
 use Rattle.std.proofs.lemmas.List.Quantifiers.{position-Some}
 use Rattle.std.proofs.lemmas.Option.{get_or_from_slice_get}
 use Rattle.std.proofs.lemmas.Slice.Eq.{bytes_eq-Decides}
-use Rattle.cam_objects.specs.Attributes.{AreAttributes, attribute_of, has_name, place_of as attribute_place, with_attribute}
+use Rattle.cam_objects.specs.Attributes.{AreAttributes, attribute_of, has_name, attribute_place, with_attribute}
 use Rattle.cam_objects.specs.Contents.{Content}
-use Rattle.cam_refusals.specs.Checks.{first}
+use Rattle.cam_refusals.specs.Checks.{first_holding}
 use Rattle.cam_refusals.specs.Limits.{attribute_limit}
 use Rattle.cam_objects.specs.declared.attribute.Attribute.{Attribute}
 use Rattle.cam_objects.proofs.EditedAttributes.{added_last, kept_place, room_added, room_kept}
@@ -74,11 +74,8 @@ module _ (c : Content) (key fields : List ℕ) where
 
   abbrev told : Bool → Bool → Bool → Result Step EditFault
   told named written room =
-      judged_unless c (first ((AttributeRefused, not (named && written)) ∷ (TooMuch, not room) ∷ []))
+      judged_unless c (first_holding ((AttributeRefused, not (named && written)) ∷ (TooMuch, not room) ∷ []))
       (Some (set_step (attribute_place key c.attributes)))
-
-  pub bad_key : is_key key ≡ false → Err AttributeRefused ≡ judged_change c (SetAttribute key fields)
-  bad_key e = sym (ap (λ named. told named (are_fields fields) has_room) e)
 
   module _ (good : is_key key ≡ true) where
     pub bad_fields : are_fields fields ≡ false → Err AttributeRefused ≡ judged_change c (SetAttribute key fields)
@@ -130,11 +127,8 @@ module _ (c : Content) (key fields : List ℕ) where
 module _ (c : Content) (key : List ℕ) where
   abbrev drop_told : Bool → Option ℕ → Result Step EditFault
   drop_told named place =
-      judged_unless c (first ((AttributeRefused, not named) ∷ (NoAttribute, is_none place) ∷ []))
+      judged_unless c (first_holding ((AttributeRefused, not named) ∷ (NoAttribute, is_none place) ∷ []))
       (option_map TakeAttribute place)
-
-  pub bad_drop : is_key key ≡ false → Err AttributeRefused ≡ judged_change c (DropAttribute key)
-  bad_drop e = sym (ap (λ named. drop_told named (attribute_place key c.attributes)) e)
 
   module _ (good : is_key key ≡ true) where
     by_place : (place : Option ℕ) → place ≡ attribute_place key c.attributes

@@ -7,7 +7,7 @@ use Rattle.std.proofs.lemmas.Bool.{false_from_ne_true, leb-true}
 use Rattle.std.proofs.lemmas.List.{length-append}
 use Rattle.std.proofs.lemmas.List.Edits.{length-insert}
 use Rattle.std.proofs.lemmas.List.Sums.{sum_by-append, sum_by-cons, sum_by-insert}
-use Rattle.cam_refusals.specs.Checks.{answer_of, first}
+use Rattle.cam_refusals.specs.Checks.{answer_of, first_holding}
 use Rattle.cam_units.specs.Board.{IsOnBoard}
 use Rattle.cam_units.specs.declared.point.Point.{Point}
 use Rattle.cam_objects.specs.Contents.{DrillContent}
@@ -26,9 +26,10 @@ use Rattle.cam_edits.specs.Editing.{drill_step_checks, drill_step_unless, has_to
 use Rattle.cam_edits.specs.Machinery.Judging.{insertion_answer}
 use Rattle.cam_edits.specs.Moving.{IsMovableDrillItem, way}
 use Rattle.cam_objects.proofs.TestLaws.{all_on_board, limit_law, same_test}
+use Rattle.cam_edits.proofs.EditedLists.{all_here}
 use Rattle.cam_edits.proofs.ItemMoves.{movable_drill_item, shiftable_way, short_drill_item}
 use Rattle.cam_edits.proofs.MetSteps.{IsDrillMet, drill_met}
-use Rattle.cam_edits.proofs.Refusals.{has_at, has_its_place, in_one_drill_order, item_at, limited}
+use Rattle.cam_edits.proofs.Refusals.{has_at, has_its_place, in_one_drill_order, limited}
 
 -- ---- the limits of a drill layer with an item more
 
@@ -58,7 +59,7 @@ module _ (c : DrillContent) where
   -- ---- insertions
 
   module _ (k : ℕ) (item : DrillItem) (told : Result Unit ItemFault) (has_place : Bool)
-      (tells : told ≡ answer_of (first (drill_item_checks c.tools item))) (at : has_place ≡ nat_le k (length c.items)) where
+      (tells : told ≡ answer_of (first_holding (drill_item_checks c.tools item))) (at : has_place ≡ nat_le k (length c.items)) where
     abbrev room_there : Bool
     room_there = keeps_drill_limits (insert c.items k item)
 
@@ -106,9 +107,9 @@ module _ (c : DrillContent) where
     move = Move k by.x by.y
 
     by_place : (o : Option DrillItem) → slice_get c.items k ≡ o
-        → judged_drill c (Some move) ≡ drill_step_unless c move (first (move_drill_checks c by o))
+        → judged_drill c (Some move) ≡ drill_step_unless c move (first_holding (move_drill_checks c by o))
     unfolding drill_step_checks
-    by_place o = ap (λ o. drill_step_unless c move (first (move_drill_checks c by o)))
+    by_place o = ap (λ o. drill_step_unless c move (first_holding (move_drill_checks c by o)))
 
     pub nothing_moved : slice_get c.items k ≡ None → Err NoItem ≡ judged_drill c (Some move)
     nothing_moved e = sym (by_place None e)
@@ -125,7 +126,7 @@ module _ (c : DrillContent) where
       pub moved_too_far : IsSoundDrillContent c.tools c.items → (IsMove by → ⊥)
           → Err OutOfBoard ≡ judged_drill c (Some move)
       moved_too_far h far =
-          let sound : IsSoundDrillItem c.tools x = item_at (IsSoundDrillItem c.tools) c.items k x h.items here in
+          let sound : IsSoundDrillItem c.tools x = all_here (IsSoundDrillItem c.tools) c.items k x h.items here in
           sym (by_landing false (false_from_ne_true (are_on_board landing)
           (λ t. far (short_drill_item by c.tools x sound ((all_on_board landing).0 t)))))
 
@@ -146,7 +147,7 @@ module _ (c : DrillContent) where
   fits (Delete k) h m = m
   fits (Move k dx dy) h m =
       let by = way dx dy in
-      let sound : IsSoundDrillItem c.tools m.0 = item_at (IsSoundDrillItem c.tools) c.items k m.0 h.items m.1 in (
+      let sound : IsSoundDrillItem c.tools m.0 = all_here (IsSoundDrillItem c.tools) c.items k m.0 h.items m.1 in (
         shiftable_way by (short_drill_item by c.tools m.0 sound m.2),
         has_at (IsMovableDrillItem by) c.items k m.0 m.1 (movable_drill_item by c.tools m.0 sound m.2),
       )
@@ -156,15 +157,15 @@ module _ (c : DrillContent) where
 
   -- a step that is answered is that of the edit, and nothing refuses it
   pub accepted : (o : Option DrillStep) (step : DrillStep) → judged_drill c o ≡ Ok step
-      → (o ≡ Some step) × (first (drill_step_checks c step) ≡ None)
+      → (o ≡ Some step) × (first_holding (drill_step_checks c step) ≡ None)
   accepted None step e = absurd cc
-  accepted (Some asked) step e = go (first (drill_step_checks c asked)) refl e where
-    go : (told : Option EditFault) → first (drill_step_checks c asked) ≡ told
+  accepted (Some asked) step e = go (first_holding (drill_step_checks c asked)) refl e where
+    go : (told : Option EditFault) → first_holding (drill_step_checks c asked) ≡ told
         → drill_step_unless c asked told ≡ Ok step
-        → (Some asked ≡ Some step) × (first (drill_step_checks c step) ≡ None)
+        → (Some asked ≡ Some step) × (first_holding (drill_step_checks c step) ≡ None)
     go None is e =
         let same : asked ≡ step = cc in
-        (ap Some same, subst (λ s. first (drill_step_checks c s) ≡ None) same is)
+        (ap Some same, subst (λ s. first_holding (drill_step_checks c s) ≡ None) same is)
     go (Some fault) is e = absurd cc
 
   pub judged_fits : (o : Option DrillStep) (r : Result DrillStep EditFault) → IsSoundDrillContent c.tools c.items

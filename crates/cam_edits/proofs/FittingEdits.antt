@@ -1,7 +1,7 @@
 -- Edits of a Gerber layer that are not refused: their steps fit.
 use Rattle.std.proofs.Common.{◌≡◌, true}
 use Rattle.std.proofs.Common.{Option, None, Some, Result, Ok, Err, IfOk, refl, ap, sym, subst}
-use Rattle.cam_refusals.specs.Checks.{first}
+use Rattle.cam_refusals.specs.Checks.{first_holding}
 use Rattle.cam_objects.specs.Contents.{Content}
 use Rattle.cam_objects.specs.Soundness.{IsSoundContent, IsSoundItem}
 use Rattle.cam_objects.specs.declared.item.Item.{Item}
@@ -17,9 +17,10 @@ use Rattle.cam_edits.specs.Editing.{has_aperture, has_polarity, judged, judged_c
 use Rattle.cam_edits.specs.Editing.{judged_unless, step_checks, step_of, step_unless}
 use Rattle.cam_edits.specs.Moving.{IsMovableItem, way}
 use Rattle.cam_edits.specs.Steps.{HasAperture, IsFit, IsOne}
+use Rattle.cam_edits.proofs.EditedLists.{all_here}
 use Rattle.cam_edits.proofs.ItemMoves.{movable_item, shiftable_way, short_item}
 use Rattle.cam_edits.proofs.MetSteps.{IsMet, met}
-use Rattle.cam_edits.proofs.Refusals.{has_at, item_at}
+use Rattle.cam_edits.proofs.Refusals.{has_at}
 
 module _ (c : Content) where
   -- ---- an edit of items
@@ -51,7 +52,7 @@ module _ (c : Content) where
   fits (Delete k) is h m = m
   fits (Move k dx dy) is h m =
       let by = way dx dy in
-      let sound : IsSoundItem c.entries m.0 = item_at (IsSoundItem c.entries) c.items k m.0 h.items m.1 in (
+      let sound : IsSoundItem c.entries m.0 = all_here (IsSoundItem c.entries) c.items k m.0 h.items m.1 in (
         shiftable_way by (short_item by c.entries m.0 sound m.2),
         has_at (IsMovableItem by) c.items k m.0 m.1 (movable_item by c.entries m.0 sound m.2),
       )
@@ -64,14 +65,14 @@ module _ (c : Content) where
 
   -- a step that is answered is that of the edit, and nothing refuses it
   pub accepted : (o : Option Step) (step : Step) → judged c o ≡ Ok step
-      → (o ≡ Some step) × (first (step_checks c step) ≡ None)
+      → (o ≡ Some step) × (first_holding (step_checks c step) ≡ None)
   accepted None step e = absurd cc
-  accepted (Some asked) step e = go (first (step_checks c asked)) refl e where
-    go : (told : Option EditFault) → first (step_checks c asked) ≡ told → step_unless c asked told ≡ Ok step
-        → (Some asked ≡ Some step) × (first (step_checks c step) ≡ None)
+  accepted (Some asked) step e = go (first_holding (step_checks c asked)) refl e where
+    go : (told : Option EditFault) → first_holding (step_checks c asked) ≡ told → step_unless c asked told ≡ Ok step
+        → (Some asked ≡ Some step) × (first_holding (step_checks c step) ≡ None)
     go None is e =
         let same : asked ≡ step = cc in
-        (ap Some same, subst (λ s. first (step_checks c s) ≡ None) same is)
+        (ap Some same, subst (λ s. first_holding (step_checks c s) ≡ None) same is)
     go (Some fault) is e = absurd cc
 
   pub judged_fits : (asked : Step) → IsItemStep asked → (r : Result Step EditFault) → IsSoundContent c.entries c.items
@@ -86,15 +87,15 @@ module _ (c : Content) where
 
   module _ (change : Change) (step : Step) (e : judged_change c change ≡ Ok step) where
     -- one that is answered is not refused for attributes either
-    answered : (o : Option EditFault) → first (attribute_checks c.attributes change) ≡ o
+    answered : (o : Option EditFault) → first_holding (attribute_checks c.attributes change) ≡ o
         → judged_unless c o (step_of c.attributes change) ≡ Ok step
         → (o ≡ None) × (judged c (step_of c.attributes change) ≡ Ok step)
     answered None is e = (refl, e)
     answered (Some fault) is e = absurd cc
 
-    pub not_refused : first (attribute_checks c.attributes change) ≡ None
-    not_refused = (answered (first (attribute_checks c.attributes change)) refl e).0
+    pub not_refused : first_holding (attribute_checks c.attributes change) ≡ None
+    not_refused = (answered (first_holding (attribute_checks c.attributes change)) refl e).0
 
-    pub change_accepted : (step_of c.attributes change ≡ Some step) × (first (step_checks c step) ≡ None)
+    pub change_accepted : (step_of c.attributes change ≡ Some step) × (first_holding (step_checks c step) ≡ None)
     change_accepted =
-        accepted (step_of c.attributes change) step (answered (first (attribute_checks c.attributes change)) refl e).1
+        accepted (step_of c.attributes change) step (answered (first_holding (attribute_checks c.attributes change)) refl e).1

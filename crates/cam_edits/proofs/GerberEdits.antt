@@ -6,7 +6,7 @@ use Rattle.std.proofs.lemmas.Bool.{false_from_ne_true, leb-true}
 use Rattle.std.proofs.lemmas.List.{length-append}
 use Rattle.std.proofs.lemmas.List.Edits.{length-insert}
 use Rattle.std.proofs.lemmas.List.Sums.{sum_by-append, sum_by-cons, sum_by-insert}
-use Rattle.cam_refusals.specs.Checks.{answer_of, first}
+use Rattle.cam_refusals.specs.Checks.{answer_of, first_holding}
 use Rattle.cam_units.specs.declared.point.Point.{Point}
 use Rattle.cam_objects.specs.Contents.{Content}
 use Rattle.cam_objects.specs.Shifting.{IsMove, shifted_item}
@@ -25,12 +25,13 @@ use Rattle.cam_edits.specs.declared.step.Step.{Step}
 use Rattle.cam_edits.specs.declared.step.Step.TheVariants.{Insert, Move, Aperture, Polarity}
 use Rattle.cam_edits.specs.Editing.{aperture_checks, has_aperture, has_polarity, judged, move_checks, polarity_checks}
 use Rattle.cam_edits.specs.Editing.{step_checks, step_unless}
-use Rattle.cam_edits.specs.Machinery.Judging.{insertion_answer, other_aperture, placed, refusal_of}
+use Rattle.cam_edits.specs.Machinery.Judging.{insertion_answer, other_aperture, placed, item_refusal}
 use Rattle.cam_edits.specs.Places.{changed, changed_to}
 use Rattle.cam_edits.specs.Steps.{with_aperture, with_object}
 use Rattle.cam_objects.proofs.TestLaws.{inside_law, limit_law, same_test}
+use Rattle.cam_edits.proofs.EditedLists.{all_here}
 use Rattle.cam_edits.proofs.ItemMoves.{short_item}
-use Rattle.cam_edits.proofs.Refusals.{checked, has_its_place, in_one_order, item_at, limited}
+use Rattle.cam_edits.proofs.Refusals.{checked, has_its_place, in_one_order, limited}
 
 -- ---- the limits of a layer with an item more
 
@@ -93,7 +94,7 @@ module _ (c : Content) where
   -- ---- insertions
 
   module _ (k : ℕ) (item : Item) (told : Result Unit ItemFault) (has_place : Bool)
-      (tells : told ≡ answer_of (first (item_checks c.entries item))) (at : has_place ≡ nat_le k (length c.items)) where
+      (tells : told ≡ answer_of (first_holding (item_checks c.entries item))) (at : has_place ≡ nat_le k (length c.items)) where
     abbrev room_there : Bool
     room_there = keeps_limits c.entries (insert c.items k item)
 
@@ -141,9 +142,9 @@ module _ (c : Content) where
     move = Move k by.x by.y
 
     by_place : (o : Option Item) → slice_get c.items k ≡ o
-        → judged c (Some move) ≡ step_unless c move (first (move_checks c by o))
+        → judged c (Some move) ≡ step_unless c move (first_holding (move_checks c by o))
     unfolding step_checks
-    by_place o = ap (λ o. step_unless c move (first (move_checks c by o)))
+    by_place o = ap (λ o. step_unless c move (first_holding (move_checks c by o)))
 
     pub nothing_moved : slice_get c.items k ≡ None → Err NoItem ≡ judged c (Some move)
     nothing_moved e = sym (by_place None e)
@@ -156,7 +157,7 @@ module _ (c : Content) where
 
       pub moved_too_far : IsSoundContent c.entries c.items → (IsMove by → ⊥) → Err OutOfBoard ≡ judged c (Some move)
       moved_too_far h far =
-          let sound : IsSoundItem c.entries x = item_at (IsSoundItem c.entries) c.items k x h.items here in
+          let sound : IsSoundItem c.entries x = all_here (IsSoundItem c.entries) c.items k x h.items here in
           let law = inside_law c.entries (shifted_item by x) in
           sym (by_landing false (false_from_ne_true _ (λ t. far (short_item by c.entries x sound (law.0 t)))))
 
@@ -177,9 +178,9 @@ module _ (c : Content) where
     aperture = Aperture k n
 
     by_item : (o : Option Item) → slice_get c.items k ≡ o
-        → judged c (Some aperture) ≡ step_unless c aperture (first (aperture_checks c k n o))
+        → judged c (Some aperture) ≡ step_unless c aperture (first_holding (aperture_checks c k n o))
     unfolding step_checks
-    by_item o = ap (λ o. step_unless c aperture (first (aperture_checks c k n o)))
+    by_item o = ap (λ o. step_unless c aperture (first_holding (aperture_checks c k n o)))
 
     pub no_aperture : slice_get c.items k ≡ None → Err NoItem ≡ judged c (Some aperture)
     no_aperture e = sym (by_item None e)
@@ -187,7 +188,7 @@ module _ (c : Content) where
     -- what the item that becomes another is refused for, among those that there are then
     abbrev of_set : Item → List Item → Option EditFault
     of_set item items =
-        first
+        first_holding
         ((NoAperture, not (is_known_item c.entries item))
         ∷ (WrongAperture, not (is_drawable_item c.entries item))
         ∷ (SizeRefused, not (has_radii item))
@@ -208,7 +209,7 @@ module _ (c : Content) where
       aperture_kept e = sym (by_having false (has_none n x e))
 
       module _ (y : Item) (is : other_aperture n x ≡ Some y) (told : Result Unit ItemFault)
-          (tells : told ≡ answer_of (first (item_checks c.entries y))) where
+          (tells : told ≡ answer_of (first_holding (item_checks c.entries y))) where
         abbrev set : List Item
         set = slice_set c.items k y
 
@@ -236,7 +237,7 @@ module _ (c : Content) where
             (is_inside c.entries y) (is_within_limits c.entries y) true) (keeps_limits c.entries set)) formed
             ∙ ap (λ r. by_check r (keeps_limits c.entries set)) (sym tells))))
 
-        pub aperture_refused : (fault : ItemFault) → told ≡ Err fault → Err (refusal_of fault) ≡ judged c (Some aperture)
+        pub aperture_refused : (fault : ItemFault) → told ≡ Err fault → Err (item_refusal fault) ≡ judged c (Some aperture)
         aperture_refused fault e = sym (aperture_is ∙ ap (λ r. by_check r (keeps_limits c.entries set)) e)
 
         module _ (done : Unit) (e : told ≡ Ok done) (room : Bool) (kept : IsTrue room ↔ KeepsLimits c.entries set) where
@@ -259,9 +260,9 @@ module _ (c : Content) where
     polarity = Polarity k dark
 
     by_polarity : (o : Option Item) → slice_get c.items k ≡ o
-        → judged c (Some polarity) ≡ step_unless c polarity (first (polarity_checks c o))
+        → judged c (Some polarity) ≡ step_unless c polarity (first_holding (polarity_checks c o))
     unfolding step_checks
-    by_polarity o = ap (λ o. step_unless c polarity (first (polarity_checks c o)))
+    by_polarity o = ap (λ o. step_unless c polarity (first_holding (polarity_checks c o)))
 
     pub no_polarity : slice_get c.items k ≡ None → Err NoItem ≡ judged c (Some polarity)
     no_polarity e = sym (by_polarity None e)

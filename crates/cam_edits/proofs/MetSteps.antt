@@ -6,7 +6,7 @@ use Rattle.std.specs.Int.RustNames.{int_le}
 use Rattle.std.specs.List.{All}
 use Rattle.std.proofs.lemmas.Bool.{leb-true, ltb-true}
 use Rattle.std.proofs.lemmas.Int.{ints}
-use Rattle.cam_refusals.specs.Checks.{first}
+use Rattle.cam_refusals.specs.Checks.{first_holding}
 use Rattle.cam_units.specs.Board.{IsOnBoard}
 use Rattle.cam_units.specs.declared.point.Point.{Point}
 use Rattle.cam_objects.specs.Contents.{Content as GerberContent, DrillContent}
@@ -63,7 +63,7 @@ module _ (c : GerberContent) where
 
   -- an item that is not malformed, among those that there are with it
   item_met : (item : Item) (items : List Item) → is_formed_item item ≡ true
-      → first
+      → first_holding
       ((NoAperture, not (is_known_item c.entries item))
       ∷ (WrongAperture, not (is_drawable_item c.entries item))
       ∷ (SizeRefused, not (has_radii item))
@@ -80,14 +80,14 @@ module _ (c : GerberContent) where
       let g = both (is_within_limits c.entries item) (keeps_limits c.entries items) f.0 in
       (rw (formed, a.0, b.0, d.0, e.0, g.0) refl, (limit_law.layer c.entries items).0 g.1)
 
-  moved : (k : ℕ) (by : Point) (o : Option Item) → slice_get c.items k ≡ o → first (move_checks c by o) ≡ None
+  moved : (k : ℕ) (by : Point) (o : Option Item) → slice_get c.items k ≡ o → first_holding (move_checks c by o) ≡ None
       → IsThere c.items k (λ x. IsInside c.entries (shifted_item by x))
   moved k by None at none = absurd cc
   moved k by (Some x) at none =
       let item = shifted_item by x in
       (x, at, (inside_law c.entries item).0 (passed _ (is_inside c.entries item) _ none).0)
 
-  set : (k n : ℕ) (o : Option Item) → slice_get c.items k ≡ o → first (aperture_checks c k n o) ≡ None
+  set : (k n : ℕ) (o : Option Item) → slice_get c.items k ≡ o → first_holding (aperture_checks c k n o) ≡ None
       → IsMet (steps.Aperture k n)
   set k n None at none = absurd cc
   set k n (Some x) at none =
@@ -96,12 +96,12 @@ module _ (c : GerberContent) where
       let b = item_met item (changed (with_object (with_aperture n)) c.items k) (set_formed n x a.0) a.1 in
       (x, at, (a.0, b.0, b.1))
 
-  inked : (k : ℕ) (o : Option Item) → slice_get c.items k ≡ o → first (polarity_checks c o) ≡ None
+  inked : (k : ℕ) (o : Option Item) → slice_get c.items k ≡ o → first_holding (polarity_checks c o) ≡ None
       → IsThere c.items k (λ x. has_polarity x ≡ true)
   inked k None at none = absurd cc
   inked k (Some x) at none = (x, at, (passed _ (has_polarity x) _ none).0)
 
-  pub met : (step : Step) → first (step_checks c step) ≡ None → IsMet step
+  pub met : (step : Step) → first_holding (step_checks c step) ≡ None → IsMet step
   unfolding step_checks
   met (steps.Insert k item) none =
       let a = passed _ (is_formed_item item) _ none in
@@ -130,14 +130,14 @@ module _ (c : DrillContent) where
   IsDrillMet (drill_steps.Diameter t d) = (has_tool c t ≡ true) × (is_tool_size d ≡ true)
 
   drill_moved : (k : ℕ) (by : Point) (o : Option DrillItem) → slice_get c.items k ≡ o
-      → first (move_drill_checks c by o) ≡ None
+      → first_holding (move_drill_checks c by o) ≡ None
       → IsThere c.items k (λ x. All IsOnBoard (drill_points_of (shifted_drill_item by x)))
   drill_moved k by None at none = absurd cc
   drill_moved k by (Some x) at none =
       let points = drill_points_of (shifted_drill_item by x) in
       (x, at, (all_on_board points).0 (passed _ (are_on_board points) _ none).0)
 
-  pub drill_met : (step : DrillStep) → first (drill_step_checks c step) ≡ None → IsDrillMet step
+  pub drill_met : (step : DrillStep) → first_holding (drill_step_checks c step) ≡ None → IsDrillMet step
   unfolding drill_step_checks drill_item_checks
   drill_met (drill_steps.Insert k item) none =
       let points = drill_points_of item in

@@ -22,8 +22,9 @@ use Rattle.cam_edits.specs.Sheets.{AreSound, Content, Gerber, Drill, IsSound, Sh
 use Rattle.cam_edits.specs.Steps.{IsFit, after_step}
 use Rattle.cam_edits.specs.Touched.{drill_touched, touched}
 use Rattle.cam_edits.proofs.DrillEdits as drill_edits
+use Rattle.cam_edits.proofs.EditedLists.{all_here}
 use Rattle.cam_edits.proofs.FittingEdits as fitting_edits
-use Rattle.cam_edits.proofs.Refusals.{has_at, item_at}
+use Rattle.cam_edits.proofs.Refusals.{has_at}
 
 module _ (edit : Edit) (sheets : List Sheet) where
   -- no sheet of the name
@@ -40,7 +41,7 @@ module _ (edit : Edit) (sheets : List Sheet) where
 
     pub sound_there : AreSound sheets → (content : Content) → content_at sheets place ≡ content → IsSound content
     sound_there h content e =
-        subst IsSound (holds_there content e) (item_at (λ s. IsSound s.content) sheets place there.0 h there.1)
+        subst IsSound (holds_there content e) (all_here (λ s. IsSound s.content) sheets place there.0 h there.1)
 
     edited_there : (content : Content) → content_at sheets place ≡ content
         → edited edit sheets ≡ edited_sheet edit.change sheets place content

@@ -2,11 +2,10 @@
 use Rattle.std.proofs.Common.{◌≡◌, ℕ, Bool, true, false, ◌&&◌, nat_lt, not, cond, List, [], ◌∷◌, length, slice_index_or}
 use Rattle.std.proofs.Common.{Option, None, Some, Result, Ok, Err, refl, ap, sym, subst, ◌∙◌, arith}
 use Rattle.std.specs.Prelude.{MatchOption, slice_get}
-use Rattle.std.specs.List.{All}
 use Rattle.std.proofs.lemmas.Bool.{ltb-true}
 use Rattle.std.proofs.lemmas.Bool.Decides.{nat_tests}
-use Rattle.std.proofs.lemmas.Option.{get_or_from_slice_get, slice_get_past, slice_get_read, slice_get_within}
-use Rattle.cam_refusals.specs.Checks.{answer_of, first}
+use Rattle.std.proofs.lemmas.Option.{slice_get_past, slice_get_read}
+use Rattle.cam_refusals.specs.Checks.{answer_of, first_holding}
 use Rattle.cam_objects.specs.declared.item_fault.ItemFault.{ItemFault}
 use Rattle.cam_objects.specs.declared.item_fault.ItemFault.TheVariants.{Malformed, UnknownAperture, UnknownTool, ZeroRadius}
 use Rattle.cam_objects.specs.declared.item_fault.ItemFault.TheVariants as items
@@ -28,10 +27,6 @@ read_at xs ys k x same here at =
 pub none_at : {X : Type 0} (xs ys : List X) (k : ℕ) → ys ≡ xs → false ≡ nat_lt k (length ys) → slice_get xs k ≡ None
 none_at xs ys k same past = ap (λ l. slice_get l k) (sym same) ∙ slice_get_past ys k (grind (arith, nat_tests))
 
--- what holds of all elements holds of that at a place
-pub item_at : {X : Type 0} (P : X → Type 0) (xs : List X) (k : ℕ) (x : X) → All P xs → slice_get xs k ≡ Some x → P x
-item_at P xs k x h here = subst P (get_or_from_slice_get xs k x x here) (h k x (slice_get_within xs k x here))
-
 pub has_at : {X : Type 0} (P : X → Type 0) (xs : List X) (k : ℕ) (x : X) → slice_get xs k ≡ Some x → P x → HasAt P xs k
 has_at P xs k x here h = subst (λ o. MatchOption o ⊥ P) (sym here) h
 
@@ -46,7 +41,7 @@ limited (Err fault) room = Some fault
 module _ (formed place known drawable radii inside few room : Bool) where
   abbrev pub checked : Result Unit ItemFault
   checked =
-      answer_of (first
+      answer_of (first_holding
       ((Malformed, not formed)
       ∷ (UnknownAperture, not known)
       ∷ (items.WrongAperture, not drawable)
@@ -56,7 +51,7 @@ module _ (formed place known drawable radii inside few room : Bool) where
 
   abbrev told : Option EditFault
   told =
-      first
+      first_holding
       ((WrongKind, not formed)
       ∷ (NoItem, not place)
       ∷ (NoAperture, not known)
@@ -88,7 +83,7 @@ in_one_order true false true true true true true room = refl
 module _ (formed place known inside few room : Bool) where
   abbrev pub drill_checked : Result Unit ItemFault
   drill_checked =
-      answer_of (first
+      answer_of (first_holding
       ((Malformed, not formed)
       ∷ (UnknownTool, not known)
       ∷ (items.OutOfBoard, not inside)
@@ -96,7 +91,7 @@ module _ (formed place known inside few room : Bool) where
 
   abbrev drill_told : Option EditFault
   drill_told =
-      first
+      first_holding
       ((WrongKind, not formed)
       ∷ (NoItem, not place)
       ∷ (NoTool, not known)

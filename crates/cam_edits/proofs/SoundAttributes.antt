@@ -8,8 +8,8 @@ use Rattle.std.proofs.lemmas.Bool.{leb-true}
 use Rattle.std.proofs.lemmas.Bool.Decides.{nat_tests}
 use Rattle.std.proofs.lemmas.List.Elements.{All-cons, All-nil}
 use Rattle.cam_objects.specs.Attributes.{AreAttributes, AreFields, IsAttribute, attribute_of, comma, is_attribute_byte}
-use Rattle.cam_objects.specs.Attributes.{place_of as attribute_place, with_attribute}
-use Rattle.cam_refusals.specs.Checks.{first}
+use Rattle.cam_objects.specs.Attributes.{attribute_place, with_attribute}
+use Rattle.cam_refusals.specs.Checks.{first_holding}
 use Rattle.cam_refusals.specs.Limits.{attribute_limit}
 use Rattle.cam_objects.specs.declared.attribute.Attribute.{Attribute}
 use Rattle.cam_objects.proofs.EditedAttributes.{attribute_edits}
@@ -84,7 +84,7 @@ module _ (xs : List Attribute) (h : AreAttributes xs) where
   abbrev AreSoundAfter : Step → Type 0
   AreSoundAfter step = AreAttributes (attributes_after step xs)
 
-  set_sound : (key fields : List ℕ) → first (attribute_checks xs (changes.SetAttribute key fields)) ≡ None
+  set_sound : (key fields : List ℕ) → first_holding (attribute_checks xs (changes.SetAttribute key fields)) ≡ None
       → AreSoundAfter (setting_step key fields (length xs) (attribute_place key xs))
   set_sound key fields e =
       let new = attribute_of key fields in
@@ -110,7 +110,7 @@ module _ (xs : List Attribute) (h : AreAttributes xs) where
   kept_by : (asked step : Step) → ◌≡◌ {A = Option Step} (Some asked) (Some step) → AreSoundAfter asked → AreSoundAfter step
   kept_by asked step e sound = let same : asked ≡ step = cc in subst AreSoundAfter same sound
 
-  pub attributes_stay_sound : (change : Change) → first (attribute_checks xs change) ≡ None → (step : Step)
+  pub attributes_stay_sound : (change : Change) → first_holding (attribute_checks xs change) ≡ None → (step : Step)
       → step_of xs change ≡ Some step → AreSoundAfter step
   attributes_stay_sound (changes.Insert k (new_items.Gerber item)) ok step e = kept_by (steps.Insert k item) step e h
   attributes_stay_sound (changes.Insert k (new_items.Drill item)) ok step e = absurd cc

@@ -7,7 +7,7 @@ use Rattle.std.specs.Map.{lookup}
 use Rattle.std.proofs.lemmas.Bool.Decides.{nat_tests}
 use Rattle.std.proofs.lemmas.List.{take-append-drop}
 use Rattle.std.proofs.lemmas.List.Elements.{All-head, All-tail}
-use Rattle.cam_refusals.specs.Checks.{first}
+use Rattle.cam_refusals.specs.Checks.{first_holding}
 use Rattle.cam_units.specs.Board.{IsOnBoard}
 use Rattle.cam_units.specs.declared.length.Nm.{Nm}
 use Rattle.cam_units.specs.declared.point.Point.{Point}
@@ -96,9 +96,9 @@ numbered (e ∷ ts) t sound there =
     by : (b : Bool) → nat_eq t e.0 ≡ b → (IsSome (diameter_of ts t) → (1 ≤ t) × (t ≤ 9999))
         → IsSome (cond b (Some e.1) (lookup (nat_eq t) ts)) → (1 ≤ t) × (t ≤ 9999)
     by true same rest there =
-        let first = All-head (λ (e : ℕ × Nm). IsSoundTool e.0 e.1) e ts sound in
+        let first_holding = All-head (λ (e : ℕ × Nm). IsSoundTool e.0 e.1) e ts sound in
         let is : t ≡ e.0 = grind (arith, nat_tests) in
-        (omega (arith, is, first.some), omega (arith, is, first.few))
+        (omega (arith, is, first_holding.some), omega (arith, is, first_holding.few))
     by false same rest there = rest there
 
 -- a tool that there is, with a diameter that it may have
@@ -127,6 +127,6 @@ met_step_sound c (steps.Diameter t d) h m =
     drill_edits.diameter c.tools c.items t d h m.0 (sized_tool c.tools t d h.tools m.0 m.1)
 
 pub drill_step_stays_sound : (c : DrillContent) (step : DrillStep) → IsSoundDrillContent c.tools c.items
-    → first (drill_step_checks c step) ≡ None
+    → first_holding (drill_step_checks c step) ≡ None
     → IsSoundDrillContent (tools_after step c.tools) (drill_items_after step c.items)
 drill_step_stays_sound c step h none = met_step_sound c step h (drill_met c step none)

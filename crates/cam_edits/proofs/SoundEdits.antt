@@ -4,7 +4,7 @@ use Rattle.std.proofs.Common.{Option, None, Some, Result, Ok, Err, refl, sym, su
 use Rattle.std.specs.Prelude.{insert, remove, slice_get}
 use Rattle.std.proofs.lemmas.List.{take-append-drop}
 use Rattle.std.proofs.lemmas.List.Elements.{All-nil, All-set}
-use Rattle.cam_refusals.specs.Checks.{first}
+use Rattle.cam_refusals.specs.Checks.{first_holding}
 use Rattle.cam_units.specs.declared.point.Point.{Point}
 use Rattle.cam_objects.specs.declared.entry.Entry.{Entry}
 use Rattle.cam_objects.specs.declared.item.Item.{Item}
@@ -120,7 +120,7 @@ met_step_sound c (steps.TakeAttribute k) h m = h
 met_step_sound c (steps.SetFields k fields) h m = h
 
 pub step_stays_sound : (c : GerberContent) (step : Step) → IsSoundContent c.entries c.items
-    → first (step_checks c step) ≡ None → IsSoundContent c.entries (items_after step c.items)
+    → first_holding (step_checks c step) ≡ None → IsSoundContent c.entries (items_after step c.items)
 step_stays_sound c step h none = met_step_sound c step h (met c step none)
 
 -- ---- boards
@@ -172,7 +172,7 @@ module _ (sheets after : List Sheet) (h : AreSound sheets) where
 
   drill_stepped : (place : ℕ) (c : DrillContent) (step : DrillStep) (o : Option EditFault)
       → IsSoundDrillContent c.tools c.items
-      → first (drill_step_checks c step) ≡ o
+      → first_holding (drill_step_checks c step) ≡ o
       → with_drill_step sheets place c (drill_step_unless c step o) ≡ Ok after → AreSound after
   drill_stepped place c step None sound none e =
       put_sound place (Drill (after_drill_step step c)) (drill_step_stays_sound c step sound none) e
@@ -182,7 +182,7 @@ module _ (sheets after : List Sheet) (h : AreSound sheets) where
       → with_drill_step sheets place c (judged_drill c o) ≡ Ok after → AreSound after
   drill_judged_sound place c None sound e = absurd cc
   drill_judged_sound place c (Some step) sound e =
-      drill_stepped place c step (first (drill_step_checks c step)) sound refl e
+      drill_stepped place c step (first_holding (drill_step_checks c step)) sound refl e
 
   sheet_sound : (change : Change) (place : ℕ) (c : Content) → IsSound c → edited_sheet change sheets place c ≡ Ok after
       → AreSound after

@@ -3,7 +3,7 @@ use Rattle.std.proofs.Common.{◌≡◌, ℕ, ◌<◌, Bool, List, [], ◌∷◌
 use Rattle.std.specs.Prelude.{slice_get}
 use Rattle.std.specs.Option.{option_map}
 use Rattle.std.proofs.lemmas.Option.{slice_get_read, slice_get_within}
-use Rattle.cam_refusals.specs.Checks.{first}
+use Rattle.cam_refusals.specs.Checks.{first_holding}
 use Rattle.cam_units.specs.declared.bounds.Bounds.{Bounds}
 use Rattle.cam_units.specs.declared.point.Point.{Point}
 use Rattle.cam_objects.specs.declared.attribute.Attribute.{Attribute}
@@ -53,9 +53,9 @@ module _ {X : Type 0} (box : X → Bounds) (xs : List X) (k : ℕ) where
 
 -- ---- Gerber layers
 
-module _ (c : GerberContent) (step : Step) (none : first (step_checks c step) ≡ None) where
+module _ (c : GerberContent) (step : Step) (none : first_holding (step_checks c step) ≡ None) where
   told : (other : Step) → step ≡ other → IsMet c other
-  told other is = met c other (subst (λ (s : Step). first (step_checks c s) ≡ None) is none)
+  told other is = met c other (subst (λ (s : Step). first_holding (step_checks c s) ≡ None) is none)
 
   pub sound_insertion : (k : ℕ) (item : Item) → step ≡ steps.Insert k item → IsSoundItem c.entries item
   sound_insertion k item is = (told (steps.Insert k item) is).1

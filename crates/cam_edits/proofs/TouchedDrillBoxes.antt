@@ -12,7 +12,7 @@ use Rattle.std.proofs.lemmas.List.{take_all}
 use Rattle.std.proofs.lemmas.List.Elements.{filter_more}
 use Rattle.std.proofs.lemmas.Map.{lookup-set_value}
 use Rattle.std.proofs.lemmas.Option.{slice_get_read, slice_get_within}
-use Rattle.cam_refusals.specs.Checks.{first}
+use Rattle.cam_refusals.specs.Checks.{first_holding}
 use Rattle.cam_units.specs.Board.{IsOnBoard, IsSize}
 use Rattle.cam_units.specs.declared.bounds.Bounds.{Bounds}
 use Rattle.cam_units.specs.declared.length.Nm.{Nm}
@@ -110,9 +110,9 @@ sound_read ts xs ys i x h same below at =
 
 -- ---- what is told of a step
 
-module _ (c : DrillContent) (step : DrillStep) (none : first (drill_step_checks c step) ≡ None) where
+module _ (c : DrillContent) (step : DrillStep) (none : first_holding (drill_step_checks c step) ≡ None) where
   told : (other : DrillStep) → step ≡ other → IsDrillMet c other
-  told other is = drill_met c other (subst (λ (s : DrillStep). first (drill_step_checks c s) ≡ None) is none)
+  told other is = drill_met c other (subst (λ (s : DrillStep). first_holding (drill_step_checks c s) ≡ None) is none)
 
   pub sound_insertion : (k : ℕ) (item : DrillItem) → step ≡ steps.Insert k item → IsSoundDrillItem c.tools item
   sound_insertion k item is = (told (steps.Insert k item) is).1

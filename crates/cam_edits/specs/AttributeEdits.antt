@@ -6,7 +6,7 @@ use Rattle.std.specs.Char.{is_ascii_graphic}
 use Rattle.std.specs.List.{list_all}
 use Rattle.cam_refusals.specs.Checks.{Checks}
 use Rattle.cam_refusals.specs.Limits.{attribute_limit}
-use Rattle.cam_objects.specs.Attributes.{attribute_of, comma, place_of as attribute_place, with_attribute}
+use Rattle.cam_objects.specs.Attributes.{attribute_of, comma, attribute_place, with_attribute}
 use Rattle.cam_objects.specs.declared.attribute.Attribute.{Attribute}
 use Rattle.cam_edits.specs.declared.edit.Change.{Change}
 use Rattle.cam_edits.specs.declared.edit.Change.TheVariants as changes

@@ -2,11 +2,11 @@
 use Rattle.std.specs.Prelude.{ℕ, nat_le, nat_lt, int_le, Bool, true, false, not, ◌&&◌, pos, List}
 use Rattle.std.specs.Prelude.{[], ◌∷◌, length, Option, None, Some, Result, Ok, Err, insert, is_some, slice_get}
 use Rattle.std.specs.Option.{option_map}
-use Rattle.cam_refusals.specs.Checks.{Checks, first}
+use Rattle.cam_refusals.specs.Checks.{Checks, first_holding}
 use Rattle.cam_refusals.specs.Limits.{count_limit, size_limit}
 use Rattle.cam_units.specs.declared.length.Nm.{Nm}
 use Rattle.cam_units.specs.declared.point.Point.{Point}
-use Rattle.cam_objects.specs.Attributes.{place_of as attribute_place}
+use Rattle.cam_objects.specs.Attributes.{attribute_place}
 use Rattle.cam_objects.specs.Contents.{Content as GerberContent, DrillContent}
 use Rattle.cam_objects.specs.Drilling.{diameter_of}
 use Rattle.cam_objects.specs.DrillSoundness.{drill_points_of, keeps_drill_limits, tool_of}
@@ -131,7 +131,7 @@ module _ (c : GerberContent) where
 
   abbrev pub judged : Option Step → Result Step EditFault
   judged None = Err WrongKind
-  judged (Some step) = step_unless step (first (step_checks step))
+  judged (Some step) = step_unless step (first_holding (step_checks step))
 
   abbrev pub judged_unless : Option EditFault → Option Step → Result Step EditFault
   judged_unless None step = judged step
@@ -140,7 +140,7 @@ module _ (c : GerberContent) where
   -- what is to change in a layer of its kind; an edit of attributes has checks of its own
   abbrev pub judged_change : Change → Result Step EditFault
   judged_change change =
-      judged_unless (first (attribute_checks c.attributes change)) (step_of c.attributes change)
+      judged_unless (first_holding (attribute_checks c.attributes change)) (step_of c.attributes change)
 
 -- ---- of a drill layer
 
@@ -192,7 +192,7 @@ module _ (c : DrillContent) where
 
   abbrev pub judged_drill : Option DrillStep → Result DrillStep EditFault
   judged_drill None = Err WrongKind
-  judged_drill (Some step) = drill_step_unless step (first (drill_step_checks step))
+  judged_drill (Some step) = drill_step_unless step (first_holding (drill_step_checks step))
 
 -- ---- boards
 

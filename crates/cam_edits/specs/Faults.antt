@@ -6,17 +6,17 @@ use Rattle.cam_edits.specs.declared.fault.EditFault.TheVariants.{NoLayer, WrongK
 use Rattle.cam_edits.specs.declared.fault.EditFault.TheVariants.{NoItem, HasNone, NoAperture, NoTool, WrongAperture}
 use Rattle.cam_edits.specs.declared.fault.EditFault.TheVariants.{SizeRefused, OutOfBoard, TooMuch, Memory}
 
-abbrev pub refusal_of : EditFault → Refusal
-refusal_of NoLayer = refusals.NoLayer
-refusal_of WrongKind = refusals.WrongKind
-refusal_of AttributeRefused = refusals.AttributeRefused
-refusal_of NoAttribute = refusals.NoAttribute
-refusal_of NoItem = refusals.NoItem
-refusal_of HasNone = refusals.HasNone
-refusal_of NoAperture = refusals.NoAperture
-refusal_of NoTool = refusals.NoTool
-refusal_of WrongAperture = refusals.EditWrongAperture
-refusal_of SizeRefused = refusals.EditSizeRefused
-refusal_of OutOfBoard = refusals.EditOutOfBoard
-refusal_of TooMuch = refusals.EditTooMuch
-refusal_of Memory = refusals.NoMemory
+abbrev pub edit_refusal : EditFault → Refusal
+edit_refusal NoLayer = refusals.NoLayer
+edit_refusal WrongKind = refusals.WrongKind
+edit_refusal AttributeRefused = refusals.AttributeRefused
+edit_refusal NoAttribute = refusals.NoAttribute
+edit_refusal NoItem = refusals.NoItem
+edit_refusal HasNone = refusals.HasNone
+edit_refusal NoAperture = refusals.NoAperture
+edit_refusal NoTool = refusals.NoTool
+edit_refusal WrongAperture = refusals.EditWrongAperture
+edit_refusal SizeRefused = refusals.EditSizeRefused
+edit_refusal OutOfBoard = refusals.EditOutOfBoard
+edit_refusal TooMuch = refusals.EditTooMuch
+edit_refusal Memory = refusals.NoMemory

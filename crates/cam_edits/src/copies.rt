@@ -8,7 +8,7 @@ ghost use Rattle.cam_edits.specs.Machinery.Shifts.{WereFirstCopies};
 use crate::shift::Shift;
 use cam_objects::{FirstCopies, Layer};
 
-/// Lets them follow items that shifted with a step. What comes to a place is not known. Takes no memory.
+/// Lets the first copies follow items that shifted with a step. What comes to a place is not known. Takes no memory.
 fn follow(copies: &mut FirstCopies, layer: &Layer, shift: Shift)
     requires { WereFirstCopies shift layer.now copies.old }
     ensures { AreFirstCopiesOf layer.now.apertures layer.now.items.items copies.new }
@@ -21,8 +21,8 @@ fn follow(copies: &mut FirstCopies, layer: &Layer, shift: Shift)
     }
 }
 
-/// The same, where it may be known that the layer is sound: then that of an item that changed at its place is read
-/// anew. Takes no memory.
+/// Lets the first copies follow a step. In a layer that is known to be sound, that of an item that changed at its place
+/// is read anew. Takes no memory.
 pub(crate) fn mend_copies(copies: &mut FirstCopies, layer: &Layer, shift: Shift, sound: bool)
     requires sound { IsTrue sound → HasSoundItems layer.now }
     requires was { WereFirstCopies shift layer.now copies.old }

@@ -22,7 +22,7 @@ ghost use Rattle.cam_edits.specs.Machinery.Shifts.{
 use crate::drill_judging::is_tool_size;
 use crate::indexed::Kept;
 use crate::item_tools::next_of_tool;
-use crate::mending::{forget, item_at, mend};
+use crate::mending::{item_at, mend};
 use crate::shift::Shift;
 use cam_objects::{DrillLayer, ItemCells, ItemNumbers};
 use cam_refusals::limits::{COUNT_LIMIT, LEAF_LIMIT};
@@ -38,7 +38,8 @@ pub(crate) fn leaves_at(layer: &DrillLayer, place: Option<usize>) -> u64
     }
 }
 
-/// The same where the other items alone are known to be sound; nothing where this one is not.
+/// How many leaves the item at a place has, 0 where there is none; nothing where it is not sound. The other items are
+/// known to be sound.
 fn leaves_come(layer: &DrillLayer, place: Option<usize>) -> Option<u64>
     ensures value { IfSome result (λ leaves. leaves ≡ drill_leaves_at layer.now place) }
     ensures few { IfSome result (λ leaves. leaves ≤ leaf_limit) }
@@ -133,6 +134,6 @@ pub(crate) fn mend_kept(
         None => mended(kept, shift, gone, layer),
     };
     if !follows {
-        forget(known);
+        *known = None;
     }
 }

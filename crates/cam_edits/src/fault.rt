@@ -2,7 +2,7 @@
 
 ghost use Rattle.std.specs.Prelude.{◌≡◌};
 ghost use Rattle.cam_refusals.specs.Refusals.{number_of};
-ghost use Rattle.cam_edits.specs.Faults.{refusal_of};
+ghost use Rattle.cam_edits.specs.Faults.{edit_refusal};
 ghost use Rattle.cam_edits.specs.declared.fault.EditFault.TheVariants.{Memory};
 
 use cam_refusals::Refusal;
@@ -58,7 +58,7 @@ pub enum EditFault {
 impl EditFault {
     /// The refusal that is told of it.
     pub fn refusal(self) -> Refusal
-        ensures { result ≡ refusal_of self }
+        ensures { result ≡ edit_refusal self }
     {
         match self {
             EditFault::NoLayer => Refusal::NoLayer,
@@ -79,7 +79,7 @@ impl EditFault {
 
     /// The number by which a refusal is told: 60 to 69, 74, 75 or 30.
     pub fn number(self) -> u8
-        ensures { result ≡ number_of (refusal_of self) }
+        ensures { result ≡ number_of (edit_refusal self) }
     {
         self.refusal().number()
     }

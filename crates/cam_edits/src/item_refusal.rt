@@ -1,14 +1,14 @@
 //! Refusals of edits whose items have faults.
 
 ghost use Rattle.std.specs.Prelude.{◌≡◌};
-ghost use Rattle.cam_edits.specs.Machinery.Judging.{insertion_answer, refusal_of};
+ghost use Rattle.cam_edits.specs.Machinery.Judging.{insertion_answer, item_refusal};
 
 use crate::fault::EditFault;
 use cam_objects::ItemFault;
 
 /// The refusal of an edit whose item has this fault.
-pub(crate) fn refusal_of(fault: ItemFault) -> EditFault
-    ensures { result ≡ refusal_of fault }
+pub(crate) fn item_refusal(fault: ItemFault) -> EditFault
+    ensures { result ≡ item_refusal fault }
 {
     match fault {
         ItemFault::Malformed => EditFault::WrongKind,
@@ -31,7 +31,7 @@ pub(crate) fn check_insertion(
     match checked {
         Err(ItemFault::Malformed) => Err(EditFault::WrongKind),
         _ if !has_place => Err(EditFault::NoItem),
-        Err(fault) => Err(refusal_of(fault)),
+        Err(fault) => Err(item_refusal(fault)),
         Ok(()) => Ok(()),
     }
 }

@@ -14,7 +14,7 @@ use crate::apertures::other_aperture;
 use crate::attribute_judging::{dropping, setting};
 use crate::edit::{Change, NewItem};
 use crate::fault::EditFault;
-use crate::item_refusal::{check_insertion, refusal_of};
+use crate::item_refusal::{check_insertion, item_refusal};
 use crate::moving::{is_move, way};
 use crate::step::Step;
 use cam_objects::{Item, Layer, Object};
@@ -106,7 +106,7 @@ fn aperture_change(layer: &Layer, leaves: u64, k: usize, n: u32) -> Result<Step,
         return Err(EditFault::HasNone);
     };
     if let Err(fault) = layer.check_item(&item) {
-        return Err(refusal_of(fault));
+        return Err(item_refusal(fault));
     }
     if !layer.has_room_at_beside(leaves, k, &item) {
         return Err(EditFault::TooMuch);

@@ -65,7 +65,8 @@ pub(crate) fn leaves_at(layer: &Layer, place: Option<usize>, sound: bool) -> u64
     }
 }
 
-/// The same where the other items alone are known to be sound; nothing where this one is not.
+/// How many leaves the item at a place has, 0 where there is none; nothing where it is not sound. The other items are
+/// known to be sound.
 fn leaves_come(layer: &Layer, place: Option<usize>) -> Option<u64>
     ensures value { IfSome result (λ leaves. leaves ≡ leaves_at layer.now place) }
     ensures few { IfSome result (λ leaves. leaves ≤ leaf_limit) }
@@ -108,13 +109,6 @@ fn mended(kept: &mut Kept, shift: Shift, gone: u64, layer: &Layer) -> bool
     true
 }
 
-/// Nothing is kept any more.
-pub(crate) fn forget(known: &mut Option<Kept>)
-    ensures { known.new ≡ None }
-{
-    *known = None;
-}
-
 /// Lets what is kept, if anything is, follow such a step: it is given up where the step made the layer unsound.
 pub(crate) fn mend_kept(known: &mut Option<Kept>, shift: Shift, gone: u64, layer: &Layer)
     requires { (kept : Kept) → known.old ≡ Some kept → WasKept kept shift gone layer.now }
@@ -124,6 +118,6 @@ pub(crate) fn mend_kept(known: &mut Option<Kept>, shift: Shift, gone: u64, layer
         return;
     };
     if !mended(kept, shift, gone, layer) {
-        forget(known);
+        *known = None;
     }
 }

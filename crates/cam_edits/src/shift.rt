@@ -1,6 +1,6 @@
 //! Where steps move the items of a layer.
 
-ghost use Rattle.std.specs.Prelude.{◌≡◌, None, Some};
+ghost use Rattle.std.specs.Prelude.{◌≡◌};
 ghost use Rattle.cam_objects.specs.Contents.{Content, DrillContent};
 ghost use Rattle.cam_edits.specs.DrillSteps.{IsDrillFit, drill_items_after};
 ghost use Rattle.cam_edits.specs.Machinery.Shifts.{IsShift};
@@ -18,54 +18,11 @@ pub(crate) struct Shift {
 }
 
 impl Shift {
-    /// The item at a place is changed there.
-    fn at(k: usize) -> Shift
-        ensures { result ≡ record { from = Some k; to = Some k } }
+    /// The item at a place leaves it, if there is one, and then one comes to a place, if there is one.
+    fn between(from: Option<usize>, to: Option<usize>) -> Shift
+        ensures { result ≡ record { from = from; to = to } }
     {
-        Shift {
-            from: Some(k),
-            to: Some(k),
-        }
-    }
-
-    /// No item changes.
-    fn none() -> Shift
-        ensures { result ≡ record { from = None; to = None } }
-    {
-        Shift {
-            from: None,
-            to: None,
-        }
-    }
-
-    /// An item comes to a place.
-    fn inserted(k: usize) -> Shift
-        ensures { result ≡ record { from = None; to = Some k } }
-    {
-        Shift {
-            from: None,
-            to: Some(k),
-        }
-    }
-
-    /// The item at a place leaves it.
-    fn deleted(k: usize) -> Shift
-        ensures { result ≡ record { from = Some k; to = None } }
-    {
-        Shift {
-            from: Some(k),
-            to: None,
-        }
-    }
-
-    /// The item at place `k` comes to place `m`.
-    fn reordered(k: usize, m: usize) -> Shift
-        ensures { result ≡ record { from = Some k; to = Some m } }
-    {
-        Shift {
-            from: Some(k),
-            to: Some(m),
-        }
+        Shift { from, to }
     }
 
     /// Of a step that fits a layer.
@@ -73,15 +30,15 @@ impl Shift {
         ensures { (c : Content) → IsFit step.now c → IsShift result c.items (items_after step.now c.items) }
     {
         match step {
-            Step::Insert { k, .. } => Shift::inserted(*k),
-            Step::Delete { k } => Shift::deleted(*k),
-            Step::Reorder { k, m } => Shift::reordered(*k, *m),
-            Step::Move { k, .. } => Shift::at(*k),
-            Step::Aperture { k, .. } => Shift::at(*k),
-            Step::Polarity { k, .. } => Shift::at(*k),
-            Step::PutAttribute { .. } => Shift::none(),
-            Step::TakeAttribute { .. } => Shift::none(),
-            Step::SetFields { .. } => Shift::none(),
+            Step::Insert { k, .. } => Shift::between(None, Some(*k)),
+            Step::Delete { k } => Shift::between(Some(*k), None),
+            Step::Reorder { k, m } => Shift::between(Some(*k), Some(*m)),
+            Step::Move { k, .. } => Shift::between(Some(*k), Some(*k)),
+            Step::Aperture { k, .. } => Shift::between(Some(*k), Some(*k)),
+            Step::Polarity { k, .. } => Shift::between(Some(*k), Some(*k)),
+            Step::PutAttribute { .. } => Shift::between(None, None),
+            Step::TakeAttribute { .. } => Shift::between(None, None),
+            Step::SetFields { .. } => Shift::between(None, None),
         }
     }
 
@@ -91,12 +48,12 @@ impl Shift {
             → IsShift result c.items (drill_items_after step.now c.items) }
     {
         match step {
-            DrillStep::Insert { k, .. } => Shift::inserted(*k),
-            DrillStep::Delete { k } => Shift::deleted(*k),
-            DrillStep::Reorder { k, m } => Shift::reordered(*k, *m),
-            DrillStep::Move { k, .. } => Shift::at(*k),
-            DrillStep::Tool { k, .. } => Shift::at(*k),
-            DrillStep::Diameter { .. } => Shift::none(),
+            DrillStep::Insert { k, .. } => Shift::between(None, Some(*k)),
+            DrillStep::Delete { k } => Shift::between(Some(*k), None),
+            DrillStep::Reorder { k, m } => Shift::between(Some(*k), Some(*m)),
+            DrillStep::Move { k, .. } => Shift::between(Some(*k), Some(*k)),
+            DrillStep::Tool { k, .. } => Shift::between(Some(*k), Some(*k)),
+            DrillStep::Diameter { .. } => Shift::between(None, None),
         }
     }
 }

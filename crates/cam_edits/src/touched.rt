@@ -8,7 +8,7 @@ ghost use Rattle.cam_objects.specs.DrillSoundness.{IsSoundDrillItem, IsSoundDril
 ghost use Rattle.cam_objects.specs.Leaves.{item_leaves, meaning_in};
 ghost use Rattle.cam_objects.specs.Soundness.{HasSoundItems, IsSoundItem};
 ghost use Rattle.cam_edits.specs.DrillSteps.{with_tool};
-ghost use Rattle.cam_refusals.specs.Checks.{first};
+ghost use Rattle.cam_refusals.specs.Checks.{first_holding};
 ghost use Rattle.cam_edits.specs.Editing.{drill_step_checks, step_checks};
 ghost use Rattle.cam_edits.specs.Machinery.Shifts.{AreToolsOf, tools_of};
 ghost use Rattle.cam_edits.specs.Steps.{with_aperture, with_object};
@@ -27,7 +27,7 @@ use std::alloc::{AllocError, Global};
 /// The boxes of what an accepted step of the layer touches.
 pub(crate) fn touched(alloc: Global, layer: &Layer, step: &Step) -> Result<Vec<Bounds>, AllocError>
     requires sound { HasSoundItems layer.now }
-    requires accepted { first (step_checks (content_of layer.now) step.now) ≡ None }
+    requires accepted { first_holding (step_checks (content_of layer.now) step.now) ≡ None }
     ensures { IfOk result (λ boxes. boxes.items ≡ touched step.now (content_of layer.now)) }
 {
     match step {
@@ -58,7 +58,7 @@ pub(crate) fn drill_touched(
 ) -> Result<Vec<Bounds>, AllocError>
     requires sound { IsSoundDrillLayer layer.now }
     requires known { AreToolsOf (tools_of layer.now.items.items) tools.now }
-    requires accepted { first (drill_step_checks (drill_content_of layer.now) step.now) ≡ None }
+    requires accepted { first_holding (drill_step_checks (drill_content_of layer.now) step.now) ≡ None }
     ensures { IfOk result (λ boxes. boxes.items ≡ drill_touched step.now (drill_content_of layer.now)) }
 {
     match step {
@@ -158,7 +158,7 @@ fn boxes_of_tool(
 ) -> Result<Vec<Bounds>, AllocError>
     requires sound { IsSoundDrillLayer layer.now }
     requires known { AreToolsOf (tools_of layer.now.items.items) tools.now }
-    requires accepted { first (drill_step_checks (drill_content_of layer.now) (Diameter t d)) ≡ None }
+    requires accepted { first_holding (drill_step_checks (drill_content_of layer.now) (Diameter t d)) ≡ None }
     ensures { IfOk result (λ boxes. boxes.items ≡ drill_touched (Diameter t d) (drill_content_of layer.now)) }
 {
     let mut boxes = Vec::with_capacity(alloc, 2 * count_of_tool(layer, tools, t))?;

@@ -4,7 +4,7 @@ use Rattle.std.proofs.Common.{subst}
 use Rattle.std.specs.Prelude.{IsOk, slice_get}
 use Rattle.cam_units.specs.declared.bounds.Bounds.{Bounds}
 use Rattle.cam_tiles.specs.Tables.{Table}
-use Rattle.cam_tiles.specs.Touched.{touched, touched_by}
+use Rattle.cam_tiles.specs.Touched.{box_touched, touched_by}
 use Rattle.cam_edits.specs.declared.fault.EditFault.{EditFault}
 use Rattle.cam_edits.specs.Editing.{edited}
 use Rattle.cam_edits.specs.Sheets.{Sheet}
@@ -34,7 +34,7 @@ use Rattle.cam_station.proofs.TablesAt.{touched_at}
 
 window_stays : (boxes : List Bounds) (t : Table) → (touched_by boxes t).window ≡ t.window
 window_stays [] t = refl
-window_stays (box ∷ boxes) t = window_stays boxes (touched box t)
+window_stays (box ∷ boxes) t = window_stays boxes (box_touched box t)
 
 module _ (s : State) (place : ℕ) (t : Table) (here : slice_get s.tables place ≡ Some t) where
   abbrev Dirties : List Touch → State × Outcome → Type 0

@@ -9,7 +9,7 @@ use Rattle.cam_refusals.specs.Refusals.{is_same, number_of}
 use Rattle.cam_objects.specs.Contents.{Content as GerberContent, DrillContent}
 use Rattle.cam_gerber.specs.Computing.{reading_of as gerber_reading}
 use Rattle.cam_gerber.proofs.Computed.{fault_number}
-use Rattle.cam_xnc.specs.Reading.{reading_of as drill_reading}
+use Rattle.cam_xnc.specs.Reading.{drill_reading_of as drill_reading}
 use Rattle.cam_xnc.proofs.LeastFaults.{own_fault}
 use Rattle.cam_script.specs.declared.command.FileKind.{FileKind}
 use Rattle.cam_script.specs.declared.command.FileKind.TheVariants as kinds

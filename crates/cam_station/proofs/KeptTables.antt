@@ -9,7 +9,7 @@ use Rattle.cam_units.specs.declared.point.Spot.{Spot}
 use Rattle.cam_tiles.specs.declared.window.Window.{Window}
 use Rattle.cam_tiles.specs.Picture.{accepts}
 use Rattle.cam_tiles.specs.Tables.{IsTable, Table, Tile, blank, dirty_count, drawn_from, redrawn}
-use Rattle.cam_tiles.specs.Touched.{touched, touched_by, touches, wiped_from}
+use Rattle.cam_tiles.specs.Touched.{box_touched, touched_by, touches, wiped_from}
 use Rattle.cam_tiles.specs.Tiles.{grid_of, tile_rows, tiles_of}
 use Rattle.cam_edits.specs.Images.{image_of}
 use Rattle.cam_edits.specs.Places.{changed, changed_to}
@@ -37,7 +37,7 @@ length-drawn draw k (suc n) (None ∷ tiles) = ap suc (length-drawn draw (k + 1)
 module _ (w : Window) where
   touched_stays : (boxes : List Bounds) (t : Table) → IsTableOf w t → IsTableOf w (touched_by boxes t)
   touched_stays [] t h = h
-  touched_stays (box ∷ boxes) t h = touched_stays boxes (touched box t)
+  touched_stays (box ∷ boxes) t h = touched_stays boxes (box_touched box t)
       (record { accepted = h.0.accepted; full = length-wiped (touches t.window box) 0 t.tiles ∙ h.0.full }, h.1)
 
   redrawn_stays : (image : Spot → Bool) (n : ℕ) (t : Table) → IsTableOf w t → IsTableOf w (redrawn image n t)

@@ -6,10 +6,11 @@ use Rattle.cam_refusals.specs.Refusals.{is_same}
 use Rattle.cam_objects.specs.declared.drill_layer.DrillLayer.{DrillLayer}
 use Rattle.cam_objects.specs.declared.layer.Layer.{Layer}
 use Rattle.cam_objects.specs.Contents.{content_of as gerber_content, drill_content_of as drill_content}
-use Rattle.cam_gerber.specs.Reading.{IsReading as IsGerberReading, no_memory as no_gerber_memory, answer_of as gerber_answer}
+use Rattle.cam_gerber.specs.Reading.{IsReading as IsGerberReading, layer_answer as gerber_answer}
+use Rattle.cam_refusals.specs.FileFaults.{no_memory as no_gerber_memory, no_memory as no_drill_memory}
 use Rattle.cam_gerber.specs.Computing.{reading_of as gerber_reading}
 use Rattle.cam_gerber.proofs.Computed.{reading_answers as gerber_reads}
-use Rattle.cam_xnc.specs.Reading.{IsReading as IsDrillReading, no_memory as no_drill_memory, reading_of as drill_reading}
+use Rattle.cam_xnc.specs.Reading.{IsDrillReading, drill_reading_of as drill_reading}
 use Rattle.cam_edits.specs.Sheets.{Gerber, Drill}
 use Rattle.cam_edits.specs.declared.board.SheetContent.{SheetContent}
 use Rattle.cam_station.specs.declared.fault.Fault.{Fault}

@@ -11,7 +11,7 @@ use Rattle.cam_script.specs.declared.line.Line.{Line}
 use Rattle.cam_script.specs.declared.line.Line.TheVariants.{Command, Load, Plot, Write}
 use Rattle.cam_script.specs.declared.line.LineFault.{LineFault}
 use Rattle.cam_station.specs.Machine.{State, Outcome, MemoryGrant, Granted, fault, step}
-use Rattle.cam_script.specs.Faults.{refusal_of as line_refusal}
+use Rattle.cam_script.specs.Faults.{line_refusal}
 use Rattle.cam_script.specs.Parsing.{parsed, Parsed, is_no_memory}
 use Rattle.cam_station.specs.Run.{World, FilesSeen, Nothing, Get, Put, file_refusal, Answers, Tells}
 use Rattle.cam_station.specs.Run.{turn, parsed_turn, load_turn, plot_turn, put_turn, write_turn}

@@ -12,12 +12,12 @@ use Rattle.cam_edits.specs.declared.fault.EditFault.{EditFault}
 use Rattle.cam_edits.specs.declared.fault.EditFault.TheVariants as edits
 use Rattle.cam_edits.specs.Boards.{place_named}
 use Rattle.cam_edits.specs.Editing.{edited}
-use Rattle.cam_edits.specs.Faults.{refusal_of as edit_refusal}
+use Rattle.cam_edits.specs.Faults.{edit_refusal}
 use Rattle.cam_edits.specs.Sheets.{Content, Sheet, item_count}
 use Rattle.cam_edits.specs.Touches.{touch_of_edit}
 use Rattle.cam_undo.specs.declared.fault.HistoryFault.{HistoryFault}
 use Rattle.cam_undo.specs.declared.fault.HistoryFault.TheVariants as histories
-use Rattle.cam_undo.specs.Faults.{refusal_of as history_refusal}
+use Rattle.cam_undo.specs.Faults.{history_refusal}
 use Rattle.cam_undo.specs.Machine.{
   abort_fault,
   aborted,

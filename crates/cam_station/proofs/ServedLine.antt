@@ -11,7 +11,7 @@ use Rattle.cam_station.specs.declared.fault.Fault.{Fault}
 use Rattle.cam_station.specs.declared.files.FileFault.{FileFault}
 use Rattle.cam_station.specs.declared.files.FileFault.TheVariants.{Memory as NoMemory}
 use Rattle.cam_station.specs.Machine.{State, Outcome, MemoryGrant, Granted, fault, step}
-use Rattle.cam_script.specs.Faults.{refusal_of as line_refusal}
+use Rattle.cam_script.specs.Faults.{line_refusal}
 use Rattle.cam_station.specs.Run.{Nothing, World, load_turn, parsed_turn, plot_turn, turn, write_turn}
 use Rattle.cam_station.specs.Serving.{IsHanded, IsServed, without_bytes}
 

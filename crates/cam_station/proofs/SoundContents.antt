@@ -9,7 +9,7 @@ use Rattle.cam_objects.proofs.EditedAttributes.{none_set}
 use Rattle.cam_refusals.specs.declared.read_fault.ReadFault.{ReadFault}
 use Rattle.cam_gerber.specs.Computing.{reading_of as gerber_reading}
 use Rattle.cam_gerber.proofs.Computed.{attributes_are_sound, reading_is_sound as gerber_is_sound}
-use Rattle.cam_xnc.specs.Reading.{reading_of as drill_reading}
+use Rattle.cam_xnc.specs.Reading.{drill_reading_of as drill_reading}
 use Rattle.cam_xnc.proofs.SoundReadings.{reading_is_sound as drill_is_sound}
 use Rattle.cam_script.specs.declared.command.FileKind.{FileKind}
 use Rattle.cam_script.specs.declared.command.FileKind.TheVariants as kinds

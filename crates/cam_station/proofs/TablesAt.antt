@@ -8,7 +8,7 @@ use Rattle.std.proofs.lemmas.List.Sums.{fold-append}
 use Rattle.cam_units.specs.declared.bounds.Bounds.{Bounds}
 use Rattle.cam_tiles.specs.declared.window.Window.{Window}
 use Rattle.cam_tiles.specs.Tables.{Table, blank, dirty_count, redrawn}
-use Rattle.cam_tiles.specs.Touched.{touched, touched_by}
+use Rattle.cam_tiles.specs.Touched.{box_touched, touched_by}
 use Rattle.cam_edits.specs.Boards.{content_at}
 use Rattle.cam_edits.specs.Images.{image_of}
 use Rattle.cam_edits.specs.Places.{changed, changed_to}
@@ -51,7 +51,7 @@ module _ {X : Type 0} (f : X → X) where
 touched_on : (first more : List Bounds) (o : Option Table)
     → option_map (touched_by more) (option_map (touched_by first) o) ≡ option_map (touched_by (first ++ more)) o
 touched_on first more None = refl
-touched_on first more (Some t) = ap Some (sym (fold-append (λ before box. touched box before) t first more))
+touched_on first more (Some t) = ap Some (sym (fold-append (λ before box. box_touched box before) t first more))
 
 none_touched : (o : Option Table) → o ≡ option_map (touched_by []) o
 none_touched None = refl

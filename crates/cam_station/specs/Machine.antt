@@ -13,12 +13,12 @@ use Rattle.cam_edits.specs.declared.edit.Edit.{Edit}
 use Rattle.cam_edits.specs.declared.fault.EditFault.{EditFault}
 use Rattle.cam_edits.specs.Boards.{content_at, place_named}
 use Rattle.cam_edits.specs.Editing.{edited}
-use Rattle.cam_edits.specs.Faults.{refusal_of as edit_refusal}
+use Rattle.cam_edits.specs.Faults.{edit_refusal}
 use Rattle.cam_edits.specs.Places.{changed}
 use Rattle.cam_edits.specs.Sheets.{Content, Sheet, entry_count, item_count, sheet}
 use Rattle.cam_edits.specs.Touches.{Touch, touch_of_edit}
 use Rattle.cam_undo.specs.declared.fault.HistoryFault.{HistoryFault}
-use Rattle.cam_undo.specs.Faults.{refusal_of as history_refusal}
+use Rattle.cam_undo.specs.Faults.{history_refusal}
 use Rattle.cam_undo.specs.Machine.{Timeline, abort_fault, aborted, accepted, begin_fault, begun}
 use Rattle.cam_undo.specs.Machine.{end_fault, ended, greatest_depth, redo_fault, redone, undo_fault, undone}
 use Rattle.cam_script.specs.declared.command.Command.{Command}
@@ -115,14 +115,14 @@ with_room RefusedToStation s change = (s, refused NoMemory)
 abbrev pub is_depth : ℕ → Bool
 is_depth depth = nat_le 1 depth && nat_le depth greatest_depth
 
-abbrev pub made : ℕ → MemoryGrant → Result State Fault
-made depth Granted = Ok (fresh depth)
-made depth RefusedToReader = Ok (fresh depth)
-made depth RefusedToStation = Err (fault NoMemory)
+abbrev pub station_made : ℕ → MemoryGrant → Result State Fault
+station_made depth Granted = Ok (fresh depth)
+station_made depth RefusedToReader = Ok (fresh depth)
+station_made depth RefusedToStation = Err (fault NoMemory)
 
 -- a station of this depth, or the refusal of another depth
 abbrev pub station_of : ℕ → MemoryGrant → Result State Fault
-station_of depth memory = if is_depth depth then made depth memory else Err (fault OutOfLimits)
+station_of depth memory = if is_depth depth then station_made depth memory else Err (fault OutOfLimits)
 
 -- load ----------------------------------------------------------------------------------------
 

@@ -4,7 +4,7 @@ use Rattle.cam_refusals.specs.declared.read_fault.ReadFault.{ReadFault}
 use Rattle.cam_refusals.specs.declared.refusal.Refusal.{Refusal}
 use Rattle.cam_objects.specs.Contents.{Content as GerberContent, DrillContent}
 use Rattle.cam_gerber.specs.Computing.{reading_of as gerber_reading}
-use Rattle.cam_xnc.specs.Reading.{reading_of as drill_reading}
+use Rattle.cam_xnc.specs.Reading.{drill_reading_of as drill_reading}
 use Rattle.cam_script.specs.declared.command.FileKind.{FileKind}
 use Rattle.cam_script.specs.declared.command.FileKind.TheVariants as kinds
 use Rattle.cam_station.specs.declared.fault.Fault.{Fault}

@@ -15,7 +15,7 @@ use Rattle.cam_station.specs.declared.reply.Reply.TheVariants.{Bytes, Numbers}
 use Rattle.cam_station.specs.declared.running.RunFault.{RunFault}
 use Rattle.cam_station.specs.declared.running.RunFault.TheVariants.{Depth, Output, Memory as RunMemory}
 use Rattle.cam_script.specs.declared.line.Line.TheVariants.{Command, Load, Plot, Write}
-use Rattle.cam_script.specs.Faults.{refusal_of as line_refusal}
+use Rattle.cam_script.specs.Faults.{line_refusal}
 use Rattle.cam_station.specs.Machine.{State, Outcome, MemoryGrant, fresh, is_depth, refused, step}
 use Rattle.cam_station.specs.Files.{ToldFiles, FailsIfAbsent, Holds, Stored, MayHaveStored, HasRisenBy, failures_of}
 use Rattle.cam_script.specs.Parsing.{Parsed, parsed}

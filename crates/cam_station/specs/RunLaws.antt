@@ -8,7 +8,7 @@ use Rattle.cam_script.specs.declared.command.Command.TheVariants as commands
 use Rattle.cam_station.specs.declared.files.FileFault.{FileFault}
 use Rattle.cam_script.specs.declared.line.Line.TheVariants.{Command, Load, Plot, Write}
 use Rattle.cam_station.specs.declared.reply.Reply.TheVariants.{Bytes}
-use Rattle.cam_script.specs.Faults.{refusal_of as line_refusal}
+use Rattle.cam_script.specs.Faults.{line_refusal}
 use Rattle.cam_station.specs.Machine.{State, Outcome, MemoryGrant, refused}
 use Rattle.cam_station.specs.Calls.{Call, answers_to, states_after}
 use Rattle.cam_station.specs.Files.{HasRisenBy}

@@ -21,18 +21,8 @@ ghost use Rattle.cam_edits.specs.Sheets.{IsSound, sheet_of};
 
 use crate::station::Station;
 use cam_edits::{ListedEntry, ListedItem, Name, Sheet};
-use cam_objects::Attribute;
+use cam_objects::{Attribute, is_place};
 use cam_units::{Bounds, Spot};
-
-/// The coordinates of a place are under two metres in absolute value, in half nm.
-const PLACES: u64 = 2_000_000_000;
-
-/// Whether a spot is a place of the board.
-fn is_place(spot: Spot) -> bool
-    ensures { IsTrue result ↔ IsPlace spot }
-{
-    spot.x.unsigned_abs() < PLACES && spot.y.unsigned_abs() < PLACES
-}
 
 impl Station {
     /// How many layers there are.

@@ -64,6 +64,7 @@ mod serving;
 mod showing;
 mod station;
 mod touching;
+mod watch;
 
 pub use cam_edits::{Change, Edit, ListedEntry, ListedItem, Name, NewItem, Sheet, SheetContent};
 pub use cam_objects::{Contour, DrillItem, Item, Object, Objects, Points, Seg, Segments};
@@ -81,6 +82,7 @@ pub use laws::{
 pub use out::Out;
 pub use reply::{Numbers, Reply};
 pub use run_laws::{few_file_refusals, files_are_exact, run_is_commands};
-pub use running::{RunFault, run};
+pub use running::{RunFault, run, run_watched};
 pub use serving::{Served, apply_line};
 pub use station::Station;
+pub use watch::{Unwatched, Watch};

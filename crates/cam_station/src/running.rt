@@ -25,6 +25,7 @@ use crate::out::Out;
 use crate::reply::{Numbers, Reply};
 use crate::reply_line::say_reply;
 use crate::station::Station;
+use crate::watch::{Unwatched, Watch};
 use cam_edits::Name;
 use cam_refusals::Refusal;
 use cam_script::{Bytes, Command, FileKind, FilePath, Line, Lines, parse_line};
@@ -163,12 +164,13 @@ fn run_line<F: Files>(
 }
 
 /// Runs one line and says its reply; the count of refused lines after it.
-fn serve_line<F: Files, O: Out>(
+fn serve_line<F: Files, O: Out, V: Watch<F>>(
     alloc: Global,
     station: &mut Station,
     line: &[u8],
     files: &mut F,
     out: &mut O,
+    watch: &mut V,
     refused: u64,
 ) -> Result<u64, RunFault>
     requires { refused + 1 < 2 ^ 64 }
@@ -188,9 +190,11 @@ fn serve_line<F: Files, O: Out>(
     let Some(reply) = run_line(alloc, station, line, files) else {
         return Ok(refused);
     };
+    watch.reply();
     if !say_reply(out, &reply) {
         return Err(RunFault::Output);
     }
+    watch.replied(line, &reply, station, files);
     match reply {
         Ok(_) => Ok(refused),
         Err(_) => Ok(refused + 1),
@@ -238,11 +242,36 @@ pub fn run<F: Files, O: Out>(
         (moment (F.contents files.old) (F.failed files.old) (O.said out.old) (O.failed out.old) 0)
         (moment (F.contents files.new) (F.failed files.new) (O.said out.new) (O.failed out.new) 0)) }
 {
+    run_watched(alloc, depth, script, files, out, &mut Unwatched)
+}
+
+/// Does what [`run`] does, and lets a watch see it.
+pub fn run_watched<F: Files, O: Out, V: Watch<F>>(
+    alloc: Global,
+    depth: u32,
+    script: &[u8],
+    files: &mut F,
+    out: &mut O,
+    watch: &mut V,
+) -> Result<u64, RunFault>
+    ensures ok { IfOk result (λ refused. (is_depth depth ≡ true) × (ws : List World)
+        × RunsAllLines (fresh depth) (lines script.now) ws
+        (moment (F.contents files.old) (F.failed files.old) (O.said out.old) (O.failed out.old) 0)
+        (moment (F.contents files.new) (F.failed files.new) (O.said out.new) (O.failed out.new)
+        refused)) }
+    ensures err { IfErr result (λ fault. EndsBy fault depth (lines script.now)
+        (moment (F.contents files.old) (F.failed files.old) (O.said out.old) (O.failed out.old) 0)
+        (moment (F.contents files.new) (F.failed files.new) (O.said out.new) (O.failed out.new) 0)) }
+{
     let mut station = begin(alloc, depth)?;
+    watch.script(script);
     let mut lines = Lines::new(script);
+    let mut number = 0u64;
     let mut refused = 0u64;
     while let Some(line) = lines.next() {
-        refused = serve_line(alloc, &mut station, line, files, out, refused)?;
+        number = number.saturating_add(1);
+        watch.line(number, line);
+        refused = serve_line(alloc, &mut station, line, files, out, watch, refused)?;
     }
     Ok(refused)
 }

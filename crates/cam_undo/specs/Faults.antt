@@ -5,10 +5,10 @@ use Rattle.cam_undo.specs.declared.fault.HistoryFault.{HistoryFault}
 use Rattle.cam_undo.specs.declared.fault.HistoryFault.TheVariants.{Depth, GroupOpen, NoGroup}
 use Rattle.cam_undo.specs.declared.fault.HistoryFault.TheVariants.{NothingToUndo, NothingToRedo, Memory}
 
-abbrev pub refusal_of : HistoryFault → Refusal
-refusal_of Depth = refusals.OutOfLimits
-refusal_of GroupOpen = refusals.GroupOpen
-refusal_of NoGroup = refusals.NoGroup
-refusal_of NothingToUndo = refusals.NothingToUndo
-refusal_of NothingToRedo = refusals.NothingToRedo
-refusal_of Memory = refusals.NoMemory
+abbrev pub history_refusal : HistoryFault → Refusal
+history_refusal Depth = refusals.OutOfLimits
+history_refusal GroupOpen = refusals.GroupOpen
+history_refusal NoGroup = refusals.NoGroup
+history_refusal NothingToUndo = refusals.NothingToUndo
+history_refusal NothingToRedo = refusals.NothingToRedo
+history_refusal Memory = refusals.NoMemory

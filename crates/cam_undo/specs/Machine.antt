@@ -114,6 +114,6 @@ abbrev pub depth_fault : ℕ → Option HistoryFault
 depth_fault depth = if nat_lt depth 1 then Some Depth else if nat_lt greatest_depth depth then Some Depth else None
 
 -- The fault of a refused call: memory is refused only where nothing else is.
-abbrev pub IsRefusal : Option HistoryFault → HistoryFault → Type 0
-IsRefusal None fault = fault ≡ Memory
-IsRefusal (Some told) fault = fault ≡ told
+abbrev pub IsHistoryRefusal : Option HistoryFault → HistoryFault → Type 0
+IsHistoryRefusal None fault = fault ≡ Memory
+IsHistoryRefusal (Some told) fault = fault ≡ told

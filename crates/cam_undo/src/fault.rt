@@ -2,7 +2,7 @@
 
 ghost use Rattle.std.specs.Prelude.{◌≡◌};
 ghost use Rattle.cam_refusals.specs.Refusals.{number_of};
-ghost use Rattle.cam_undo.specs.Faults.{refusal_of};
+ghost use Rattle.cam_undo.specs.Faults.{history_refusal};
 ghost use Rattle.cam_undo.specs.declared.fault.HistoryFault.TheVariants.{Memory};
 
 use cam_refusals::Refusal;
@@ -35,7 +35,7 @@ pub enum HistoryFault {
 impl HistoryFault {
     /// The refusal that it is told as.
     pub fn refusal(self) -> Refusal
-        ensures { result ≡ refusal_of self }
+        ensures { result ≡ history_refusal self }
     {
         match self {
             HistoryFault::Depth => Refusal::OutOfLimits,
@@ -49,7 +49,7 @@ impl HistoryFault {
 
     /// The number by which it is told: 50, 72, 73, 70, 71 or 30.
     pub fn number(self) -> u8
-        ensures { result ≡ number_of (refusal_of self) }
+        ensures { result ≡ number_of (history_refusal self) }
     {
         self.refusal().number()
     }

@@ -4,7 +4,7 @@ ghost use Rattle.std.specs.Prelude.{◌≡◌, ◌≤◌, IfErr, IfOk, IsErrOf, 
 ghost use Rattle.std.specs.Option.{option_copied};
 ghost use Rattle.circular_buffer.specs.Buffer.{last_item};
 ghost use Rattle.cam_undo.specs.Counted.{counts_at, counts_of};
-ghost use Rattle.cam_undo.specs.Machine.{IsRefusal, abort_fault, aborted, accepted, begin_fault, begun, cleared};
+ghost use Rattle.cam_undo.specs.Machine.{IsHistoryRefusal, abort_fault, aborted, accepted, begin_fault, begun, cleared};
 ghost use Rattle.cam_undo.specs.Machine.{depth_fault};
 ghost use Rattle.cam_undo.specs.Machine.{end_fault, ended, redo_fault, redone, undo_fault, undone};
 ghost use Rattle.cam_undo.specs.Timelines.{GroupLeads, IsTied, open_answers, timeline_of, with_group_closed};
@@ -62,7 +62,7 @@ impl<S: Reversible> History<S> {
     /// A history without past and future, of a depth from 1 to 1,000.
     pub fn new(alloc: Global, depth: usize) -> Result<History<S>, HistoryFault>
         ensures made { IfOk result (λ h. h ≡ record { depth = depth; past = []; future = []; open_group = None }) }
-        ensures refused { IfErr result (λ fault. IsRefusal (depth_fault depth) fault) }
+        ensures refused { IfErr result (λ fault. IsHistoryRefusal (depth_fault depth) fault) }
         ensures accepted { OnOk result (depth_fault depth ≡ None) }
     {
         if depth < 1 || depth > DEEPEST {
@@ -148,7 +148,7 @@ impl<S: Reversible> History<S> {
             ≡ aborted (timeline_of S.Reversible self.old doc.old)) }
         ensures allowed { OnOk result (abort_fault (timeline_of S.Reversible self.old doc.old) ≡ None) }
         ensures fault { IfErr result (λ fault.
-            IsRefusal (abort_fault (timeline_of S.Reversible self.old doc.old)) fault) }
+            IsHistoryRefusal (abort_fault (timeline_of S.Reversible self.old doc.old)) fault) }
         ensures refused { OnErr result ((self.new ≡ self.old) × (S.content doc.new ≡ S.content doc.old)) }
     {
         let Some(group) = &self.group else {
@@ -171,7 +171,7 @@ impl<S: Reversible> History<S> {
             ≡ undone (timeline_of S.Reversible self.old doc.old)) }
         ensures allowed { OnOk result (undo_fault (timeline_of S.Reversible self.old doc.old) ≡ None) }
         ensures fault { IfErr result (λ fault.
-            IsRefusal (undo_fault (timeline_of S.Reversible self.old doc.old)) fault) }
+            IsHistoryRefusal (undo_fault (timeline_of S.Reversible self.old doc.old)) fault) }
         ensures refused { OnErr result ((self.new ≡ self.old) × (S.content doc.new ≡ S.content doc.old)) }
     {
         if self.group.is_some() {
@@ -193,7 +193,7 @@ impl<S: Reversible> History<S> {
             ≡ redone (timeline_of S.Reversible self.old doc.old)) }
         ensures allowed { OnOk result (redo_fault (timeline_of S.Reversible self.old doc.old) ≡ None) }
         ensures fault { IfErr result (λ fault.
-            IsRefusal (redo_fault (timeline_of S.Reversible self.old doc.old)) fault) }
+            IsHistoryRefusal (redo_fault (timeline_of S.Reversible self.old doc.old)) fault) }
         ensures refused { OnErr result ((self.new ≡ self.old) × (S.content doc.new ≡ S.content doc.old)) }
     {
         if self.group.is_some() {

@@ -12,14 +12,14 @@ use Rattle.cam_edits.specs.declared.fault.EditFault.TheVariants.{WrongKind, NoIt
 use Rattle.cam_edits.specs.declared.fault.EditFault.TheVariants.{SizeRefused, OutOfBoard, TooMuch}
 
 -- the refusal of an edit whose item has that fault
-abbrev pub refusal_of : ItemFault → EditFault
-refusal_of Malformed = WrongKind
-refusal_of UnknownAperture = NoAperture
-refusal_of UnknownTool = NoTool
-refusal_of items.WrongAperture = WrongAperture
-refusal_of ZeroRadius = SizeRefused
-refusal_of items.OutOfBoard = OutOfBoard
-refusal_of items.TooMuch = TooMuch
+abbrev pub item_refusal : ItemFault → EditFault
+item_refusal Malformed = WrongKind
+item_refusal UnknownAperture = NoAperture
+item_refusal UnknownTool = NoTool
+item_refusal items.WrongAperture = WrongAperture
+item_refusal ZeroRadius = SizeRefused
+item_refusal items.OutOfBoard = OutOfBoard
+item_refusal items.TooMuch = TooMuch
 
 -- what an insertion is told where there is no such place
 abbrev pub unplaced : Result Unit ItemFault → EditFault
@@ -28,7 +28,7 @@ unplaced _ = NoItem
 
 abbrev pub placed : Result Unit ItemFault → Result Unit EditFault
 placed (Ok done) = Ok done
-placed (Err fault) = Err (refusal_of fault)
+placed (Err fault) = Err (item_refusal fault)
 
 -- the first refusal of an insertion whose item was checked so, and whose place is there or not
 abbrev pub insertion_answer : Result Unit ItemFault → Bool → Result Unit EditFault

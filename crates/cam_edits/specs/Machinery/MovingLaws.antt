@@ -3,10 +3,9 @@ use Rattle.std.proofs.Common.{refl, ap}
 use Rattle.std.proofs.Math.IntN.{+ℤ-neg_ℤ_cancel, neg_ℤ-neg_ℤ}
 use Rattle.std.proofs.lemmas.List.Elements.{All-map, All-weaker}
 use Rattle.cam_units.specs.declared.point.Point.{Point}
-use Rattle.cam_shapes.specs.Shifting.{IsShiftable, IsShiftableSeg, shifted_point, shifted_seg}
+use Rattle.cam_shapes.specs.Shifting.{IsShiftable, shifted_point, shifted_seg}
 use Rattle.cam_shapes.specs.declared.segments.Seg.{Seg}
 use Rattle.cam_shapes.specs.declared.segments.Seg.TheVariants.{Line, Curve}
-use Rattle.cam_objects.specs.Shifting.{IsShiftableObject, IsShiftableItem, IsShiftableDrillItem}
 use Rattle.cam_objects.specs.Shifting.{shifted_object, shifted_item, shifted_drill_item}
 use Rattle.cam_objects.specs.declared.object.Object.{Object}
 use Rattle.cam_objects.specs.declared.object.Object.TheVariants.{Flash, Draw, Arc, Region}
@@ -100,24 +99,3 @@ module _ (by : Point) where
   movable_drill_item (Hit tool at) h = movable_point at h
   movable_drill_item (Rout tool points) h =
       all_back (IsMovablePoint by) (IsMovablePoint back) (shifted_point by) movable_point points h
-
-  -- ---- what can be moved there and back has room to be moved
-  shiftable_seg : (seg : Seg) → IsMovableSeg by seg → IsShiftableSeg seg
-  shiftable_seg (Line to) h = h.0
-  shiftable_seg (Curve to centre ccw) h = (h.0.0, h.1.0)
-
-  shiftable_object : (object : Object) → IsMovableObject by object → IsShiftableObject object
-  shiftable_object (Flash n at t dark) h = h.0
-  shiftable_object (Draw n from to t dark) h = (h.0.0, h.1.0)
-  shiftable_object (Arc ccw dark n from to centre) h = (h.0.0, h.1.0, h.2.0)
-  shiftable_object (Region contour dark) h =
-      record { start = h.0.0; segs = All-weaker (IsMovableSeg by) IsShiftableSeg shiftable_seg contour.segs h.1 }
-
-  pub shiftable_item : (item : Item) → IsMovableItem by item → IsShiftableItem item
-  shiftable_item (One object) h = shiftable_object object h
-  shiftable_item (Repeat columns rows i j objects) h =
-      All-weaker (IsMovableObject by) IsShiftableObject shiftable_object objects h
-
-  pub shiftable_drill_item : (item : DrillItem) → IsMovableDrillItem by item → IsShiftableDrillItem item
-  shiftable_drill_item (Hit tool at) h = h.0
-  shiftable_drill_item (Rout tool points) h = All-weaker (IsMovablePoint by) IsShiftable (λ p q. q.0) points h

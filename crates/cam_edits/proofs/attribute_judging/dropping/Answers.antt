@@ -1,5 +1,5 @@
 use Rattle.std.proofs.Common.{◌≡◌, true, Some}
-use Rattle.cam_objects.specs.Attributes.{place_of as attribute_place}
+use Rattle.cam_objects.specs.Attributes.{attribute_place}
 use Rattle.cam_objects.specs.Contents.{content_of}
 use Rattle.cam_edits.specs.AttributeEdits.{is_key}
 use Rattle.cam_edits.proofs.AttributeSteps.{dropped}

@@ -1,5 +1,5 @@
 use Rattle.std.proofs.Common.{◌≡◌, ◌∙◌, ap, sym, length, Ok, arith}
-use Rattle.cam_objects.specs.Attributes.{attribute_of, place_of as attribute_place}
+use Rattle.cam_objects.specs.Attributes.{attribute_of, attribute_place}
 use Rattle.cam_objects.specs.Contents.{content_of}
 use Rattle.cam_edits.specs.AttributeEdits.{are_fields, is_key}
 use Rattle.cam_edits.specs.declared.step.Step.TheVariants.{PutAttribute}

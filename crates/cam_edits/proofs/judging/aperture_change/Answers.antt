@@ -25,7 +25,7 @@ returns-in-Err c =
     let x = c.in-Some.item.now in
     let read = c.in-Some.ensures.lookup in
     let set = c.in-Some-other_aperture in
-    rw c.refusal_of.ensures
+    rw c.item_refusal.ensures
     (aperture_refused (content_of layer) c.args.k c.args.n x
     (read_at layer.items.items c.deref.result.now c.args.k x c.deref.ensures.value read.0 read.1) set.item
     (sym c.other_aperture.ensures.value ∙ set.is) c.check_item.result c.check_item.ensures c.in-Err.fault c.in-Err.is)

@@ -1,119 +1,137 @@
-use Rattle.std.proofs.Common.{◌≡◌, ap, sym, ◌∙◌}
+use Rattle.std.proofs.Common.{◌≡◌, ap, refl, sym, ◌∙◌}
 use Rattle.std.proofs.lemmas.Result.{err_from_is_err_and}
 use Rattle.cam_objects.specs.Contents.{content_of as gerber_content, drill_content_of as drill_content}
 use Rattle.cam_edits.proofs.DrillEdits as drill_edits
 use Rattle.cam_edits.proofs.FittingEdits as fitting_edits
 use Rattle.cam_edits.proofs.Plans.{drill_no_memory, drill_planned, drill_told, no_layer, no_memory, planned, sound_there, told}
 use Rattle.cam_edits.proofs.planning.plan.Goals as goal
-use Rattle.cam_edits.specs.Boards.{content_at}
 use Rattle.cam_edits.specs.Editing.{drill_step_of}
-use Rattle.cam_edits.specs.Sheets.{Gerber, Drill, content_of, sheets_of}
+use Rattle.cam_edits.specs.Machinery.Shifts.{drill_leaves_in, leaves_in}
+use Rattle.cam_edits.specs.Sheets.{Content, Gerber, Drill, content_of, sheets_of}
+use Rattle.cam_edits.specs.declared.board.SheetContent.{SheetContent}
+use Rattle.cam_edits.specs.declared.board.SheetContent.TheVariants as kept
+
+-- what a sheet holds is seen of its layer, as it is handed out
+held : {L : Type 0} (of : L → SheetContent) (holds : Content) (content : SheetContent) (own layer : L)
+    → content_of content ≡ holds → content ≡ of own → layer ≡ own → holds ≡ content_of (of layer)
+held of holds content own layer e is same = sym e ∙ (ap content_of is ∙ ap (λ l. content_of (of l)) (sym same))
 
 pub returns-in_default-clause-refused : goal.returns-in_default-clause-refused
 returns-in_default-clause-refused c =
     no_layer c.args.edit (sheets_of c.args.board.now) (sym c.in_default.ensures.value)
 
-pub judged-requires : goal.judged-requires
-judged-requires c =
+pub leaves-requires : goal.leaves-requires
+leaves-requires c =
     let sheets = sheets_of c.args.board.now in
-    let holds : content_at sheets c.in-Some.sheet ≡ Gerber (gerber_content c.in-Gerber.layer) =
-    sym c.content.ensures ∙ ap content_of c.in-Gerber.is in
+    let holds = held kept.Gerber _ _ _ _ c.content.ensures c.in-Gerber.is refl in
+    (sound_there c.args.edit sheets c.in-Some.sheet (sym c.in-Some.ensures.value) c.in-Some.ensures.within c.requires
+    (Gerber (gerber_content c.in-Gerber.kept)) holds).content
+
+pub judged-requires-clause-leaves : goal.judged-requires-clause-leaves
+judged-requires-clause-leaves c = c.leaves.ensures ∙ sym (ap leaves_in c.layer-layer.ensures)
+
+pub judged-requires-clause-sound : goal.judged-requires-clause-sound
+judged-requires-clause-sound c =
+    let sheets = sheets_of c.args.board.now in
+    let holds = held kept.Gerber _ _ _ _ c.content.ensures c.in-Gerber.is c.layer-layer.ensures in
     sound_there c.args.edit sheets c.in-Some.sheet (sym c.in-Some.ensures.value) c.in-Some.ensures.within c.requires
-    (Gerber (gerber_content c.in-Gerber.layer)) holds
+    (Gerber (gerber_content c.layer-layer.result.now)) holds
 
 pub returns-in_err-step-in-Gerber-clause-refused : goal.returns-in_err-step-in-Gerber-clause-refused
 returns-in_err-step-in-Gerber-clause-refused c =
     let sheets = sheets_of c.args.board.now in
-    let holds : content_at sheets c.in-Some.sheet ≡ Gerber (gerber_content c.in-Gerber.layer) =
-    sym c.content.ensures ∙ ap content_of c.in-Gerber.is in
+    let holds = held kept.Gerber _ _ _ _ c.content.ensures c.in-Gerber.is c.layer-layer.ensures in
     let p = err_from_is_err_and c.from_residual.result c.from_residual.ensures.1 in
     rw (p.1, p.2)
     (told c.args.edit sheets c.in-Some.sheet (sym c.in-Some.ensures.value) c.in-Some.ensures.within
-    (gerber_content c.in-Gerber.layer) holds c.in_err-step-in-Gerber.field-0.0
+    (gerber_content c.layer-layer.result.now) holds c.in_err-step-in-Gerber.field-0.0
     (sym c.in_err-step-in-Gerber.ensures.value))
 
 pub touched-requires-clause-sound : goal.touched-requires-clause-sound
 touched-requires-clause-sound c =
     let sheets = sheets_of c.args.board.now in
-    let holds : content_at sheets c.in-Some.sheet ≡ Gerber (gerber_content c.in-Gerber.layer) =
-    sym c.content.ensures ∙ ap content_of c.in-Gerber.is in
+    let holds = held kept.Gerber _ _ _ _ c.content.ensures c.in-Gerber.is c.layer-layer.ensures in
     (sound_there c.args.edit sheets c.in-Some.sheet (sym c.in-Some.ensures.value) c.in-Some.ensures.within c.requires
-    (Gerber (gerber_content c.in-Gerber.layer)) holds).content
+    (Gerber (gerber_content c.layer-layer.result.now)) holds).content
 
 pub touched-requires-clause-accepted : goal.touched-requires-clause-accepted
 touched-requires-clause-accepted c =
-    (fitting_edits.change_accepted (gerber_content c.in-Gerber.layer) c.args.edit.change c.in_ok-step-in-Gerber.step
+    (fitting_edits.change_accepted (gerber_content c.layer-layer.result.now) c.args.edit.change c.in_ok-step-in-Gerber.step
     (sym c.in_ok-step-in-Gerber.ensures.value)).1
 
 pub returns-in_err-boxes-in-Gerber-clause-refused : goal.returns-in_err-boxes-in-Gerber-clause-refused
 returns-in_err-boxes-in-Gerber-clause-refused c =
     let sheets = sheets_of c.args.board.now in
-    let holds : content_at sheets c.in-Some.sheet ≡ Gerber (gerber_content c.in-Gerber.layer) =
-    sym c.content.ensures ∙ ap content_of c.in-Gerber.is in
+    let holds = held kept.Gerber _ _ _ _ c.content.ensures c.in-Gerber.is c.layer-layer.ensures in
     let up = c.from_residual-in_err-boxes-in-Gerber in
     let p = err_from_is_err_and up.result up.ensures.1 in
     rw p.1
     (no_memory c.args.edit sheets c.in-Some.sheet (sym c.in-Some.ensures.value) c.in-Some.ensures.within
-    (gerber_content c.in-Gerber.layer) holds c.in_ok-step-in-Gerber.step (sym c.in_ok-step-in-Gerber.ensures.value)
+    (gerber_content c.layer-layer.result.now) holds c.in_ok-step-in-Gerber.step (sym c.in_ok-step-in-Gerber.ensures.value)
     p.0 p.2)
 
 pub returns-in-Gerber-clause-planned : goal.returns-in-Gerber-clause-planned
 returns-in-Gerber-clause-planned c =
     let sheets = sheets_of c.args.board.now in
-    let holds : content_at sheets c.in-Some.sheet ≡ Gerber (gerber_content c.in-Gerber.layer) =
-    sym c.content.ensures ∙ ap content_of c.in-Gerber.is in
+    let holds = held kept.Gerber _ _ _ _ c.content.ensures c.in-Gerber.is c.layer-layer.ensures in
     planned c.args.edit sheets c.in-Some.sheet (sym c.in-Some.ensures.value) c.in-Some.ensures.within
-    (gerber_content c.in-Gerber.layer) holds c.in_ok-step-in-Gerber.step (sym c.in_ok-step-in-Gerber.ensures.value)
+    (gerber_content c.layer-layer.result.now) holds c.in_ok-step-in-Gerber.step (sym c.in_ok-step-in-Gerber.ensures.value)
     c.in_ok-boxes-in-Gerber.boxes c.in_ok-boxes-in-Gerber.ensures c.in_ok-step-in-Gerber.ensures.fits
 
-pub judged_drill-requires : goal.judged_drill-requires
-judged_drill-requires c =
+pub leaves-requires-in-Drill : goal.leaves-requires-in-Drill
+leaves-requires-in-Drill c =
     let sheets = sheets_of c.args.board.now in
-    let holds : content_at sheets c.in-Some.sheet ≡ Drill (drill_content c.in-Drill.layer) =
-    sym c.content.ensures ∙ ap content_of c.in-Drill.is in
+    let holds = held kept.Drill _ _ _ _ c.content.ensures c.in-Drill.is refl in
     sound_there c.args.edit sheets c.in-Some.sheet (sym c.in-Some.ensures.value) c.in-Some.ensures.within c.requires
-    (Drill (drill_content c.in-Drill.layer)) holds
+    (Drill (drill_content c.in-Drill.kept)) holds
+
+pub judged_drill-requires-clause-leaves : goal.judged_drill-requires-clause-leaves
+judged_drill-requires-clause-leaves c =
+    c.leaves-in-Drill.ensures ∙ sym (ap drill_leaves_in c.layer-layer-in-Drill.ensures)
+
+pub judged_drill-requires-clause-sound : goal.judged_drill-requires-clause-sound
+judged_drill-requires-clause-sound c =
+    let sheets = sheets_of c.args.board.now in
+    let holds = held kept.Drill _ _ _ _ c.content.ensures c.in-Drill.is c.layer-layer-in-Drill.ensures in
+    sound_there c.args.edit sheets c.in-Some.sheet (sym c.in-Some.ensures.value) c.in-Some.ensures.within c.requires
+    (Drill (drill_content c.layer-layer-in-Drill.result.now)) holds
 
 pub returns-in_err-step-in-Drill-clause-refused : goal.returns-in_err-step-in-Drill-clause-refused
 returns-in_err-step-in-Drill-clause-refused c =
     let sheets = sheets_of c.args.board.now in
-    let holds : content_at sheets c.in-Some.sheet ≡ Drill (drill_content c.in-Drill.layer) =
-    sym c.content.ensures ∙ ap content_of c.in-Drill.is in
+    let holds = held kept.Drill _ _ _ _ c.content.ensures c.in-Drill.is c.layer-layer-in-Drill.ensures in
     let up = c.from_residual-in_err-step-in-Drill in
     let p = err_from_is_err_and up.result up.ensures.1 in
     rw (p.1, p.2)
     (drill_told c.args.edit sheets c.in-Some.sheet (sym c.in-Some.ensures.value) c.in-Some.ensures.within
-    (drill_content c.in-Drill.layer) holds c.in_err-step-in-Drill.field-0.0 (sym c.in_err-step-in-Drill.ensures.value))
+    (drill_content c.layer-layer-in-Drill.result.now) holds c.in_err-step-in-Drill.field-0.0 (sym c.in_err-step-in-Drill.ensures.value))
 
 pub drill_touched-requires-clause-sound : goal.drill_touched-requires-clause-sound
 drill_touched-requires-clause-sound c =
     let sheets = sheets_of c.args.board.now in
-    let holds : content_at sheets c.in-Some.sheet ≡ Drill (drill_content c.in-Drill.layer) =
-    sym c.content.ensures ∙ ap content_of c.in-Drill.is in
+    let holds = held kept.Drill _ _ _ _ c.content.ensures c.in-Drill.is c.layer-layer-in-Drill.ensures in
     sound_there c.args.edit sheets c.in-Some.sheet (sym c.in-Some.ensures.value) c.in-Some.ensures.within c.requires
-    (Drill (drill_content c.in-Drill.layer)) holds
+    (Drill (drill_content c.layer-layer-in-Drill.result.now)) holds
 
 pub drill_touched-requires-clause-accepted : goal.drill_touched-requires-clause-accepted
 drill_touched-requires-clause-accepted c =
-    (drill_edits.accepted (drill_content c.in-Drill.layer) (drill_step_of c.args.edit.change) c.in_ok-step-in-Drill.step
+    (drill_edits.accepted (drill_content c.layer-layer-in-Drill.result.now) (drill_step_of c.args.edit.change) c.in_ok-step-in-Drill.step
     (sym c.in_ok-step-in-Drill.ensures.value)).1
 
 pub returns-in_err-boxes-in-Drill-clause-refused : goal.returns-in_err-boxes-in-Drill-clause-refused
 returns-in_err-boxes-in-Drill-clause-refused c =
     let sheets = sheets_of c.args.board.now in
-    let holds : content_at sheets c.in-Some.sheet ≡ Drill (drill_content c.in-Drill.layer) =
-    sym c.content.ensures ∙ ap content_of c.in-Drill.is in
+    let holds = held kept.Drill _ _ _ _ c.content.ensures c.in-Drill.is c.layer-layer-in-Drill.ensures in
     let up = c.from_residual-in_err-boxes-in-Drill in
     let p = err_from_is_err_and up.result up.ensures.1 in
     rw p.1
     (drill_no_memory c.args.edit sheets c.in-Some.sheet (sym c.in-Some.ensures.value) c.in-Some.ensures.within
-    (drill_content c.in-Drill.layer) holds c.in_ok-step-in-Drill.step (sym c.in_ok-step-in-Drill.ensures.value) p.0 p.2)
+    (drill_content c.layer-layer-in-Drill.result.now) holds c.in_ok-step-in-Drill.step (sym c.in_ok-step-in-Drill.ensures.value) p.0 p.2)
 
 pub returns-clause-planned : goal.returns-clause-planned
 returns-clause-planned c =
     let sheets = sheets_of c.args.board.now in
-    let holds : content_at sheets c.in-Some.sheet ≡ Drill (drill_content c.in-Drill.layer) =
-    sym c.content.ensures ∙ ap content_of c.in-Drill.is in
+    let holds = held kept.Drill _ _ _ _ c.content.ensures c.in-Drill.is c.layer-layer-in-Drill.ensures in
     drill_planned c.args.edit sheets c.in-Some.sheet (sym c.in-Some.ensures.value) c.in-Some.ensures.within
-    (drill_content c.in-Drill.layer) holds c.in_ok-step-in-Drill.step (sym c.in_ok-step-in-Drill.ensures.value)
+    (drill_content c.layer-layer-in-Drill.result.now) holds c.in_ok-step-in-Drill.step (sym c.in_ok-step-in-Drill.ensures.value)
     c.in_ok-boxes-in-Drill.boxes c.in_ok-boxes-in-Drill.ensures c.in_ok-step-in-Drill.ensures.fits

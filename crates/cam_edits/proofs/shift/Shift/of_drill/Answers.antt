@@ -7,31 +7,31 @@ use Rattle.cam_edits.proofs.shift.Shift.of_drill.Goals as goal
 pub returns-in-Insert : goal.returns-in-Insert
 returns-in-Insert c = λ content fit.
     let fits = rw c.in-Insert.is at fit in
-    rw (c.inserted.ensures, c.in-Insert.is)
+    rw (c.between.ensures, c.in-Insert.is)
     (inserted_shift content.items c.in-Insert.k c.in-Insert.item fits)
 
 pub returns-in-Delete : goal.returns-in-Delete
 returns-in-Delete c = λ content fit.
     let fits = rw c.in-Delete.is at fit in
-    rw (c.deleted.ensures, c.in-Delete.is) (deleted_shift content.items c.in-Delete.k fits)
+    rw (c.between-in-Delete.ensures, c.in-Delete.is) (deleted_shift content.items c.in-Delete.k fits)
 
 pub returns-in-Reorder : goal.returns-in-Reorder
 returns-in-Reorder c = λ content fit.
     let fits = rw c.in-Reorder.is at fit in
-    rw (c.reordered.ensures, c.in-Reorder.is)
+    rw (c.between-in-Reorder.ensures, c.in-Reorder.is)
     (reordered_shift content.items c.in-Reorder.k c.in-Reorder.m fits.0 fits.1)
 
 pub returns-in-Move : goal.returns-in-Move
 returns-in-Move c = λ content fit.
     let fits = rw c.in-Move.is at fit in
-    rw (c.at.ensures, c.in-Move.is)
+    rw (c.between-in-Move.ensures, c.in-Move.is)
     (shift_at (IsMovableDrillItem (way c.in-Move.dx c.in-Move.dy)) (shifted_drill_item (way c.in-Move.dx c.in-Move.dy)) content.items c.in-Move.k fits.1)
 
 pub returns-in-Tool : goal.returns-in-Tool
 returns-in-Tool c = λ content fit.
     let fits = rw c.in-Tool.is at fit in
-    rw (c.at-in-Tool.ensures, c.in-Tool.is)
+    rw (c.between-in-Tool.ensures, c.in-Tool.is)
     (shift_there (with_tool c.in-Tool.t) content.items c.in-Tool.k fits)
 
 pub returns-in-Diameter : goal.returns-in-Diameter
-returns-in-Diameter c = λ content fit. rw (c.none.ensures, c.in-Diameter.is) (stayed content.items)
+returns-in-Diameter c = λ content fit. rw (c.between-in-Diameter.ensures, c.in-Diameter.is) (stayed content.items)

@@ -1,7 +1,7 @@
 use Rattle.std.proofs.Common.{rules, ap, sym, ◌∙◌, length, map}
 use Rattle.cam_edits.specs.Sheets.{sheets_of}
 use Rattle.cam_edits.specs.Touches.{touch_of}
-use Rattle.cam_undo.specs.Faults.{refusal_of}
+use Rattle.cam_undo.specs.Faults.{history_refusal}
 use Rattle.cam_station.specs.Machine.{Granted, abort_step, memory_of, refused}
 use Rattle.cam_station.proofs.LayerCounts.{aborted_count}
 use Rattle.cam_station.proofs.SoundMoves.{sound_abort}
@@ -33,5 +33,5 @@ pub returns-in-Err : goal.returns-in-Err
 returns-in-Err c =
     let e = c.in-Err.ensures in
     rw (c.without_place.ensures, c.refusal.ensures, e.refused.0, e.refused.1)
-    (ap (λ s. abort_step s (memory_of (refused (refusal_of c.in-Err.fault)))) (sym c.self.view_is)
+    (ap (λ s. abort_step s (memory_of (refused (history_refusal c.in-Err.fault)))) (sym c.self.view_is)
     ∙ history_refused _ _ _ c.in-Err.fault e.fault)

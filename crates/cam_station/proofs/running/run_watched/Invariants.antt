@@ -2,7 +2,7 @@ use Rattle.std.proofs.Common.{◌≡◌, ◌≤◌, ◌+◌, List, length, true}
 use Rattle.std.specs.Str.Lines.{lines}
 use Rattle.cam_station.specs.Machine.{fresh, is_depth}
 use Rattle.cam_station.specs.Run.{World, Moment, RunsAllLines, StopsAtUnsaidReply, moment}
-use Rattle.cam_station.proofs.running.run.Given as goal
+use Rattle.cam_station.proofs.running.run_watched.Given as goal
 
 -- what the lines that are left come to is, behind those that were run, what all of them come to
 abbrev pub invariant-loop-line : goal.invariant-loop-line

@@ -4,7 +4,7 @@ use Rattle.cam_station.specs.Run.{World, Moment, moment, turn}
 use Rattle.cam_station.specs.Machinery.Lines.{TurnLeadsTo, ReplyIsUnsaid}
 use Rattle.cam_script.proofs.Cutting.{few_lines}
 use Rattle.cam_station.proofs.RunSteps.{finishes_none, finishes_more, stops_here, stops_more}
-use Rattle.cam_station.proofs.running.run.Goals as goal
+use Rattle.cam_station.proofs.running.run_watched.Goals as goal
 
 pub loop-line-init : goal.loop-line-init
 loop-line-init g c =

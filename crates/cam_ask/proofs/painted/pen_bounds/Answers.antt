@@ -1,0 +1,22 @@
+use Rattle.std.proofs.Common.{◌≡◌, ◌≤◌, ℤ, pos, ◌+ℤ◌, ◌-ℤ◌, ◌≤ℤ◌, to_z, of_z, w64, ap, ◌∙◌, arith}
+use Rattle.std.specs.Int.RustNames.{unsigned_abs}
+use Rattle.std.proofs.lemmas.Int.{ints}
+use Rattle.cam_apertures.specs.Primitives.{box_about}
+use Rattle.cam_apertures.proofs.Corners.{same_box}
+use Rattle.cam_ask.proofs.painted.pen_bounds.Goals as goal
+
+less : (z r : ℤ) → pos 0 ≤ℤ r → r ≤ℤ pos 6000000000 → unsigned_abs z ≤ 8000000000
+    → to_z w64 (of_z w64 (to_z w64 (of_z w64 z) -ℤ to_z w64 (of_z w64 r))) ≡ z -ℤ r
+less z r some few near = omega (arith, ints)
+
+more : (z r : ℤ) → pos 0 ≤ℤ r → r ≤ℤ pos 6000000000 → unsigned_abs z ≤ 8000000000
+    → to_z w64 (of_z w64 (to_z w64 (of_z w64 z) +ℤ to_z w64 (of_z w64 r))) ≡ z +ℤ r
+more z r some few near = omega (arith, ints)
+
+pub returns : goal.returns
+returns c =
+    let some = c.requires.some in
+    let few = c.requires.few in
+    same_box _ _ _ _ _ _ _ _ (less c.args.at.x c.args.reach some few c.requires.x) (less c.args.at.y c.args.reach some few c.requires.y)
+    (more c.args.at.x c.args.reach some few c.requires.x) (more c.args.at.y c.args.reach some few c.requires.y)
+    ∙ ap (λ (r : ℤ). box_about c.args.at r r) c.requires.reach
