@@ -1,7 +1,7 @@
 //! File attributes: one too many, and such as no line of a script writes.
 
+use crate::boards::DISC;
 use crate::specials::says;
-use crate::tables::boards::DISC;
 use cam_station::{Bytes, Change, Command, Edit, FileKind, Name, Station};
 use cam_units::Items;
 use std::alloc::{AllocError, Global};

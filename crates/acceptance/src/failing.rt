@@ -1,10 +1,9 @@
 //! One call fails: the first get, put or say of a script, then the second, until a run meets no failure. It is told at
 //! its line, nothing is lost by it, and the same line is accepted where the script has it again.
 
+use crate::boards::{BLACK, CUT_SHORT, DISC, File, HOLE_AND_SLOT, WHITE};
 use crate::files::MemoryFiles;
 use crate::out::MemoryOut;
-use crate::tables::boards::{CUT_SHORT, DISC, HOLE_AND_SLOT};
-use crate::tables::{BLACK, File, WHITE};
 use cam_station::{Files, Out, RunFault, run};
 use std::alloc::{AllocError, Global};
 use std::process::Abort;

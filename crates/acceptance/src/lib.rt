@@ -1,12 +1,14 @@
-//! Whole scripts, run over files and an output in memory.
+//! Scripts, run over files and an output in memory.
 //!
-//! A worked example is a row of a table in `tables`, and one loop plays them all. What a row cannot say, a call
-//! that fails or a text too long to write down, has a function of its own in `specials`, in `pictures` and in `attributes`;
-//! `failing` has each call of a script fail in turn.
+//! Scripts over real files are cases of `black_box`. Here stands what such a case cannot say: that a call of a file or of the
+//! output fails (`specials`, `pictures`), each call of a script in turn (`failing`), texts too long to write down
+//! (`specials`, `attributes`), and the examples of first pages (`page`).
 #![tactic(auto)]
 
 #[cfg(test)]
 mod attributes;
+#[cfg(test)]
+mod boards;
 pub mod countdown;
 #[cfg(test)]
 mod failing;
@@ -17,8 +19,4 @@ mod page;
 #[cfg(test)]
 mod pictures;
 #[cfg(test)]
-mod player;
-#[cfg(test)]
 mod specials;
-#[cfg(test)]
-mod tables;

@@ -1,5 +1,5 @@
-//! The examples on the first page of `cam_station`, word for word. Each is a function of its own: every way out of one that
-//! owns a station takes the station apart.
+//! The examples on the first pages of `cam_script`, `cam_station` and `cam_ask`, word for word. Those over a station are
+//! functions of their own: every way out of one that owns a station takes the station apart.
 
 use cam_station::{Command, Name, Station};
 use std::alloc::Global;
@@ -47,9 +47,40 @@ fn plotted(rt: &impl Abort, alloc: Global, station: &mut Station) -> Result<(), 
     Ok(())
 }
 
+fn asked(rt: &impl Abort, alloc: Global, station: &Station) -> Result<(), Fail> {
+    use cam_ask::ask;
+
+    // the topmost item at a place in nm, and the words that insert it
+    let place = ask(alloc, station, b"at top 0 0")?;
+    assert!(rt; place.as_slice() == b"0\n".as_slice());
+    let item = ask(alloc, station, b"item top 0")?;
+    assert!(rt; item.as_slice() == b"flash 10 0 0 r0 dark\n".as_slice());
+    Ok(())
+}
+
+#[rattlefmt::skip]
+#[test]
+fn cam_script(rt: HostRuntime) -> Result<(), Fail> {
+    let alloc = rt.alloc();
+    use cam_script::{Command, Line, LineFault, parse_line};
+
+    let Some(Line::Command(command)) = parse_line(alloc, b"move top 3 500000 -250000")? else {
+        return Err(Fail::new("it is a command"));
+    };
+    let Command::Move { name, k, dx, dy } = command else {
+        return Err(Fail::new("it moves an item"));
+    };
+    assert!(rt; name.as_str() == "top" && k == 3 && dx == 500_000 && dy == -250_000);
+    // a comment says nothing, and other words are refused
+    assert!(rt; parse_line(alloc, b"# a comment")?.is_none());
+    assert!(rt; parse_line(alloc, b"move top").err() == Some(LineFault::BadLine));
+    Ok(())
+}
+
 #[test]
 fn cam_station(rt: HostRuntime) -> Result<(), Fail> {
     let mut station = loaded(rt.alloc())?;
     edited(rt.alloc(), &mut station)?;
+    asked(&rt, rt.alloc(), &station)?;
     plotted(&rt, rt.alloc(), &mut station)
 }

@@ -1,10 +1,8 @@
 //! Pictures of several tiles, too long to write down.
 
+use crate::boards::{DISC, SPECK, held};
 use crate::files::MemoryFiles;
-use crate::player::held;
 use crate::specials::says_over;
-use crate::tables::boards::DISC;
-use crate::tables::tiles::SPECK;
 use cam_station::Files;
 use std::alloc::{AllocError, Global};
 use std::process::Abort;

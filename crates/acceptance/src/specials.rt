@@ -1,9 +1,8 @@
-//! What a row cannot say: texts too long to write down, and calls that fail.
+//! What a case cannot say: texts too long to write down, and calls that fail.
 
+use crate::boards::{DISC, EMPTY, held};
 use crate::files::MemoryFiles;
 use crate::out::MemoryOut;
-use crate::player::held;
-use crate::tables::boards::{DISC, EMPTY};
 use cam_station::{Command, Files, Out, RunFault, Station, run};
 use std::alloc::{AllocError, Global};
 use std::collections::VecDeque;

@@ -5,7 +5,7 @@ pub use base.Fraction.{full_share}
 pub use base.Logic.{SProp, ent, sep, ex, emp, id⊢}
 pub use base.Fml.{Fml, Share, ftrue, feq, fsep, fat, flft, fres, fbor, flent, fdead, Incl-refl}
 pub use mir.Syntax.{ty_int, named}
-pub use mir.Val.{Val, vunit, vint, vptr}
+pub use mir.Val.{Val, vunit, vbool, vint, vptr}
 pub use contract.Monad.{fact, fact_i}
 pub use contract.Running.{tables}
 pub use types.Logic.{Logic, sem}
@@ -22,8 +22,8 @@ pub use denote.Laws.{Is, shows}
 pub use denote.Lend.{Held, lends_ref, ref_back, lends_shr_slice, lends_slice, slice_back}
 pub use denote.Copied.{uint_Copied}
 pub use denote.Memory.{mem, shares, part_at}
-pub use denote.Plain.{uint_in, uint_out, uint_Makes, uint_vals, uint_Tells, uint_Lawful}
-pub use denote.RawPtr.{Ptr, RawPtr, block_ptr, null_ptr, Testable, lies_at, in_a_block, tests_null, rawptr_vals, rawptr_Tells, rawptr_Lawful}
+pub use denote.Plain.{bool_Makes, bool_vals, bool_Tells, uint_in, uint_out, uint_Makes, uint_vals, uint_Tells, uint_Lawful}
+pub use denote.RawPtr.{Ptr, RawPtr, block_ptr, null_ptr, Testable, lies_at, in_a_block, tests_null, rawptr_vals, rawptr_Makes, rawptr_Tells, rawptr_Lawful}
 pub use denote.Ref.{MutRef, mut_vals, mut_Tells}
 pub use denote.Slice.{ShrSlice, MutSlice, slice_val}
 pub use denote.Signature.{plain}

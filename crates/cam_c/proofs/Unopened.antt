@@ -3,7 +3,7 @@ use Rattle.std.proofs.Common.{◌≡◌, ℕ, Bool, true, false, Result, Ok, Err
 use Rattle.cam_refusals.specs.declared.refusal.Refusal.TheVariants.{NoMemory, OutOfLimits}
 use Rattle.cam_refusals.specs.Refusals.{number_of}
 use Rattle.cam_station.specs.declared.fault.Fault.{Fault}
-use Rattle.cam_station.specs.Machine.{Granted, RefusedToStation, State, fault, fresh, is_depth, made, station_of}
+use Rattle.cam_station.specs.Machine.{Granted, RefusedToStation, State, fault, fresh, is_depth, station_made, station_of}
 use Rattle.cam_c.specs.Calls.{IsUnopened}
 
 abbrev IfErr : Result State Fault → Type 0
@@ -18,6 +18,6 @@ pub unopened : (depth : ℕ) (s : State) → station_of depth Granted ≡ Ok s �
 unopened depth s e = record {
   memory = RefusedToStation;
   why = fault NoMemory;
-  refused = ap (λ (b : Bool). if b then made depth RefusedToStation else Err (fault OutOfLimits)) (allowed (is_depth depth) (fresh depth) s e);
+  refused = ap (λ (b : Bool). if b then station_made depth RefusedToStation else Err (fault OutOfLimits)) (allowed (is_depth depth) (fresh depth) s e);
   code_is = refl;
 }

@@ -1,5 +1,5 @@
 -- What the calls of a session come to: turns of a run, steps of the station's machine, and copies.
-use Rattle.std.specs.Prelude.{◌≡◌, ℕ, ◌++◌, true, nat_le, if◌then◌else◌, List, [], length, drop, map, unwrap_or}
+use Rattle.std.specs.Prelude.{◌≡◌, ℕ, ◌++◌, Bool, true, false, nat_le, if◌then◌else◌, List, [], length, drop, map, unwrap_or}
 use Rattle.std.specs.Prelude.{Option, None, Some, Ok, Err}
 use Rattle.std.specs.Result.{result_ok}
 use Rattle.core.specs.Mem.Slots.{SamePlaces, slots_filled, slots_items}
@@ -30,6 +30,11 @@ reply_of s = spoken s.reply
 -- the bytes that the last line had for a file
 abbrev pub file_of : Session → List ℕ
 file_of s = unwrap_or s.file []
+
+-- one of the two
+abbrev pub text_told : Bool → Session → List ℕ
+text_told true s = file_of s
+text_told false s = reply_of s
 
 -- a new session
 pub record IsFresh (depth : ℕ) (s : Session) : Type 0 where

@@ -23,14 +23,14 @@ lent R q xs (block_ptr b o) = parts (mem R) (shares R) q xs b o
 lent R q xs null_ptr = ftrue
 
 -- a place that C lends for writing: a value lies there, or none yet
-abbrev pub place : (R : RattleType) → Option R.Denot → ℕ → ℕ → Fml
-place R (Some x) b o = part_at R full_share x b o
-place R None b o = froom (lone R.mir) b o
+abbrev pub place_lent : (R : RattleType) → Option R.Denot → ℕ → ℕ → Fml
+place_lent R (Some x) b o = part_at R full_share x b o
+place_lent R None b o = froom (lone R.mir) b o
 
 -- places side by side
 abbrev pub places : (R : RattleType) → List (Option R.Denot) → ℕ → ℕ → Fml
 places R [] b o = ftrue
-places R (x ∷ xs) b o = fsep (place R x b o) (places R xs b (o + size (lone R.mir)))
+places R (x ∷ xs) b o = fsep (place_lent R x b o) (places R xs b (o + size (lone R.mir)))
 
 abbrev pub lent_room : (R : RattleType) → List (Option R.Denot) → Ptr → Fml
 lent_room R xs (block_ptr b o) = places R xs b o

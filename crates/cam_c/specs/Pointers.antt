@@ -12,9 +12,9 @@ use denote.RawPtr.{Ptr, block_ptr, null_ptr}
 abbrev pub no_pointer : ℕ
 no_pointer = number_of NoPointer
 
-abbrev pub is_there : Ptr → Bool
-is_there null_ptr = false
-is_there (block_ptr b o) = true
+abbrev pub is_pointed_to : Ptr → Bool
+is_pointed_to null_ptr = false
+is_pointed_to (block_ptr b o) = true
 
 -- the bytes can be read
 abbrev pub is_usable : Ptr → List ℕ → Bool
@@ -42,7 +42,7 @@ AppliedWhere false line xs file ys s after code = Refused s after code
 -- the line is applied with its file, where there is a session and both can be read
 abbrev pub AppliedBy : Ptr → Ptr → List ℕ → Ptr → List ℕ → Session → Session → ℕ → Type 0
 AppliedBy station line xs file ys s after code =
-    AppliedWhere (is_there station && (is_usable line xs && can_hand file ys)) line xs file ys s after code
+    AppliedWhere (is_pointed_to station && (is_usable line xs && can_hand file ys)) line xs file ys s after code
 
 -- the question is answered, where there is a session and it can be read
 abbrev pub AskedWhere : Bool → List ℕ → Session → Session → ℕ → Type 0
@@ -50,7 +50,7 @@ AskedWhere true xs s after code = IsQuestioned s xs after code
 AskedWhere false xs s after code = Refused s after code
 
 abbrev pub AskedBy : Ptr → Ptr → List ℕ → Session → Session → ℕ → Type 0
-AskedBy station question xs s after code = AskedWhere (is_there station && is_usable question xs) xs s after code
+AskedBy station question xs s after code = AskedWhere (is_pointed_to station && is_usable question xs) xs s after code
 
 abbrev pub RedrawnBy : Ptr → ℕ → Session → Session → ℕ → Type 0
 RedrawnBy null_ptr at_most s after code = Refused s after code

@@ -4,7 +4,7 @@ ghost use Rattle.std.specs.Prelude.{◌≡◌, List, Option, length, ℕ};
 ghost use Rattle.std.specs.Borrow.{full_share, u8, u64};
 ghost use Rattle.std.specs.Ptr.{if_non_null, lies_at, room_at};
 ghost use Rattle.cam_c.specs.declared.session.Session.{Session};
-ghost use Rattle.cam_c.specs.Calls.{file_of, reply_of};
+ghost use Rattle.cam_c.specs.Calls.{file_of, reply_of, text_told};
 ghost use Rattle.cam_c.specs.Lent.{held, lent, lent_room};
 ghost use Rattle.cam_c.specs.Pointers.{AppliedBy, AskedBy, OpenedBy, RedrawnBy, TileCopiedBy, ToldBy};
 ghost use base.Fml.{Share};
@@ -29,7 +29,7 @@ pub struct Handle {
 const NO_POINTER: u32 = 90;
 
 /// The greatest length of what lies in memory.
-const LONGEST: usize = 9_223_372_036_854_775_807;
+pub(crate) const LONGEST: usize = 9_223_372_036_854_775_807;
 
 /// Opens a station.
 #[unsafe(no_mangle)]
@@ -146,6 +146,32 @@ pub unsafe extern "C" fn camplot_redraw(station: *mut Handle, at_most: u32) -> u
     unsafe { &mut *(station as *mut Session) }.redraw(at_most)
 }
 
+/// Copies a text of the last call, and tells how long it is: the bytes that it had for a file, or else the line of its reply.
+unsafe fn tell(station: *mut Handle, of_file: bool, room: *mut u8, capacity: usize) -> usize
+    ghost g: { Session × List (Option ℕ) }
+    requires* { sem 𝓛 (held g.0 station) ∗ sem 𝓛 (lent_room u8 g.1 room)
+        ∗ ⌜ Testable station × Testable room ⌝ ∗ ⌜ length g.1 ≡ capacity ⌝ }
+    ensures* { ex 𝓤 (λ (xs : List (Option ℕ)). sem 𝓛 (held g.0 station) ∗ sem 𝓛 (lent_room u8 xs room)
+        ∗ ⌜ ToldBy station room (text_told of_file g.0) g.1 xs result ⌝) }
+{
+    if station.is_null() {
+        return 0;
+    }
+    let session = unsafe { &mut *(station as *mut Session) };
+    if room.is_null() {
+        return session.text_length(of_file);
+    }
+    if capacity > LONGEST {
+        return session.text_length(of_file);
+    }
+    let (room, count) = session.copy_text(
+        of_file,
+        unsafe { Slots::from_raw_parts(room, capacity) },
+    );
+    let _ = unsafe { room.into_raw_parts() };
+    count
+}
+
 /// Copies the line of the last reply, and tells how long it is.
 #[unsafe(no_mangle)]
 pub unsafe extern "C" fn camplot_reply(
@@ -159,19 +185,7 @@ pub unsafe extern "C" fn camplot_reply(
     ensures* { ex 𝓤 (λ (xs : List (Option ℕ)). sem 𝓛 (held g.0 station) ∗ sem 𝓛 (lent_room u8 xs room)
         ∗ ⌜ ToldBy station room (reply_of g.0) g.1 xs result ⌝) }
 {
-    if station.is_null() {
-        return 0;
-    }
-    let session = unsafe { &mut *(station as *mut Session) };
-    if room.is_null() {
-        return session.reply_length();
-    }
-    if capacity > LONGEST {
-        return session.reply_length();
-    }
-    let (room, count) = session.copy_reply(unsafe { Slots::from_raw_parts(room, capacity) });
-    let _ = unsafe { room.into_raw_parts() };
-    count
+    tell(station, false, room, capacity)
 }
 
 /// Copies the bytes that the last line had for a file, and tells how many they are.
@@ -183,19 +197,7 @@ pub unsafe extern "C" fn camplot_file(station: *mut Handle, room: *mut u8, capac
     ensures* { ex 𝓤 (λ (xs : List (Option ℕ)). sem 𝓛 (held g.0 station) ∗ sem 𝓛 (lent_room u8 xs room)
         ∗ ⌜ ToldBy station room (file_of g.0) g.1 xs result ⌝) }
 {
-    if station.is_null() {
-        return 0;
-    }
-    let session = unsafe { &mut *(station as *mut Session) };
-    if room.is_null() {
-        return session.file_length();
-    }
-    if capacity > LONGEST {
-        return session.file_length();
-    }
-    let (room, count) = session.copy_file(unsafe { Slots::from_raw_parts(room, capacity) });
-    let _ = unsafe { room.into_raw_parts() };
-    count
+    tell(station, true, room, capacity)
 }
 
 /// Copies the rows of a clean tile.

@@ -12,8 +12,7 @@ ghost use Rattle.cam_c.specs.Calls.{
   IsTileCopied,
   IsUnopened,
   code_of,
-  file_of,
-  reply_of,
+  text_told,
 };
 
 use crate::line::line_of;
@@ -44,7 +43,7 @@ fn code(reply: &Option<Result<Reply, Fault>>) -> u32
 }
 
 /// Copies values into a room that holds them, and tells how many they are; a smaller room stays as it is.
-fn copy<T: Copy>(text: &[T], mut room: Slots<T>) -> (Slots<T>, usize)
+pub(crate) fn copy<T: Copy>(text: &[T], mut room: Slots<T>) -> (Slots<T>, usize)
     ensures length { result.1 ≡ length text.now }
     ensures room { IsCopied text.now room result.0 }
 {
@@ -110,7 +109,7 @@ impl Session {
         self.serve(line, Some(file))
     }
 
-    /// Answers a question: its text is kept for `copy_file`, and the reply tells whether there is one. 0 where it was
+    /// Answers a question: its text is kept for `copy_text`, and the reply tells whether there is one. 0 where it was
     /// answered, else the number of the refusal.
     pub(crate) fn ask(&mut self, question: &[u8]) -> u32
         ensures { IsQuestioned self.old question.now self.new result }
@@ -138,48 +137,38 @@ impl Session {
         code(&self.reply)
     }
 
-    /// How many bytes the reply's line has; none where the last line had no reply.
-    pub(crate) fn reply_length(&mut self) -> usize
-        ensures length { result ≡ length (reply_of self.old) }
+    /// How many bytes a text of the last call has: that of its file, or else the line of its reply. None where there is
+    /// no such text.
+    pub(crate) fn text_length(&mut self, of_file: bool) -> usize
+        ensures length { result ≡ length (text_told of_file self.old) }
         ensures kept { self.new ≡ self.old }
     {
+        if of_file {
+            return match &self.file {
+                Some(file) => file.as_slice().len(),
+                None => 0,
+            };
+        }
         match &self.reply {
             Some(reply) => line_of(reply).as_slice().len(),
             None => 0,
         }
     }
 
-    /// Copies the reply's line into a room that holds it, and tells its length.
-    pub(crate) fn copy_reply(&mut self, room: Slots<u8>) -> (Slots<u8>, usize)
-        ensures length { result.1 ≡ length (reply_of self.old) }
-        ensures room { IsCopied (reply_of self.old) room result.0 }
+    /// Copies this text into a room that holds it, and tells how many bytes it has.
+    pub(crate) fn copy_text(&mut self, of_file: bool, room: Slots<u8>) -> (Slots<u8>, usize)
+        ensures length { result.1 ≡ length (text_told of_file self.old) }
+        ensures room { IsCopied (text_told of_file self.old) room result.0 }
         ensures kept { self.new ≡ self.old }
     {
+        if of_file {
+            return match &self.file {
+                Some(file) => copy(file.as_slice(), room),
+                None => copy(&[], room),
+            };
+        }
         match &self.reply {
             Some(reply) => copy(line_of(reply).as_slice(), room),
-            None => copy(&[], room),
-        }
-    }
-
-    /// How many bytes the last line had for a file.
-    pub(crate) fn file_length(&mut self) -> usize
-        ensures length { result ≡ length (file_of self.old) }
-        ensures kept { self.new ≡ self.old }
-    {
-        match &self.file {
-            Some(file) => file.as_slice().len(),
-            None => 0,
-        }
-    }
-
-    /// Copies the bytes that the last line had for a file into a room that holds them, and tells how many they are.
-    pub(crate) fn copy_file(&mut self, room: Slots<u8>) -> (Slots<u8>, usize)
-        ensures length { result.1 ≡ length (file_of self.old) }
-        ensures room { IsCopied (file_of self.old) room result.0 }
-        ensures kept { self.new ≡ self.old }
-    {
-        match &self.file {
-            Some(file) => copy(file.as_slice(), room),
             None => copy(&[], room),
         }
     }

@@ -1,3 +1,3 @@
+pub mod Faults
 pub mod PlainCalls
-pub mod Silence
 pub mod Values

@@ -1,13 +1,16 @@
 -- What clap makes of plain calls.
 use Rattle.std.proofs.Common.{◌≡◌, ◌∙◌, ◌≤◌, ◌==◌, ap, ℕ, true, false, List, [], ◌∷◌, Option, Some, None, refl, sym, arith, codes, decimal}
-use Rattle.std.specs.Prelude.{IfSome, unwrap_or, pos}
+use Rattle.std.specs.Prelude.{IfSome, is_some, unwrap_or, pos}
 use Rattle.std.specs.Str.{bytes_eq}
 use Rattle.std.specs.Str.Parse.{IsNumeral, digits_value, signed_digits_value, without_leading_plus, without_leading_sign}
 use Rattle.std.proofs.lemmas.Bool.{ne_eqb}
 use Rattle.std.proofs.lemmas.Fmt.{decimal_is_IsNumeral}
 use Rattle.std.proofs.lemmas.Int.{ints}
 use Rattle.std.proofs.lemmas.Str.Parse.{digit_from_value}
-use Rattle.clap.specs.Faults.{is_simple_and_free}
+use Rattle.clap.specs.Faults.{check_fault, defaults_fault, entered_fault, is_simple_and_free, settle_fault, walk_fault}
+use Rattle.clap.specs.Kinds.{Kinds, or_else}
+use Rattle.clap.specs.Simple.{App, built, entered, names_of}
+use Rattle.clap.specs.Walk.{Walk, finished, nothing_held, settled, walk, walk_from}
 use Rattle.clap.specs.Lexer.{strip_byte}
 use Rattle.clap.specs.Values.{IsSignedIn}
 use Rattle.clap.specs.ValueTests.{is_signed_in}
@@ -15,7 +18,7 @@ use Rattle.clap.specs.Words.{Text, is_simple}
 use Rattle.clap.specs.declared.builder.value_parser.ValueParser.TheVariants.{Signed}
 use Rattle.clap.proofs.OnLiterals.{clap_on_literals}
 use Rattle.clap.proofs.ValueTestLemmas.{Accepts-accepts}
-use Rattle.camplot.specs.Synopsis.{IsCallFor, IsPlainPath, camplot, explain_text, explained_call, number_written, plain_call}
+use Rattle.camplot.specs.Synopsis.{IsCallFor, IsPlainPath, camplot, explain_text, explained_call, count_written, plain_call}
 
 -- the command line is of the kind for which clap gives the matches and the faults exactly
 pub camplot_simple : is_simple camplot ≡ true
@@ -38,7 +41,7 @@ record IsDepthWord (text : Text) (depth : ℕ) : Type 0 where
   no_option : strip_byte 45 text ≡ None
   no_escape : bytes_eq text (45 ∷ 45 ∷ []) ≡ false
   taken : is_signed_in (pos 1) (pos 1000) text ≡ true
-  value : number_written text ≡ depth
+  value : count_written text ≡ depth
 
 depth_word : (text : Text) (depth : ℕ) → IsNumeral 10 text → digits_value 10 text ≡ depth → (1 ≤ depth) × (depth ≤ 1000)
     → IsDepthWord text depth
@@ -63,6 +66,11 @@ depth_word (d ∷ ds) depth numeral value range =
       value = ap (digits_value 10) unsigned ∙ value;
     }
 
+-- a level of a parse finds no fault where none of its steps does
+no_fault : {a b c d e : Kinds} → a ≡ [] → b ≡ [] → c ≡ [] → d ≡ [] → e ≡ []
+    → or_else a (or_else b (or_else c (or_else d e))) ≡ []
+no_fault p q r s t = rw (p, q, r, s, t) refl
+
 -- what clap makes of the two forms of a plain call, whose script begins with x
 module _ (name : Text) (x : ℕ) (rest : Text) (path : (x == 45) ≡ false) where
   script_alone : IsCallFor (name ∷ (x ∷ rest) ∷ []) (x ∷ rest) 100
@@ -84,11 +92,41 @@ module _ (name : Text) (x : ℕ) (rest : Text) (path : (x == 45) ≡ false) wher
 
   module _ (text : Text) (no_option : strip_byte 45 text ≡ None) (no_escape : bytes_eq text (45 ∷ 45 ∷ []) ≡ false)
       (taken : is_signed_in (pos 1) (pos 1000) text ≡ true) where
-    script_and_depth : (depth : ℕ) → number_written text ≡ depth → (1 ≤ depth) × (depth ≤ 1000)
+    -- the steps of clap over these words, each of which finds no fault
+    abbrev given : List Text
+    given = (x ∷ rest) ∷ codes "--depth" ∷ text ∷ []
+
+    abbrev app : App
+    app = built camplot
+
+    abbrev end : Walk
+    end = walk app.top.rules (names_of app) nothing_held given
+
+    words_pass : walk_fault app.top (names_of app) (walk_from nothing_held) given ≡ []
+    unfolding clap_on_literals
+    words_pass = simp path (simp no_option (rw no_escape refl))
+
+    none_entered : entered_fault app end.stopped ≡ []
+    unfolding clap_on_literals
+    none_entered = simp path (simp no_option (rw no_escape refl))
+
+    value_passes : settle_fault app.top.rules app.top.args_override_self end.held ≡ []
+    unfolding clap_on_literals
+    value_passes = simp path (simp no_option (simp no_escape (rw taken refl)))
+
+    defaults_pass : defaults_fault (settled app.top.rules end.held).rows app.top.rules ≡ []
+    unfolding clap_on_literals
+    defaults_pass = simp path (simp no_option (rw no_escape refl))
+
+    all_given : check_fault app.top (finished app.top.rules end.held) (is_some (entered app end.stopped)) ≡ []
+    unfolding clap_on_literals
+    all_given = simp path (simp no_option (rw no_escape refl))
+
+    script_and_depth : (depth : ℕ) → count_written text ≡ depth → (1 ≤ depth) × (depth ≤ 1000)
         → IsCallFor (name ∷ (x ∷ rest) ∷ codes "--depth" ∷ text ∷ []) (x ∷ rest) depth
     unfolding clap_on_literals
     script_and_depth depth value range = record {
-      accepted = simp path (simp no_option (simp no_escape (rw taken refl)));
+      accepted = no_fault words_pass none_entered value_passes defaults_pass all_given;
       script = simp (path, no_option, no_escape) refl;
       number = simp (path, no_option, no_escape) (ap (λ n. Some n) value);
       in_range = range;
@@ -100,7 +138,7 @@ module _ (name : Text) (x : ℕ) (rest : Text) (path : (x == 45) ≡ false) wher
 
     depth_asked : explain_text (name ∷ (x ∷ rest) ∷ codes "--depth" ∷ text ∷ codes "--explain" ∷ []) ≡ Some (codes "true")
     unfolding clap_on_literals
-    depth_asked = simp (path, no_option, no_escape) refl
+    depth_asked = simp path (simp no_option (rw no_escape refl))
 
 -- a plain call is a call for the script and the depth that stand in it
 pub plain_is_call : (name script : Text) (depth : Option ℕ) → IsPlainPath script → IfSome depth (λ n. (1 ≤ n) × (n ≤ 1000))

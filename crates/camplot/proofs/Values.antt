@@ -28,7 +28,7 @@ use Rattle.clap.proofs.CallerLemmas.{default_present, required_has_value, same_r
 use Rattle.clap.proofs.CallerReads.{signed_reads}
 use Rattle.clap.proofs.SimpleLemmas.{is_false, is_nil, ready_simple, simple_groups}
 use Rattle.clap.proofs.WalkLemmas.{both}
-use Rattle.camplot.specs.Synopsis.{camplot, depth_option, explain_option, number_written, script_argument}
+use Rattle.camplot.specs.Synopsis.{camplot, depth_option, explain_option, count_written, progress_option, script_argument}
 
 -- the first element that passes a test, where one does, with what holds of each
 first_of_all : {X : Type 0} (p : X → Bool) (P : X → Type 0) (xs : List X) (i : ℕ) → All P xs → i < length xs
@@ -58,35 +58,38 @@ not_auto a id is help version (inl same) = other_text id _ help (sym is ∙ same
 not_auto a id is help version (inr same) = other_text id _ version (sym is ∙ same)
 
 -- clap's lemmas take an argument for places past the end of a list
-some_arg : (xs : List Arg) → length xs ≡ 3 → Arg
-some_arg [] three = absurd (omega arith)
-some_arg (x ∷ xs) three = x
+some_arg : (xs : List Arg) → length xs ≡ 4 → Arg
+some_arg [] four = absurd (omega arith)
+some_arg (x ∷ xs) four = x
 
--- what clap reads of the three arguments, in their places
+-- what clap reads of the four arguments, in their places
 abbrev the_rules : List Rule
-the_rules = script_argument ∷ depth_option ∷ explain_option ∷ []
+the_rules = script_argument ∷ depth_option ∷ explain_option ∷ progress_option ∷ []
 
 free_rules : (k : ℕ) → (slice_index_or the_rules k script_argument).is_free ≡ true
 free_rules zero = refl
 free_rules (suc zero) = refl
 free_rules (suc (suc zero)) = refl
-free_rules (suc (suc (suc k))) = refl
+free_rules (suc (suc (suc zero))) = refl
+free_rules (suc (suc (suc (suc k)))) = refl
 
 abbrev id_at : ℕ → Text
 id_at k = (slice_index_or the_rules k script_argument).id
 
 -- each id stands in one place
-only_script : (j : ℕ) → j < 3 → bytes_eq (id_at j) (codes "script") ≡ true → j ≡ 0
+only_script : (j : ℕ) → j < 4 → bytes_eq (id_at j) (codes "script") ≡ true → j ≡ 0
 only_script zero lt same = refl
 only_script (suc zero) lt same = cc
 only_script (suc (suc zero)) lt same = cc
-only_script (suc (suc (suc j))) lt same = absurd (omega arith)
+only_script (suc (suc (suc zero))) lt same = cc
+only_script (suc (suc (suc (suc j)))) lt same = absurd (omega arith)
 
-only_depth : (j : ℕ) → j < 3 → bytes_eq (id_at j) (codes "depth") ≡ true → j ≡ 1
+only_depth : (j : ℕ) → j < 4 → bytes_eq (id_at j) (codes "depth") ≡ true → j ≡ 1
 only_depth zero lt same = cc
 only_depth (suc zero) lt same = refl
 only_depth (suc (suc zero)) lt same = cc
-only_depth (suc (suc (suc j))) lt same = absurd (omega arith)
+only_depth (suc (suc (suc zero))) lt same = cc
+only_depth (suc (suc (suc (suc j)))) lt same = absurd (omega arith)
 
 -- the list of default values is not empty
 some_texts : (xs : List (Bor Text)) → texts xs ≡ codes "100" ∷ [] → 0 < length xs
@@ -116,10 +119,10 @@ module _ (cmd : Command) (m : ArgMatches) (app : app_of cmd ≡ camplot) (parse 
   simple : IsSimple cmd
   simple = ready_simple cmd (ap (λ a. is_ready a.top) app) (ap (λ a. list_all is_ready_leaf a.subs) app)
 
-  count : length (args_of cmd) ≡ 3
+  count : length (args_of cmd) ≡ 4
   count = sym (length-map (args_of cmd) rule_of) ∙ ap length rules
 
-  rule_at : (k : ℕ) (d : Arg) → k < 3 → rule_of (slice_index_or (args_of cmd) k d) ≡ slice_index_or the_rules k script_argument
+  rule_at : (k : ℕ) (d : Arg) → k < 4 → rule_of (slice_index_or (args_of cmd) k d) ≡ slice_index_or the_rules k script_argument
   rule_at k d lt = sym (get_or-map rule_of (args_of cmd) k d script_argument (omega (arith, count)))
       ∙ ap (λ rs. slice_index_or rs k script_argument) rules
 
@@ -139,11 +142,11 @@ module _ (cmd : Command) (m : ArgMatches) (app : app_of cmd ≡ camplot) (parse 
   )
 
   -- an argument with the id of the kth is the kth
-  alone : (k : ℕ) (d : Arg) → k < 3 → ((j : ℕ) → j < 3 → bytes_eq (id_at j) (id_at k) ≡ true → j ≡ k)
+  alone : (k : ℕ) (d : Arg) → k < 4 → ((j : ℕ) → j < 4 → bytes_eq (id_at j) (id_at k) ≡ true → j ≡ k)
       → (j : ℕ) (e : Arg) → j < length (args_of cmd)
       → bytes_eq (slice_index_or (args_of cmd) j e).id.now (slice_index_or (args_of cmd) k d).id.now ≡ true → j ≡ k
   alone k d lt only j e low same =
-      let under : j < 3 = omega (arith, count) in
+      let under : j < 4 = omega (arith, count) in
       only j under (sym (ap₂ bytes_eq (ap (λ r. r.id) (rule_at j e under)) (ap (λ r. r.id) (rule_at k d lt))) ∙ same)
 
   -- an argument with no range of its own takes a value in each use
@@ -249,7 +252,7 @@ module _ (cmd : Command) (m : ArgMatches) (app : app_of cmd ≡ camplot) (parse 
 
 -- `u32` reads the value of `--depth` as the number that it writes
 pub record IsNumberOf (f : Found) (n : ℕ) : Type 0 where
-  pub number : option_map number_written (one_text f (codes "depth")) ≡ Some n
+  pub number : option_map count_written (one_text f (codes "depth")) ≡ Some n
   pub least : 1 ≤ n
   pub most : n ≤ 1000
 
@@ -264,7 +267,7 @@ depth_number {E} gives f o has only reads =
       n.0,
       n.1,
       record {
-        number = ap (option_map number_written) has.is ∙ ap (λ (v : ℕ). Some v) (sym (only _ _ given).1);
+        number = ap (option_map count_written) has.is ∙ ap (λ (v : ℕ). Some v) (sym (only _ _ given).1);
         least = n.2;
         most = n.3;
       },

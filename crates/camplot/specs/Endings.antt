@@ -1,12 +1,14 @@
 -- How a run of a script ends: what was done by then, and the exit status that tells of it.
-use Rattle.std.specs.Prelude.{◌≡◌, ℕ, zero, suc, Bool, true, false, List, Option, Result, Ok, Err, IfOk, codes}
+use Rattle.std.specs.Prelude.{◌≡◌, ◌⊎◌, ℕ, zero, suc, Bool, true, false, List, Result, Ok, Err, IfErr, IfOk, codes}
 use Rattle.std.specs.Str.{bytes_eq}
 use Rattle.std.specs.Str.Lines.{lines}
 use Rattle.cam_station.specs.Machine.{fresh, is_depth}
 use Rattle.cam_station.specs.declared.files.FileFault.{FileFault}
+use Rattle.cam_station.specs.declared.files.FileFault.TheVariants.{Failed, Memory}
+use Rattle.cam_station.specs.Files.{HasRisenBy}
 use Rattle.cam_station.specs.Run.{Answers, EndsBy, FilesSeen, Get, Moment, RunsAllLines, World}
 use Rattle.cam_refusals.specs.Limits.{file_limit}
-use Rattle.camplot.specs.Disk.{AreAllOf}
+use Rattle.camplot.specs.Disk.{AreAllOf, HasGivenMore, HasGivenWithin, ReaderSeen}
 use Rattle.camplot.specs.declared.ending.Ending.{Ending}
 use Rattle.camplot.specs.declared.ending.Ending.TheVariants.{Ran, Unread, Stopped}
 
@@ -27,24 +29,32 @@ refused_in (Stopped fault) = 0
 abbrev pub is_input : List ℕ → Bool
 is_input path = bytes_eq path (codes "-")
 
--- The file at the path, or for `-` the standard input, gave this, and no other file was asked; of the input it is told
--- what it holds, as far as anything is.
-pub record Gives (path : List ℕ) (told : Option (List ℕ)) (given : Result (List ℕ) FileFault)
+-- Why the standard input gave no script: a read of it failed, or it has given more than a file may have; or memory was
+-- refused, where it had given no more.
+abbrev pub IsWhyNoScript : FileFault → ReaderSeen → ReaderSeen → Type 0
+IsWhyNoScript Failed old new = HasRisenBy 1 old.failures new.failures ⊎ HasGivenMore old.left new.left file_limit
+IsWhyNoScript Memory old new = HasGivenWithin old.left new.left file_limit
+
+-- The file at the path, or for `-` the standard input, gave this, and no other file was asked. The input gave all that it
+-- holds, as far as that is told, or none of it: then a read of it failed, it is too long, or memory was refused.
+pub record GivesFile (path : List ℕ) (given : Result (List ℕ) FileFault) (reader reader_after : ReaderSeen)
     (before begun : FilesSeen) : Type 0 where
   pub file : is_input path ≡ false → Answers (Get path given) before begun
-  pub input : is_input path ≡ true → IfOk given (λ script. AreAllOf told file_limit script) × (begun ≡ before)
+  pub input : is_input path ≡ true → IfOk given (λ script. AreAllOf reader.left file_limit script) × (begun ≡ before)
+  pub unread : is_input path ≡ true → IfErr given (λ fault. IsWhyNoScript fault reader reader_after)
 
 -- The path gave these bytes, and nothing else was done.
-pub record GaveScript (path : List ℕ) (told : Option (List ℕ)) (before : Moment)
-    (script : List ℕ) (begun : Moment) : Type 0 where
-  pub got : Gives path told (Ok script) before.files begun.files
+pub record GaveScript (path : List ℕ) (script : List ℕ) (reader reader_after : ReaderSeen) (before begun : Moment)
+    : Type 0 where
+  pub got : GivesFile path (Ok script) reader reader_after before.files begun.files
   pub said : begun.said ≡ before.said
   pub out_failures : begun.out_failures ≡ before.out_failures
   pub refused : begun.refused ≡ before.refused
 
 -- The path gave no bytes, for this fault, and nothing was said.
-pub record IsUnread (path : List ℕ) (told : Option (List ℕ)) (fault : FileFault) (before after : Moment) : Type 0 where
-  pub got : Gives path told (Err fault) before.files after.files
+pub record IsUnread (path : List ℕ) (fault : FileFault) (reader reader_after : ReaderSeen) (before after : Moment)
+    : Type 0 where
+  pub got : GivesFile path (Err fault) reader reader_after before.files after.files
   pub said : after.said ≡ before.said
 
 -- what was done before the run of these bytes, on a new station of this depth, ended so: all their lines, or fewer
@@ -55,13 +65,15 @@ RunEnds (Unread fault) script depth begun after = ⊥
 RunEnds (Stopped fault) script depth begun after = EndsBy fault depth (lines script) begun after
 
 -- the path gave a script, and what was done before its run ended so
-abbrev pub RunsUntil : Ending → List ℕ → Option (List ℕ) → ℕ → Moment → Moment → Type 0
-RunsUntil ending path told depth before after =
-    (script : List ℕ) × (begun : Moment) × GaveScript path told before script begun
+abbrev pub RunsUntil : Ending → List ℕ → ℕ → ReaderSeen → ReaderSeen → Moment → Moment → Type 0
+RunsUntil ending path depth reader reader_after before after =
+    (script : List ℕ) × (begun : Moment) × GaveScript path script reader reader_after before begun
     × RunEnds ending script depth begun after
 
 -- what was done before the run of the script at the path ended so
-abbrev pub EndsAs : Ending → List ℕ → Option (List ℕ) → ℕ → Moment → Moment → Type 0
-EndsAs (Ran refused) path told depth before after = RunsUntil (Ran refused) path told depth before after
-EndsAs (Unread fault) path told depth before after = IsUnread path told fault before after
-EndsAs (Stopped fault) path told depth before after = RunsUntil (Stopped fault) path told depth before after
+abbrev pub EndsAs : Ending → List ℕ → ℕ → ReaderSeen → ReaderSeen → Moment → Moment → Type 0
+EndsAs (Ran refused) path depth reader reader_after before after =
+    RunsUntil (Ran refused) path depth reader reader_after before after
+EndsAs (Unread fault) path depth reader reader_after before after = IsUnread path fault reader reader_after before after
+EndsAs (Stopped fault) path depth reader reader_after before after =
+    RunsUntil (Stopped fault) path depth reader reader_after before after

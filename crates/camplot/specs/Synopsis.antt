@@ -1,4 +1,4 @@
--- The synopsis of the program, `camplot SCRIPT [--depth N] [--explain]`, and what a call by it means.
+-- The synopsis of the program, `camplot SCRIPT [--depth N] [--explain] [--progress]`, and what a call by it means.
 use Rattle.std.specs.Prelude.{◌≡◌, ◌≢◌, ◌≤◌, ℕ, Bool, List, [], ◌∷◌, ◌++◌, Option, Some, None, true, false, pos}
 use Rattle.std.specs.Prelude.{codes, decimal, option_map}
 use Rattle.std.specs.Str.Parse.{digits_value, without_leading_plus}
@@ -38,6 +38,13 @@ explain_option = record (new_rule (codes "explain")) {
   action = Some SetTrue;
 }
 
+-- --progress: a flag
+abbrev pub progress_option : Rule
+progress_option = record (new_rule (codes "progress")) {
+  long = Some (codes "progress");
+  action = Some SetTrue;
+}
+
 -- the command that has a version to tell, by --version
 abbrev pub with_version : App → App
 with_version a = on_top (λ s. record s { has_version = true }) a
@@ -45,18 +52,18 @@ with_version a = on_top (λ s. record s { has_version = true }) a
 -- the program's command line, as clap reads it
 abbrev pub camplot : App
 camplot =
-    with_rule (with_rule (with_rule (with_version (new_app (codes "camplot"))) script_argument)
-    depth_option) explain_option
+    with_rule (with_rule (with_rule (with_rule (with_version (new_app (codes "camplot"))) script_argument)
+    depth_option) explain_option) progress_option
 
 -- the number that decimal digits write; a `+` may stand before them
-abbrev pub number_written : Text → ℕ
-number_written text = digits_value 10 (without_leading_plus text)
+abbrev pub count_written : Text → ℕ
+count_written text = digits_value 10 (without_leading_plus text)
 
 -- the words call for a run of the script at this path, with this undo depth
 pub record IsCallFor (words : List Text) (path : Text) (depth : ℕ) : Type 0 where
   pub accepted : fault_of camplot words ≡ []
   pub script : first_of (codes "script") (matches_of camplot words) ≡ Some path
-  pub number : option_map number_written (one_of (codes "depth") (matches_of camplot words))
+  pub number : option_map count_written (one_of (codes "depth") (matches_of camplot words))
       ≡ Some depth
   pub in_range : (1 ≤ depth) × (depth ≤ greatest_depth)
 
@@ -68,6 +75,15 @@ explain_text words = one_of (codes "explain") (matches_of camplot words)
 pub record Asks (words : List Text) (explain : Bool) : Type 0 where
   pub asked : explain_text words ≡ Some (codes "true") → explain ≡ true
   pub unasked : explain_text words ≡ Some (codes "false") → explain ≡ false
+
+-- the value of `--progress`, likewise
+abbrev pub progress_text : List Text → Option Text
+progress_text words = one_of (codes "progress") (matches_of camplot words)
+
+-- the words ask for each line to be named, or they do not
+pub record WantsProgress (words : List Text) (progress : Bool) : Type 0 where
+  pub asked : progress_text words ≡ Some (codes "true") → progress ≡ true
+  pub unasked : progress_text words ≡ Some (codes "false") → progress ≡ false
 
 -- a path that can stand for itself: it is not empty, and does not begin with `-` (45)
 abbrev pub IsPlainPath : Text → Type 0

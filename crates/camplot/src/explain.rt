@@ -1,49 +1,35 @@
-//! What `--explain` tells of refused lines, on standard error.
+//! What `--explain` and `--progress` tell on standard error.
 //!
-//! An [`Explained`] stands between the run and the output. It says all that it is given, and nothing else, and reads
-//! along: a reply belongs to the next line of the script that has one, and where it is a refusal, a line about it goes
-//! to the margin. A margin that cannot be written to changes nothing.
+//! [`Notes`] sees the run. Where a line is refused, or plots a picture that is all white, a line about it goes to standard
+//! error after its reply. Standard error that cannot be written to changes nothing.
 
 ghost use Rattle.std.specs.Prelude.{◌≡◌};
 
 mod advice;
-mod heard;
+mod bad_line;
+mod forms;
 mod place;
-mod replied;
-mod unread;
+mod white;
 
+use crate::options::Call;
 use crate::reading::write_whole;
-use crate::system::read_again;
-use advice::{name, remedy};
-use cam_script::{FilePath, Line, parse_line};
-use cam_station::Out;
-use heard::{Heard, Refusal};
+use crate::system::Disk;
+use advice::advice_on;
+use bad_line::why_bad;
+use cam_refusals::Refusal;
+use cam_station::{Fault, Reply, Station, Watch};
 use place::{column_at, line_at};
-use replied::Replied;
 use std::alloc::{AllocError, Global};
 use std::io::Write;
 use std::rt::Files as SystemFiles;
-pub use unread::why_no_script;
-use unread::why_unread;
-
-/// The number of a file that cannot be read or written.
-const FILE_FAULT: u8 = 82;
+use std::str;
+use white::{is_white, where_it_lies};
 
 /// How many bytes of a line are shown.
 const MOST_SHOWN: usize = 60;
 
-/// Where explanations go, and the system's files, where a file that was refused is read once more.
-#[derive(Drop)]
-pub struct Margin<'a, R, W> {
-    rt: &'a R,
-    errors: W,
-}
-
-impl<'a, R, W> Margin<'a, R, W> {
-    pub fn new(rt: &'a R, errors: W) -> Margin<'a, R, W> {
-        Margin { rt, errors }
-    }
-}
+/// Erases the line of a terminal on which progress stands.
+const ERASED: &str = "\r\u{1b}[K";
 
 /// The line as it is shown: its first 60 bytes, with `?` for each that is not printed as it is.
 fn shown(alloc: Global, line: &[u8]) -> Result<String, AllocError> {
@@ -63,14 +49,27 @@ fn shown(alloc: Global, line: &[u8]) -> Result<String, AllocError> {
     Ok(text)
 }
 
+/// Whether a line has a word, and is no comment.
+fn is_run(line: &[u8]) -> bool {
+    match line.trim_ascii().first() {
+        Some(first) => *first != b'#',
+        None => false,
+    }
+}
+
+/// The last word of a line, which is the path of a line that reads or writes a file.
+fn path_in(line: &[u8]) -> Option<&str> {
+    str::from_utf8(line).ok()?.split_ascii_whitespace().last()
+}
+
 /// Where in the file of a load a place lies: its line and its column too, where the file can be read again.
 fn place_in_file<R: SystemFiles>(
-    rt: &R,
+    files: &Disk<'_, R>,
     alloc: Global,
     path: &str,
     at: usize,
 ) -> Result<String, AllocError> {
-    match read_again(rt, alloc, path) {
+    match files.read_again(alloc, path) {
         Some(bytes) if at <= bytes.len() => {
             let line = line_at(bytes.as_slice(), at);
             let column = column_at(bytes.as_slice(), at);
@@ -80,123 +79,174 @@ fn place_in_file<R: SystemFiles>(
     }
 }
 
-/// The path of the file that a line loads, if it is a load.
-fn loaded(alloc: Global, line: &[u8]) -> Option<FilePath> {
-    match parse_line(alloc, line) {
-        Ok(Some(Line::Load { path, .. })) => Some(path),
-        _ => None,
-    }
-}
-
-/// The script's lines, and what is heard of the replies to them.
-#[derive(Drop)]
-struct Notes<'a, R, W> {
-    margin: Margin<'a, R, W>,
+/// What is told of the file of a refused line: the place in it, or why it failed.
+fn file_part<R: SystemFiles>(
+    files: &Disk<'_, R>,
     alloc: Global,
-    path: &'a str,
-    lines: Replied<'a>,
-    heard: Heard,
+    line: &[u8],
+    fault: Fault,
+) -> Result<String, AllocError> {
+    if fault.code == Refusal::FileFault {
+        let why = files.why();
+        return format!(in alloc; " ({why})");
+    }
+    match (fault.at, path_in(line)) {
+        (Some(at), Some(path)) => place_in_file(files, alloc, path, at),
+        _ => Ok(String::new(alloc)),
+    }
 }
 
-impl<R: SystemFiles, W: Write> Notes<'_, R, W> {
-    /// What is told of a file whose load was refused: the place, or why it cannot be read.
-    fn file_at(&self, path: &str, refusal: Refusal) -> Result<String, AllocError> {
-        if let Some(at) = refusal.at {
-            return place_in_file(self.margin.rt, self.alloc, path, at);
+/// What to do about a file that failed, where its path shows it.
+fn path_advice(path: &str) -> Option<&'static str> {
+    if path.contains('"') || path.contains('\'') {
+        return Some("write the path without quotation marks");
+    }
+    if path.starts_with('~') {
+        return Some("write the home folder in place of ~: no shell reads the path");
+    }
+    None
+}
+
+/// What goes to standard error in the course of a run.
+#[derive(Drop)]
+pub struct Notes<'a, W> {
+    alloc: Global,
+    errors: W,
+    call: &'a Call,
+    /// Whether standard error is a terminal, where progress stands in one line.
+    is_terminal: bool,
+    /// How many lines the script has.
+    lines: u64,
+    /// The number of the line that is run.
+    number: u64,
+    /// Whether the script was seen to be a file of another kind.
+    is_other_file: bool,
+}
+
+impl<'a, W: Write> Notes<'a, W> {
+    pub fn new(alloc: Global, errors: W, call: &'a Call, is_terminal: bool) -> Notes<'a, W> {
+        Notes {
+            alloc,
+            errors,
+            call,
+            is_terminal,
+            lines: 0,
+            number: 0,
+            is_other_file: false,
         }
-        if refusal.code == FILE_FAULT {
-            let why = why_unread(self.margin.rt, path);
-            return format!(in self.alloc; " ({why})");
-        }
-        Ok(String::new(self.alloc))
     }
 
-    /// The same of the file that a refused line loads, if it is a load.
-    fn file(&self, line: &[u8], refusal: Refusal) -> Result<String, AllocError> {
-        match loaded(self.alloc, line) {
-            Some(path) => self.file_at(path.as_str(), refusal),
-            None => Ok(String::new(self.alloc)),
-        }
+    /// Writes a text, where that is possible.
+    fn write(&mut self, text: &str) {
+        let _ = write_whole(&mut self.errors, text.as_bytes());
     }
 
-    /// Writes the line about a refused line. A margin that fails is let be.
-    fn explain(&mut self, number: u64, line: &[u8], refusal: Refusal) -> Result<(), AllocError> {
+    /// Names the line that is run next, over the one before where that is a terminal.
+    fn name_line(&mut self, line: &[u8]) -> Result<(), AllocError> {
+        let (number, lines) = (self.number, self.lines);
         let command = shown(self.alloc, line)?;
-        let file = self.file(line, refusal)?;
-        let path = self.path;
-        let code = refusal.code;
-        let name = name(code);
-        let remedy = remedy(code);
-        let text = format!(in self.alloc;
-            "{path}:{number}: {command}: refused {code}, {name}{file}: {remedy}\n"
-        )?;
-        let _ = write_whole(&mut self.margin.errors, text.as_bytes());
+        let (before, behind) = if self.is_terminal {
+            (ERASED, "")
+        } else {
+            ("", "\n")
+        };
+        let text = format!(in self.alloc; "{before}{number} of {lines}  {command}{behind}")?;
+        self.write(text.as_str());
         Ok(())
     }
 
-    /// Hears a part of what is said. At the end of a refusal its line is explained, where there is memory for that.
-    fn hear(&mut self, part: &[u8]) {
-        if !self.heard.hear(part) {
+    /// What to do about a refused line; nothing where it was told before.
+    fn remedy(&mut self, line: &[u8], fault: Fault) -> Result<Option<String>, AllocError> {
+        let (_, remedy) = advice_on(fault.number());
+        if fault.code == Refusal::BadLine
+            && let Some((why, is_other)) = why_bad(self.alloc, line, self.is_other_file)?
+        {
+            if is_other && self.is_other_file {
+                return Ok(None);
+            }
+            self.is_other_file = self.is_other_file || is_other;
+            return Ok(Some(why));
+        }
+        if fault.code == Refusal::FileFault
+            && let Some(path) = path_in(line)
+            && let Some(told) = path_advice(path)
+        {
+            return Ok(Some(String::from_str(self.alloc, told)?));
+        }
+        Ok(Some(String::from_str(self.alloc, remedy)?))
+    }
+
+    /// Writes a line about this one.
+    fn tell(&mut self, line: &[u8], told: &str) -> Result<(), AllocError> {
+        let command = shown(self.alloc, line)?;
+        let path = self.call.path.as_str();
+        let number = self.number;
+        let text = format!(in self.alloc; "{path}:{number}: {command}: {told}\n")?;
+        self.write(text.as_str());
+        Ok(())
+    }
+
+    /// Explains a refused line.
+    fn explain<R: SystemFiles>(
+        &mut self,
+        line: &[u8],
+        fault: Fault,
+        files: &Disk<'_, R>,
+    ) -> Result<(), AllocError> {
+        let Some(remedy) = self.remedy(line, fault)? else {
+            return Ok(());
+        };
+        let file = file_part(files, self.alloc, line, fault)?;
+        let code = fault.number();
+        let (name, _) = advice_on(code);
+        let told = format!(in self.alloc; "refused {code}, {name}{file}: {remedy}")?;
+        self.tell(line, told.as_str())
+    }
+
+    /// Tells of a picture that is all white where its layer lies.
+    fn note_white(&mut self, line: &[u8], drawn: u64, station: &Station) -> Result<(), AllocError> {
+        let lies = where_it_lies(self.alloc, line, station)?;
+        let told = format!(in self.alloc; "ok {drawn}, all white: {lies}")?;
+        self.tell(line, told.as_str())
+    }
+}
+
+impl<R: SystemFiles, W: Write> Watch<Disk<'_, R>> for Notes<'_, W> {
+    fn script(&mut self, script: &[u8]) {
+        let ends = script.iter().filter(|byte| **byte == b'\n').count() as u64;
+        let is_ended = script.is_empty() || script.ends_with(b"\n");
+        self.lines = ends.saturating_add(u64::from(!is_ended));
+    }
+
+    fn line(&mut self, number: u64, line: &[u8]) {
+        self.number = number;
+        if self.call.progress && is_run(line) {
+            let _ = self.name_line(line);
+        }
+    }
+
+    fn reply(&mut self) {
+        if self.call.progress && self.is_terminal {
+            self.write(ERASED);
+        }
+    }
+
+    fn replied(
+        &mut self,
+        line: &[u8],
+        reply: &Result<Reply, Fault>,
+        station: &Station,
+        files: &Disk<'_, R>,
+    ) {
+        if !self.call.explain {
             return;
         }
-        let refusal = self.heard.refusal();
-        if let (Some((number, line)), Some(refusal)) = (self.lines.next(), refusal) {
-            let _ = self.explain(number, line, refusal);
-        }
-    }
-}
-
-/// An output whose refusals are explained.
-#[derive(Drop)]
-pub struct Explained<'a, R, O, W> {
-    out: O,
-    notes: Notes<'a, R, W>,
-}
-
-impl<'a, R, O, W: Drop> Explained<'a, R, O, W> {
-    /// The output, for the run of this script at this path.
-    pub fn new(
-        out: O,
-        margin: Margin<'a, R, W>,
-        alloc: Global,
-        path: &'a str,
-        script: &'a [u8],
-    ) -> Explained<'a, R, O, W>
-        ensures { result.out ≡ out }
-    {
-        let notes = Notes {
-            margin,
-            alloc,
-            path,
-            lines: Replied::new(alloc, script),
-            heard: Heard::new(alloc),
+        let _ = match reply {
+            Err(fault) => self.explain(line, *fault, files),
+            Ok(Reply::Bytes { bytes, drawn }) if is_white(bytes.as_slice()) => {
+                self.note_white(line, *drawn, station)
+            }
+            Ok(_) => Ok(()),
         };
-        Explained { out, notes }
-    }
-
-    /// The output itself.
-    pub fn into_out(self) -> O
-        ensures { result ≡ self.entry.out }
-    {
-        let Explained { out, notes: _ } = self;
-        out
-    }
-}
-
-impl<R: SystemFiles, O: Out, W: Write> Out for Explained<'_, R, O, W> {
-    ghost said = { λ explained. O.said explained.out };
-
-    ghost failed = { λ explained. O.failed explained.out };
-
-    fn say(&mut self, bytes: &[u8]) -> bool {
-        if !self.out.say(bytes) {
-            return false;
-        }
-        self.notes.hear(bytes);
-        true
-    }
-
-    fn failures(&self) -> u64 {
-        self.out.failures()
     }
 }

@@ -1,7 +1,7 @@
 //! What `--help` prints after the words of the call.
 
 /// The version of the program.
-pub const VERSION: &str = "1.0.0";
+pub const VERSION: &str = "1.1.0";
 
 /// The commands of a script, the exit statuses, and where the pages are.
 pub const AFTER_HELP: &str = "\

@@ -1,6 +1,6 @@
-//! `camplot SCRIPT [--depth N] [--explain]` runs a script of edits and plots over the layers of a printed circuit
-//! board, and says one reply line for each line that is neither empty nor a comment. With `--explain` it says on
-//! standard error why each refused line was refused.
+//! `camplot SCRIPT [--depth N] [--explain] [--progress]` runs a script of edits and plots over the layers of a printed
+//! circuit board, and says one reply line for each line that is neither empty nor a comment. With `--explain` it says on
+//! standard error why each refused line was refused, and with `--progress` which line it runs.
 //!
 //! Its exit status is 0 where no line was refused, 1 where some line was, and 2 where the call is
 //! refused, the script cannot be read, memory or the output failed.
@@ -14,12 +14,13 @@ mod reading;
 mod script;
 mod system;
 
-use cam_station::FileFault;
+use cam_station::{FileFault, Unwatched};
 use ending::Ending;
-use explain::{Margin, why_no_script};
+use explain::Notes;
 use options::{Call, OptionsFault, options};
-use reading::fault_of;
-use script::{run_explained, run_script};
+use reading::{Counted, IoFault, fault_of};
+use script::run_script;
+use std::io::IsTerminal;
 use std::process::ExitCode;
 use std::{env, io};
 use system::{Disk, Screen};
@@ -33,20 +34,33 @@ fn words(rt: &HostRuntime) -> io::Result<Vec<String>> {
     Ok(env::args(rt)?.collect(rt.alloc())?)
 }
 
-/// Runs the script as the call says, over the system's files and streams.
-fn run(rt: &HostRuntime, call: &Call) -> Ending {
+/// Runs the script as the call says, over the system's files and streams; why it was not read, where it was not.
+fn run(rt: &HostRuntime, call: &Call) -> (Ending, &'static str) {
     let alloc = rt.alloc();
-    let mut input = rt.stdin();
+    let mut input = Counted::new(rt.stdin());
     let mut out = Screen::new(io::writer(rt));
-    if call.explain {
-        // Files of a type of their own: so the code of a plain run has one caller, where it is inlined.
-        let mut files = Disk::new(&rt);
-        let margin = Margin::new(rt, rt.stderr());
-        let (ending, _) = run_explained(alloc, call, &mut files, &mut input, out, margin);
-        return ending;
-    }
     let mut files = Disk::new(rt);
-    run_script(alloc, call, &mut files, &mut input, &mut out)
+    let ending = if call.explain || call.progress {
+        let errors = rt.stderr();
+        let is_terminal = errors.is_terminal();
+        let mut notes = Notes::new(alloc, errors, call, is_terminal);
+        run_script(alloc, call, &mut files, &mut input, &mut out, &mut notes)
+    } else {
+        run_script(
+            alloc,
+            call,
+            &mut files,
+            &mut input,
+            &mut out,
+            &mut Unwatched,
+        )
+    };
+    let why = if call.path.as_str() == "-" {
+        input.why
+    } else {
+        files.why()
+    };
+    (ending, why)
 }
 
 // A text that cannot be printed changes no exit status.
@@ -55,8 +69,8 @@ fn main(rt: HostRuntime) -> ExitCode {
         Ok(words) => words,
         Err(error) => {
             let _ = match fault_of(&error) {
-                FileFault::Memory => eprintln!(rt; "camplot: no memory"),
-                FileFault::Failed => eprintln!(rt; "camplot: {error}"),
+                IoFault::Memory => eprintln!(rt; "camplot: no memory"),
+                _ => eprintln!(rt; "camplot: {error}"),
             };
             return ExitCode::from(NOT_RUN);
         }
@@ -72,13 +86,12 @@ fn main(rt: HostRuntime) -> ExitCode {
             return ExitCode::from(NOT_RUN);
         }
     };
-    let ending = run(&rt, &call);
+    let (ending, why) = run(&rt, &call);
     if let Some(complaint) = ending.complaint() {
         let _ = eprintln!(rt; "camplot: {complaint}");
     }
-    if call.explain && ending == Ending::Unread(FileFault::Failed) {
+    if ending == Ending::Unread(FileFault::Failed) {
         let path = call.path.as_str();
-        let why = why_no_script(&rt, path);
         let _ = eprintln!(rt; "camplot: {path}: {why}");
     }
     ExitCode::from(ending.status())

@@ -1,12 +1,12 @@
-//! The words that the program is called with, `camplot SCRIPT [--depth N] [--explain]`.
+//! The words that the program is called with, `camplot SCRIPT [--depth N] [--explain] [--progress]`.
 
 ghost use Rattle.std.specs.Prelude.{◌≡◌, ◌≤◌, ℕ, [], true, false, Option, map, unwrap_or, string_bytes};
 ghost use Rattle.std.specs.Prelude.{IfOk, IfErr, IfSome, MatchResult};
 ghost use Rattle.clap.specs.Words.{Text, app_of, rule_of};
 ghost use Rattle.clap.specs.Faults.{fault_of};
-ghost use Rattle.camplot.specs.Synopsis.{Asks, IsCallFor, IsFaultIn, IsOfMemory, IsPlainPath};
+ghost use Rattle.camplot.specs.Synopsis.{Asks, IsCallFor, IsFaultIn, IsOfMemory, IsPlainPath, WantsProgress};
 ghost use Rattle.camplot.specs.Synopsis.{camplot, depth_option, explain_option, explained_call, plain_call};
-ghost use Rattle.camplot.specs.Synopsis.{script_argument};
+ghost use Rattle.camplot.specs.Synopsis.{progress_option, script_argument};
 ghost use Rattle.camplot.specs.declared.options.OptionsFault.TheVariants.{Refused, Memory};
 
 use crate::help::{AFTER_HELP, VERSION};
@@ -22,6 +22,8 @@ pub struct Call {
     pub depth: u32,
     /// Whether refused lines are explained on standard error.
     pub explain: bool,
+    /// Whether each line is named there before it is run.
+    pub progress: bool,
 }
 
 /// Why a call of the program gives no options.
@@ -87,6 +89,17 @@ fn explain_option<'a>(alloc: Global) -> Arg<'a>
         .action(ArgAction::SetTrue)
 }
 
+/// `--progress`, a flag.
+fn progress_option<'a>(alloc: Global) -> Arg<'a>
+    ensures rule { rule_of result ≡ progress_option }
+    ensures local { result.global ≡ false }
+{
+    Arg::new(alloc, "progress")
+        .long("progress")
+        .help("Say on standard error which line is run next, and of how many")
+        .action(ArgAction::SetTrue)
+}
+
 /// The program's command line; an `Err` is for memory.
 fn command<'a>(alloc: Global) -> Result<Command<'a>, AllocError>
     ensures { IfOk result (λ made. app_of made ≡ camplot) }
@@ -97,16 +110,18 @@ fn command<'a>(alloc: Global) -> Result<Command<'a>, AllocError>
         .after_help(AFTER_HELP)
         .arg(script_argument(alloc))?
         .arg(depth_option(alloc))?
-        .arg(explain_option(alloc))
+        .arg(explain_option(alloc))?
+        .arg(progress_option(alloc))
 }
 
-/// The path of the script, the undo depth, from 1 to 1,000, and whether refused lines are explained, as the words ask
-/// for. The first word is the program's name. The error is `Refused` where clap takes no such words or has no memory
+/// The path of the script, the undo depth, from 1 to 1,000, and whether refused lines are explained and lines named, as the
+/// words ask for. The first word is the program's name. The error is `Refused` where clap takes no such words or has no memory
 /// to read them, and `Memory` where there is none for the command or the path.
 pub fn options(alloc: Global, words: &[String]) -> Result<Call, OptionsFault>
     ensures given { IfOk result
         (λ r. IsCallFor (map string_bytes words.now) (string_bytes r.path) r.depth) }
     ensures explain { IfOk result (λ r. Asks (map string_bytes words.now) r.explain) }
+    ensures progress { IfOk result (λ r. WantsProgress (map string_bytes words.now) r.progress) }
     ensures accepted { fault_of camplot (map string_bytes words.now) ≡ []
         → IfErr result IsOfMemory }
     ensures refused { IfErr result (IsFaultIn (map string_bytes words.now)) }
@@ -128,9 +143,11 @@ pub fn options(alloc: Global, words: &[String]) -> Result<Call, OptionsFault>
     let script = matches.get_str("script").unwrap();
     let depth = matches.get_one::<u32>("depth").unwrap();
     let explain = matches.get_flag("explain");
+    let progress = matches.get_flag("progress");
     Ok(Call {
         path: script.to_string(alloc)?,
         depth,
         explain,
+        progress,
     })
 }

@@ -1,9 +1,18 @@
 //! Bytes from readers and to writers: a file's, or any other's.
 
-ghost use Rattle.std.specs.Prelude.{◌≡◌, ◌+◌, ◌^◌, ◌<◌, length, IfErr, IfOk, OnOk};
-ghost use Rattle.std.specs.Io.KnownBytes.{Appends};
-ghost use Rattle.camplot.specs.Disk.{AreAllOf, HasGivenWithin, IsFaultOf};
-ghost use Rattle.cam_station.specs.declared.files.FileFault.TheVariants.{Memory};
+ghost use Rattle.std.specs.Prelude.{◌≡◌, ◌≢◌, ◌+◌, ◌^◌, ◌<◌, length, IfErr, IfOk, OnErr, OnOk};
+ghost use Rattle.std.specs.Io.{ReadsAtMost};
+ghost use Rattle.std.specs.Io.KnownBytes.{Appends, ReadConsumes};
+ghost use Rattle.cam_station.specs.Files.{HasRisenBy};
+ghost use Rattle.camplot.specs.Disk.{
+  AreAllOf,
+  HasGivenWithin,
+  IsFaultOf,
+  IsWhyNotAll,
+  fault_heard,
+  reader_seen,
+};
+ghost use Rattle.camplot.specs.declared.reading.IoFault.TheVariants.{TooLong};
 
 use cam_station::FileFault;
 use std::alloc::{AllocError, Global};
@@ -11,6 +20,47 @@ use std::io::{self, ErrorKind, Read, Write};
 
 /// How many bytes one read may give at most.
 const CHUNK: usize = 65_536;
+
+/// Why bytes were not all read or not all written.
+#[derive(Clone, Copy)]
+pub enum IoFault {
+    /// The reader or the writer answered an error of this kind.
+    Failed(ErrorKind),
+    /// The reader has given more bytes than may be read.
+    TooLong,
+    /// Memory was refused.
+    Memory,
+}
+
+impl IoFault {
+    /// What a line of a script is told of it.
+    pub fn file_fault(self) -> FileFault
+        ensures { result ≡ fault_heard self }
+    {
+        match self {
+            IoFault::Failed(_) | IoFault::TooLong => FileFault::Failed,
+            IoFault::Memory => FileFault::Memory,
+        }
+    }
+
+    /// Why the text was not read, in words; `missing` is what is said where nothing is at the path.
+    pub fn reason(self, missing: &'static str) -> &'static str {
+        match self {
+            IoFault::TooLong => "it has more than 268,435,456 bytes",
+            IoFault::Memory => "no memory",
+            IoFault::Failed(kind) => match kind {
+                ErrorKind::NotFound => missing,
+                ErrorKind::PermissionDenied => "permission is denied",
+                ErrorKind::IsADirectory => "it is a folder",
+                ErrorKind::NotADirectory => "a part of its path is no folder",
+                ErrorKind::ReadOnlyFilesystem => "its file system is read-only",
+                ErrorKind::StorageFull | ErrorKind::QuotaExceeded => "its file system is full",
+                ErrorKind::InvalidFilename => "its path is too long",
+                _ => "reading or writing it failed",
+            },
+        }
+    }
+}
 
 /// So many zeros, for a reader to write over.
 fn zeros(alloc: Global, len: usize) -> Result<Vec<u8>, AllocError>
@@ -20,28 +70,74 @@ fn zeros(alloc: Global, len: usize) -> Result<Vec<u8>, AllocError>
 }
 
 /// Whether memory was refused, or the file failed.
-pub fn fault_of(error: &io::Error) -> FileFault
-    ensures { IsFaultOf error.now result }
+pub fn fault_of(error: &io::Error) -> IoFault
+    ensures value { IsFaultOf error.now result }
+    ensures length { result ≢ TooLong }
 {
     match error.kind() {
-        ErrorKind::OutOfMemory => FileFault::Memory,
-        _ => FileFault::Failed,
+        ErrorKind::OutOfMemory => IoFault::Memory,
+        kind => IoFault::Failed(kind),
     }
 }
 
-/// All bytes of a reader, which has failed where they are more than `limit`: it is read to its end, or one byte past
-/// the limit, and no further. Want of memory is told of no reader that has given more than the limit.
+/// A reader, with the number of its reads that failed, which stays at `u64::MAX`.
+#[derive(Drop)]
+pub struct Counted<R> {
+    pub reader: R,
+    pub failures: u64,
+    /// Why the bytes of it that were wanted last were not had, in words.
+    pub why: &'static str,
+}
+
+impl<R: Read> Counted<R> {
+    pub fn new(reader: R) -> Counted<R>
+        ensures { result.reader ≡ reader }
+    {
+        Counted {
+            reader,
+            failures: 0,
+            why: "",
+        }
+    }
+
+    /// Reads once.
+    fn read(&mut self, piece: &mut [u8]) -> Result<usize, IoFault>
+        ensures bound { ReadsAtMost result piece.new }
+        ensures bytes { ReadConsumes (R.remaining self.old.reader) (R.remaining self.new.reader) result piece.new }
+        ensures ok { OnOk result (self.new.failures ≡ self.old.failures) }
+        ensures counted { OnErr result (HasRisenBy 1 self.old.failures self.new.failures) }
+        ensures kind { IfErr result (λ fault. fault ≢ TooLong) }
+    {
+        match self.reader.read(piece) {
+            Ok(count) => Ok(count),
+            Err(error) => {
+                self.failures = self.failures.saturating_add(1);
+                Err(fault_of(&error))
+            }
+        }
+    }
+}
+
+/// All bytes of a reader. They are too many where they are more than `limit`: it is read to its end, or one byte past the
+/// limit, and no further. It fails only where a read of it fails, and want of memory is told of no reader that has given
+/// more than the limit.
 ///
 /// Each read gives at least one byte, the end or a fault, so the reading ends.
-pub fn read_all<R: Read>(alloc: Global, reader: &mut R, limit: usize) -> Result<Vec<u8>, FileFault>
+pub fn read_all<R: Read>(
+    alloc: Global,
+    reader: &mut Counted<R>,
+    limit: usize,
+) -> Result<Vec<u8>, IoFault>
     requires room { limit + 1 < 2 ^ 64 }
-    ensures ok { IfOk result (λ bytes. AreAllOf (R.remaining reader.old) limit bytes.items) }
-    ensures memory { IfErr result (λ fault. fault ≡ Memory
-        → HasGivenWithin (R.remaining reader.old) (R.remaining reader.new) limit) }
-    ensures taken { HasGivenWithin (R.remaining reader.old) (R.remaining reader.new) (limit + 1) }
+    ensures ok { IfOk result (λ bytes. AreAllOf (R.remaining reader.old.reader) limit bytes.items) }
+    ensures err { IfErr result (λ fault. IsWhyNotAll fault limit
+        (reader_seen (R.remaining reader.old.reader) reader.old.failures)
+        (reader_seen (R.remaining reader.new.reader) reader.new.failures)) }
+    ensures taken { HasGivenWithin (R.remaining reader.old.reader) (R.remaining reader.new.reader)
+        (limit + 1) }
 {
     let Ok(mut chunk) = zeros(alloc, CHUNK) else {
-        return Err(FileFault::Memory);
+        return Err(IoFault::Memory);
     };
     let buffer = chunk.as_mut_slice();
     let mut bytes = Vec::new(alloc);
@@ -50,27 +146,28 @@ pub fn read_all<R: Read>(alloc: Global, reader: &mut R, limit: usize) -> Result<
         let piece = &mut buffer[..room];
         let count = match reader.read(piece) {
             Ok(count) => count,
-            Err(error) => return Err(fault_of(&error)),
+            Err(fault) => return Err(fault),
         };
         if count == 0 {
             return Ok(bytes);
         }
         if count > limit - bytes.len() {
-            return Err(FileFault::Failed);
+            return Err(IoFault::TooLong);
         }
         if bytes.extend_from_slice(&piece[..count]).is_err() {
-            return Err(FileFault::Memory);
+            return Err(IoFault::Memory);
         }
     }
-    Err(FileFault::Failed)
+    Err(IoFault::TooLong)
 }
 
-/// Writes all the bytes. Where that fails nothing is known of how many of them were written.
-pub fn write_whole<W: Write>(writer: &mut W, bytes: &[u8]) -> Result<(), FileFault>
-    ensures { OnOk result (Appends (W.contents writer.old) (W.contents writer.new) bytes.now) }
+/// Writes all the bytes; how many they are. Where that fails nothing is known of how many of them were written.
+pub fn write_whole<W: Write>(writer: &mut W, bytes: &[u8]) -> Result<usize, IoFault>
+    ensures appended { OnOk result (Appends (W.contents writer.old) (W.contents writer.new) bytes.now) }
+    ensures count { IfOk result (λ count. count ≡ length bytes.now) }
 {
     match writer.write_all(bytes) {
-        Ok(()) => Ok(()),
+        Ok(()) => Ok(bytes.len()),
         Err(error) => Err(fault_of(&error)),
     }
 }

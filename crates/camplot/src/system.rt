@@ -6,7 +6,7 @@
 ghost use Rattle.std.specs.Prelude.{◌≡◌, ◌≤◌, length, IfOk, IfSome};
 ghost use Rattle.cam_refusals.specs.Limits.{file_limit};
 
-use crate::reading::{fault_of, read_all, write_whole};
+use crate::reading::{Counted, IoFault, fault_of, read_all, write_whole};
 use cam_refusals::limits::FILE_LIMIT;
 use cam_station::{FileFault, Files, Out};
 use std::alloc::Global;
@@ -14,29 +14,20 @@ use std::fs;
 use std::io::Write;
 use std::rt::Files as SystemFiles;
 
-/// The bytes of the file at this path; a file of more than 268,435,456 bytes has failed.
-fn read_file<R: SystemFiles>(rt: &R, alloc: Global, path: &str) -> Result<Vec<u8>, FileFault>
+/// The bytes of the file at this path, at most 268,435,456.
+fn read_file<R: SystemFiles>(rt: &R, alloc: Global, path: &str) -> Result<Vec<u8>, IoFault>
     ensures { IfOk result (λ bytes. length bytes.items ≤ file_limit) }
 {
     match fs::open(rt, path) {
-        Ok(mut file) => read_all(alloc, &mut file, FILE_LIMIT),
+        Ok(file) => read_all(alloc, &mut Counted::new(file), FILE_LIMIT),
         Err(error) => Err(fault_of(&error)),
     }
 }
 
-/// The bytes of the file at this path, where it is one that can be read again: a pipe would wait for more, or be empty.
-pub fn read_again<R: SystemFiles>(rt: &R, alloc: Global, path: &str) -> Option<Vec<u8>>
-    ensures { IfSome result (λ bytes. length bytes.items ≤ file_limit) }
+/// Writes the file at this path anew; how many bytes its writer took.
+fn write_file<R: SystemFiles>(rt: &R, path: &str, bytes: &[u8]) -> Result<usize, IoFault>
+    ensures { IfOk result (λ count. count ≡ length bytes.now) }
 {
-    let about = fs::metadata(rt, path).ok()?;
-    if !about.is_file() {
-        return None;
-    }
-    read_file(rt, alloc, path).ok()
-}
-
-/// Writes the file at this path anew.
-fn write_file<R: SystemFiles>(rt: &R, path: &str, bytes: &[u8]) -> Result<(), FileFault> {
     match fs::create(rt, path) {
         Ok(mut file) => write_whole(&mut file, bytes),
         Err(error) => Err(fault_of(&error)),
@@ -48,26 +39,50 @@ fn write_file<R: SystemFiles>(rt: &R, path: &str, bytes: &[u8]) -> Result<(), Fi
 pub struct Disk<'a, R> {
     rt: &'a R,
     failures: u64,
+    why: &'static str,
 }
 
 impl<'a, R: SystemFiles> Disk<'a, R> {
     pub fn new(rt: &'a R) -> Disk<'a, R> {
-        Disk { rt, failures: 0 }
+        Disk {
+            rt,
+            failures: 0,
+            why: "",
+        }
+    }
+
+    /// Why the last of its files that failed did, in words.
+    pub fn why(&self) -> &'static str {
+        self.why
+    }
+
+    /// The bytes of the file at this path, where it is one that can be read again: a pipe would wait for more, or be empty.
+    pub fn read_again(&self, alloc: Global, path: &str) -> Option<Vec<u8>>
+        ensures { IfSome result (λ bytes. length bytes.items ≤ file_limit) }
+    {
+        let about = fs::metadata(self.rt, path).ok()?;
+        if !about.is_file() {
+            return None;
+        }
+        read_file(self.rt, alloc, path).ok()
     }
 }
 
 impl<R> Disk<'_, R> {
     ghost use Rattle.cam_station.specs.Files.{HasRisenBy, fault_failures};
+    ghost use Rattle.camplot.specs.Disk.{fault_heard};
 
-    /// Counts a failure of a file; want of memory is none.
-    fn counted(&mut self, fault: FileFault) -> FileFault
-        ensures fault { result ≡ fault }
-        ensures counted { HasRisenBy (fault_failures fault) self.old.failures self.new.failures }
+    /// Counts a failure of a file, and keeps why it failed; want of memory is none.
+    fn counted(&mut self, fault: IoFault, missing: &'static str) -> FileFault
+        ensures fault { result ≡ fault_heard fault }
+        ensures counted { HasRisenBy (fault_failures (fault_heard fault)) self.old.failures self.new.failures }
     {
-        if fault == FileFault::Failed {
+        let told = fault.file_fault();
+        if told == FileFault::Failed {
             self.failures = self.failures.saturating_add(1);
+            self.why = fault.reason(missing);
         }
-        fault
+        told
     }
 }
 
@@ -89,14 +104,17 @@ impl<'a, R: SystemFiles> Files for Disk<'a, R> {
     {
         match read_file(self.rt, alloc, path) {
             Ok(bytes) => Ok(bytes),
-            Err(fault) => Err(self.counted(fault)),
+            Err(fault) => Err(self.counted(fault, "there is no such file")),
         }
     }
 
     fn put(&mut self, path: &str, bytes: &[u8]) -> Result<(), FileFault> {
         match write_file(self.rt, path, bytes) {
-            Ok(()) => Ok(()),
-            Err(fault) => Err(self.counted(fault)),
+            Ok(count) => {
+                prove!(count == bytes.len());
+                Ok(())
+            }
+            Err(fault) => Err(self.counted(fault, "there is no such folder")),
         }
     }
 

@@ -7,8 +7,8 @@ mod covering;
 mod defining;
 
 use crate::tables::{each_in, each_row};
-use cam_apertures::{AdFault, Aperture, Macros, ShapeView, ad_number, parse_ad};
-use cam_macros::{Macro, MacroFault};
+use cam_apertures::{AdFault, Aperture, Macros, ad_number, parse_ad};
+use cam_macros::{Macro, MacroFault, PrimShape};
 use cam_units::{Bounds, Point, Spot, Turn, Unit};
 use covering::{BOXES, Boxed, NOTHING, PLACES, Place, SOLID, Solid, Text};
 use defining::{DEFINITIONS, NUMBERS, Wanted, definition_of};
@@ -54,9 +54,9 @@ fn is_disc(aperture: &Aperture, wanted: i64) -> bool {
         return false;
     }
     let prim = prims.at(0);
-    match prim.shape {
-        ShapeView::Disc { centre, diameter } => {
-            prim.paint && centre == Point { x: 0, y: 0 } && diameter.0 == wanted
+    match &prim.shape {
+        PrimShape::Disc { centre, diameter } => {
+            prim.paint && *centre == Point { x: 0, y: 0 } && diameter.0 == wanted
         }
         _ => false,
     }

@@ -5,7 +5,7 @@ mod fields;
 mod words;
 
 use crate::tables::{each, each_in};
-use cam_commands::{Command, Operation, Repeat, command_of, place_of};
+use cam_commands::{Command, Operation, Repeat, command_of, start_of};
 use cam_words::Words;
 use extended::{EXTENDED, FREE};
 use fields::{OPERATIONS, Operated, REPEATS, Repeated};
@@ -46,7 +46,7 @@ fn wrong_word(
         };
         let command = command_of(word);
         if command.is_extended() != is_extended || !is_same(alloc, &command, wanted)? {
-            return Ok(Some(place_of(word)));
+            return Ok(Some(start_of(word)));
         }
     }
     Ok(None)
@@ -98,7 +98,7 @@ fn is_repeat(alloc: Global, row: &Repeated) -> Result<bool, AllocError> {
 /// Whether the first command of the text begins there.
 fn begins_at(&(text, wanted): &(&[u8], usize)) -> bool {
     match Words::new(text).next() {
-        Some(Ok(word)) => place_of(word) == wanted,
+        Some(Ok(word)) => start_of(word) == wanted,
         _ => false,
     }
 }

@@ -1,13 +1,15 @@
-//! Tiles by both ways: one by one, and row of tiles by row of tiles. Each word is the same.
+//! Tiles by each way: each one asked for by itself, all of them the plain way, and row of tiles by row of tiles. Each word
+//! is the same.
 
 ghost use Rattle.std.specs.Prelude.{◌≡◌};
 ghost use Rattle.cam_objects.specs.DrillSoundness.{IsSoundDrillLayer};
 ghost use Rattle.cam_objects.specs.Soundness.{HasSoundItems};
+ghost use Rattle.cam_tiles.specs.Sources.{picture_of};
 
 use crate::tables::each_in;
 use cam_edits::{IndexedDrillLayer, IndexedLayer};
 use cam_gerber::read_gerber;
-use cam_tiles::{Raster, RasterFault, Source, Window};
+use cam_tiles::{Grid, Painter, Raster, RasterFault, Source, Window};
 use cam_xnc::read_xnc;
 use std::alloc::Global;
 use std::test::Fail;
@@ -47,6 +49,26 @@ const DRILLS: &[&[u8]] = &[
     b"M48\nMETRIC\nT1C0.00004\nT2C0.00001\n%\nG05\nT1\nX0.000128Y0.000012\nX0.000256Y0.000136\nT2\nG00X0.00001Y0.000005\nM15\nG01X0.00025Y0.000135\nG01X0.000128Y0.000012\nM16\nT1\nG00X0.00004Y0.00009\nM15\nM16\nM30\n",
 ];
 
+/// Paints a layer, and has no way of its own to draw: each tile is asked for by itself.
+#[derive(Drop)]
+struct EachTile<'a> {
+    source: Source<'a>,
+}
+
+impl<'a> Painter for EachTile<'a> {
+    ghost picture = { λ p. picture_of p.source };
+
+    ghost count = { λ p. p.source.asked };
+
+    fn tile(&mut self, grid: Grid) -> [u64; 64] {
+        self.source.tile(grid)
+    }
+
+    fn asked(&self) -> u64 {
+        self.source.asked()
+    }
+}
+
 /// Whether each tile of two rasters has the same rows, and some pixel is black.
 fn are_same(plain: &Raster, quick: &Raster) -> bool {
     let mut black = false;
@@ -64,28 +86,32 @@ fn are_same(plain: &Raster, quick: &Raster) -> bool {
     black
 }
 
-/// What a source that was asked for no tile draws in the window.
-fn drawn(alloc: Global, source: &mut Source<'_>) -> Result<Raster, RasterFault>
-    requires { source.old.asked ≡ 0 }
+/// What a painter that was asked for no tile draws in the window.
+fn drawn<P: Painter>(alloc: Global, painter: &mut P) -> Result<Raster, RasterFault>
+    requires { P.count painter.old ≡ 0 }
 {
     let mut raster = Raster::new(alloc, WINDOW)?;
-    raster.redraw(source, u32::MAX);
+    raster.redraw(painter, u32::MAX);
     Ok(raster)
 }
 
-/// Whether two sources that were asked for no tile draw the same ones.
+/// Whether a layer is drawn alike by painters that were asked for no tile: tile by tile, the plain way, and quickly.
 fn draw_alike(
     alloc: Global,
+    each: &mut EachTile<'_>,
     plain: &mut Source<'_>,
     quick: &mut Source<'_>,
 ) -> Result<bool, RasterFault>
+    requires each { each.old.source.asked ≡ 0 }
     requires plain { plain.old.asked ≡ 0 }
     requires quick { quick.old.asked ≡ 0 }
 {
-    Ok(are_same(&drawn(alloc, plain)?, &drawn(alloc, quick)?))
+    let quickly = drawn(alloc, quick)?;
+    let alike = are_same(&drawn(alloc, each)?, &quickly);
+    Ok(alike && are_same(&drawn(alloc, plain)?, &quickly) && each.asked() == 6)
 }
 
-/// Whether the tiles of a sound Gerber layer are the same by both ways.
+/// Whether the tiles of a sound Gerber layer are the same by each way.
 fn layer_agrees(alloc: Global, indexed: &IndexedLayer) -> Result<bool, RasterFault>
     requires { HasSoundItems indexed.now }
 {
@@ -95,6 +121,9 @@ fn layer_agrees(alloc: Global, indexed: &IndexedLayer) -> Result<bool, RasterFau
     let layer = indexed.layer();
     draw_alike(
         alloc,
+        &mut EachTile {
+            source: Source::gerber(layer),
+        },
         &mut Source::gerber(layer),
         &mut Source::gerber_by_cells(alloc, layer, cells, indexed.first_copies()),
     )
@@ -108,7 +137,7 @@ fn file_agrees(alloc: Global, file: &&[u8]) -> Result<bool, RasterFault> {
     }
 }
 
-/// Whether the tiles of a sound drill layer are the same by both ways.
+/// Whether the tiles of a sound drill layer are the same by each way.
 fn drill_layer_agrees(alloc: Global, indexed: &IndexedDrillLayer) -> Result<bool, RasterFault>
     requires { IsSoundDrillLayer indexed.now }
 {
@@ -118,6 +147,9 @@ fn drill_layer_agrees(alloc: Global, indexed: &IndexedDrillLayer) -> Result<bool
     let layer = indexed.layer();
     draw_alike(
         alloc,
+        &mut EachTile {
+            source: Source::drill(layer),
+        },
         &mut Source::drill(layer),
         &mut Source::drill_by_cells(alloc, layer, cells),
     )
@@ -132,7 +164,7 @@ fn drill_file_agrees(alloc: Global, file: &&[u8]) -> Result<bool, RasterFault> {
 }
 
 #[test]
-fn both_ways(rt: HostRuntime) -> Result<(), Fail> {
+fn each_way(rt: HostRuntime) -> Result<(), Fail> {
     each_in(rt.alloc(), LAYERS, file_agrees)?;
     each_in(rt.alloc(), DRILLS, drill_file_agrees)
 }

@@ -2,6 +2,7 @@
 //! Format Specification).
 
 ghost use Rattle.cam_objects.specs.DrillSoundness.{IsSoundDrillLayer};
+ghost use Rattle.cam_objects.specs.Soundness.{IsSound};
 
 mod blocks;
 mod contours;
@@ -13,7 +14,7 @@ mod repeats;
 use crate::tables::each_in;
 use blocks::BLOCKS;
 use cam_gerber::read_gerber;
-use cam_objects::DrillLayer;
+use cam_objects::{DrillLayer, Layer};
 use cam_writers::{gerber_text, xnc_text};
 use cam_xnc::read_xnc;
 use contours::CONTOURS;
@@ -50,20 +51,35 @@ fn are_drills_written(alloc: Global, file: &[u8], text: &[u8]) -> Result<bool, A
     }
 }
 
-/// Whether the Gerber file is read, and this text is written of its layer.
-fn is_layer_written(alloc: Global, file: &[u8], text: &[u8]) -> bool {
-    let Ok(layer) = read_gerber(alloc, file) else {
-        return false;
-    };
-    match gerber_text(alloc, &layer) {
+/// Whether this is the text of the layer.
+fn is_text(alloc: Global, layer: &Layer, text: &[u8]) -> bool
+    requires { IsSound layer.now }
+{
+    match gerber_text(alloc, layer) {
         Ok(written) => written.as_slice() == text,
         Err(_) => false,
     }
 }
 
+/// Whether this is the text of the layer, and of its copy: they are equal then, since a text gives its layer again.
+fn is_copied(alloc: Global, layer: &Layer, text: &[u8]) -> Result<bool, AllocError>
+    requires { IsSound layer.now }
+{
+    let copy = layer.try_copy()?;
+    Ok(is_text(alloc, layer, text) && is_text(alloc, &copy, text))
+}
+
+/// Whether the Gerber file is read, and its layer and a copy have this text.
+fn is_layer_written(alloc: Global, file: &[u8], text: &[u8]) -> Result<bool, AllocError> {
+    match read_gerber(alloc, file) {
+        Ok(layer) => is_copied(alloc, &layer, text),
+        Err(_) => Ok(false),
+    }
+}
+
 /// Whether the text is written of the file, and of itself.
 fn is_written(alloc: Global, &(file, text): &Written) -> Result<bool, AllocError> {
-    Ok(is_layer_written(alloc, file, text) && is_layer_written(alloc, text, text))
+    Ok(is_layer_written(alloc, file, text)? && is_layer_written(alloc, text, text)?)
 }
 
 /// The same of a drill file.

@@ -12,7 +12,7 @@ use Rattle.cam_c.specs.declared.session.Session.{Session}
 use Rattle.cam_c.specs.contracts.session.Session.{the_row as R}
 use Rattle.cam_c.specs.Lent.{held, lent}
 use Rattle.cam_c.specs.Calls.{IsQuestioned}
-use Rattle.cam_c.specs.Pointers.{AskedBy, AskedWhere, is_there, is_usable}
+use Rattle.cam_c.specs.Pointers.{AskedBy, AskedWhere, is_pointed_to, is_usable}
 use Rattle.cam_c.specs.contracts.session.Session.ask as g
 use Rattle.cam_c.proofs.session.Session.ask.Met as g-thm
 use Rattle.cam_c.specs.contracts.exports.camplot_ask as f
@@ -60,7 +60,7 @@ module _ {M : Type 1} {𝓤 : Ura M} (𝓛 : Logic 𝓤) (𝓜 : Model 𝓤 𝓛
         move ! (1 ∷ []) $ nothing ! $ nothing ! $ join ! $ nothing ! $ join ! $ nothing ! $ join ! $ nothing ! $ group ! 3 $ done !
 
     -- the same station, and the number of a pointer that cannot be used
-    refuse : (is_there t && is_usable l xs) ≡ false → ent 𝓤 (Lent s) (Post (vint w32 90))
+    refuse : (is_pointed_to t && is_usable l xs) ≡ false → ent 𝓤 (Lent s) (Post (vint w32 90))
     refuse not =
         qed 𝓛 (‵ (held s t) ∷ ‵ (lent u8 q xs l) ∷ []) ∵ owned ! u32 _ (uint_Makes 𝓛 w32) 90 _ (refl, lit< tt) $
         by ! (leave s 90 (vint w32 90) (subst (λ (b : Bool). AskedWhere b xs s s 90) (sym not) (record { code_is = refl; same = refl })))

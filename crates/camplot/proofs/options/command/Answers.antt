@@ -11,5 +11,6 @@ returns c =
     let told = ap app_of_fields c.after_help.ensures ∙ (ap app_of_fields c.version.ensures ∙ ap with_version named) in
     let first = c.in_ok-arg.ensures.shape c.script_argument.ensures.local ∙ ap₂ with_rule told c.script_argument.ensures.rule in
     let second = c.in_ok-arg-2.ensures.shape c.depth_option.ensures.local ∙ ap₂ with_rule first c.depth_option.ensures.rule in
-    IfOk-weaker c.arg-3.result _ _
-    (λ made added. added.shape c.explain_option.ensures.local ∙ ap₂ with_rule second c.explain_option.ensures.rule) c.arg-3.ensures
+    let third = c.in_ok-arg-3.ensures.shape c.explain_option.ensures.local ∙ ap₂ with_rule second c.explain_option.ensures.rule in
+    IfOk-weaker c.arg-4.result _ _
+    (λ made added. added.shape c.progress_option.ensures.local ∙ ap₂ with_rule third c.progress_option.ensures.rule) c.arg-4.ensures

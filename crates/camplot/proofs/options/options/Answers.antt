@@ -8,7 +8,7 @@ use Rattle.clap.specs.Words.{App, Text, app_of, first_of, found_of, is_simple, m
 use Rattle.clap.specs.Faults.{fault_of, is_simple_and_free}
 use Rattle.clap.proofs.CallerLemmas.{some_of_text}
 use Rattle.clap.proofs.WalkLemmas.{first_value-rows, one_text-rows}
-use Rattle.camplot.specs.Synopsis.{IsCallFor, IsOfMemory, camplot, explain_text, number_written}
+use Rattle.camplot.specs.Synopsis.{IsCallFor, IsOfMemory, camplot, explain_text, count_written, progress_text}
 use Rattle.camplot.proofs.PlainCalls.{camplot_free, camplot_simple, explained_is_asked, plain_is_call, plain_is_unasked, same_call}
 use Rattle.camplot.proofs.Values.{IsNumberOf, depth_has_value, depth_number, script_has_value}
 use Rattle.camplot.proofs.options.options.Goals as goal
@@ -53,7 +53,7 @@ returns-clause-given c =
     record {
       accepted = sym (ap (λ (a : App). fault_of a words) app) ∙ c.in_ok-matches.ensures.kinds (ap is_simple_and_free app ∙ camplot_free);
       script = sym (ap (first_of (codes "script")) rows) ∙ sym (first_value-rows f (codes "script")) ∙ sym c.get_str.ensures ∙ search rules;
-      number = ap (option_map number_written) (sym (ap (one_of (codes "depth")) rows) ∙ sym (one_text-rows f (codes "depth"))) ∙ is.number;
+      number = ap (option_map count_written) (sym (ap (one_of (codes "depth")) rows) ∙ sym (one_text-rows f (codes "depth"))) ∙ is.number;
       in_range = (is.least, is.most);
     }
 
@@ -76,6 +76,20 @@ returns-clause-explain c =
     record {
       asked = λ text. c.get_flag-explain.ensures.value (is ∙ text);
       unasked = λ text. c.get_flag-explain.ensures.other (is ∙ text);
+    }
+
+pub returns-clause-progress : goal.returns-clause-progress
+returns-clause-progress c =
+    let words : List Text = map string_bytes c.args.words.now in
+    let app : app_of c.in_ok-command.field-0 ≡ camplot = c.in_ok-command.ensures in
+    let f = found_of c.in_ok-matches.matches in
+    let rows : rows_of f ≡ matches_of camplot words =
+    (c.in_ok-matches.ensures.matches (ap is_simple app ∙ camplot_simple)).0 ∙ ap (λ (a : App). matches_of a words) app in
+    let is : one_text f (codes "progress") ≡ progress_text words =
+    one_text-rows f (codes "progress") ∙ ap (one_of (codes "progress")) rows in
+    record {
+      asked = λ text. c.get_flag-progress.ensures.value (is ∙ text);
+      unasked = λ text. c.get_flag-progress.ensures.other (is ∙ text);
     }
 
 pub returns-clause-unasked : goal.returns-clause-unasked

@@ -1,11 +1,24 @@
-use Rattle.std.proofs.Common.{◌≡◌, ℕ, ◌+◌, ◌-◌, ◌++◌, ◌≤◌, List, arith, length, take, length-append, rules}
+use Rattle.std.proofs.Common.{◌≡◌, ◌∙◌, ℕ, ◌+◌, ◌++◌, ◌≤◌, ◌<◌, List, arith, length, take, length-append, rules}
 use Rattle.std.proofs.KnownBytes.{Consumes-trans}
+use Rattle.camplot.proofs.Faults.{all_read, read_failed}
 use Rattle.camplot.proofs.reading.read_all.Goals as goal
 
+pub returns-in-Err-clause-err : goal.returns-in-Err-clause-err
+returns-in-Err-clause-err g c =
+    read_failed c.in-Err.fault _ _ _ c.loop.bytes.items c.args.limit _ _ _ c.in-Err.ensures.kind c.loop.invariant.failures
+    c.in-Err.ensures.counted c.loop.invariant.bound c.loop.invariant.read c.in-Err.ensures.bytes
+
+pub returns-then-count-eq0-clause-ok : goal.returns-then-count-eq0-clause-ok
+returns-then-count-eq0-clause-ok g c =
+    let none : c.in-Ok-read.count ≡ 0 = search rules in
+    let room : 0 < length c.read.new.piece = search rules in
+    all_read _ _ _ c.loop.bytes.items c.read.new.piece c.in-Ok-read.count c.args.limit none room
+    c.loop.invariant.bound c.loop.invariant.read c.in-Ok-read.ensures.bytes
+
 -- what was read before, and this piece, which is within what the limit leaves
-pub returns-then-is_err-clause-memory : goal.returns-then-is_err-clause-memory
-returns-then-is_err-clause-memory g c same =
-    let piece : List ℕ = take c.in-Ok-read.count c.read.new.buf in
+pub returns-then-is_err-clause-err : goal.returns-then-is_err-clause-err
+returns-then-is_err-clause-err g c =
+    let piece : List ℕ = take c.in-Ok-read.count c.read.new.piece in
     let few : length piece ≤ c.in-Ok-read.count = search rules in
     let room : length c.loop.bytes.items + c.in-Ok-read.count ≤ c.args.limit = search rules in (
       c.loop.bytes.items ++ piece,
@@ -15,7 +28,7 @@ returns-then-is_err-clause-memory g c same =
 
 pub returns-then-is_err-clause-taken : goal.returns-then-is_err-clause-taken
 returns-then-is_err-clause-taken g c =
-    let piece : List ℕ = take c.in-Ok-read.count c.read.new.buf in
+    let piece : List ℕ = take c.in-Ok-read.count c.read.new.piece in
     let few : length piece ≤ c.in-Ok-read.count = search rules in
     let room : length c.loop.bytes.items + c.in-Ok-read.count ≤ c.args.limit = search rules in (
       c.loop.bytes.items ++ piece,
@@ -23,12 +36,23 @@ returns-then-is_err-clause-taken g c =
       omega (arith, few, room, length-append c.loop.bytes.items piece),
     )
 
--- and here it may be one byte more
+-- and here it is more
+pub returns-then-count-limit-clause-err : goal.returns-then-count-limit-clause-err
+returns-then-count-limit-clause-err g c =
+    let piece : List ℕ = take c.in-Ok-read.count c.read.new.piece in
+    let whole : length piece ≡ c.in-Ok-read.count = search rules in
+    let more : c.args.limit < length c.loop.bytes.items + c.in-Ok-read.count = search rules in (
+      c.loop.bytes.items ++ piece,
+      Consumes-trans _ _ _ c.loop.bytes.items piece c.loop.invariant.read c.in-Ok-read.ensures.bytes.0,
+      omega (arith, whole, more, length-append c.loop.bytes.items piece),
+    )
+
+-- by one byte at most
 pub returns-then-count-limit-clause-taken : goal.returns-then-count-limit-clause-taken
 returns-then-count-limit-clause-taken g c =
-    let piece : List ℕ = take c.in-Ok-read.count c.read.new.buf in
-    let few : length piece ≤ length c.read.new.buf = search rules in
-    let given : length c.read.new.buf ≤ c.min-room.result = search rules in
+    let piece : List ℕ = take c.in-Ok-read.count c.read.new.piece in
+    let few : length piece ≤ length c.read.new.piece = search rules in
+    let given : length c.read.new.piece ≤ c.min-room.result = search rules in
     let room : length c.loop.bytes.items + c.min-room.result ≤ c.args.limit + 1 = search rules in (
       c.loop.bytes.items ++ piece,
       Consumes-trans _ _ _ c.loop.bytes.items piece c.loop.invariant.read c.in-Ok-read.ensures.bytes.0,
@@ -37,7 +61,7 @@ returns-then-count-limit-clause-taken g c =
 
 pub loop-preserved : goal.loop-preserved
 loop-preserved g c =
-    let piece : List ℕ = take c.in-Ok-read.count c.read.new.buf in
+    let piece : List ℕ = take c.in-Ok-read.count c.read.new.piece in
     let added : c.extend_from_slice.new.self.items ≡ c.loop.bytes.items ++ piece = search rules in
     let whole : length piece ≡ c.in-Ok-read.count = search rules in
     let room : length c.loop.bytes.items + c.in-Ok-read.count ≤ c.args.limit = search rules in
@@ -46,4 +70,5 @@ loop-preserved g c =
       turns = omega (arith, c.loop.invariant.turns, whole, length-append c.loop.bytes.items piece);
       bound = omega (arith, whole, room, length-append c.loop.bytes.items piece);
       read = Consumes-trans _ _ _ c.loop.bytes.items piece c.loop.invariant.read c.in-Ok-read.ensures.bytes.0;
+      failures = c.in-Ok-read.ensures.ok ∙ c.loop.invariant.failures;
     })

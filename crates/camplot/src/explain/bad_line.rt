@@ -1,0 +1,100 @@
+//! Why a line is bad.
+
+use super::forms::{Misfit, first_misfit, fits, form_of, meaning};
+use super::shown;
+use std::alloc::{AllocError, Global};
+
+/// What a file is in place of a script, by a line of it that begins with no command.
+fn other_file(line: &str) -> Option<&'static str> {
+    if line.contains('\0') {
+        return Some("the script is in UTF-16: save it as UTF-8");
+    }
+    let line = line.trim();
+    if line.starts_with('%') || line.ends_with('%') || line.ends_with('*') {
+        return Some("this is a Gerber file and no script: `load NAME gerber PATH` reads it");
+    }
+    if line == "M48" {
+        return Some("this is a drill file and no script: `load NAME drill PATH` reads it");
+    }
+    None
+}
+
+/// What the bytes of a line show of how it was written.
+fn cause(line: &str) -> Option<&'static str> {
+    if line.starts_with('\u{feff}') {
+        return Some("a byte order mark stands before it: save the script as UTF-8 without one");
+    }
+    if line.contains('\r') {
+        return Some("a CR alone ends no line: save the script with LF or CR LF");
+    }
+    None
+}
+
+/// What else a word shows that does not fit at a place.
+fn hint(alloc: Global, place: &str, word: &str) -> Result<&'static str, AllocError> {
+    if word.starts_with('#') {
+        return Ok(": a comment has a line of its own");
+    }
+    if word.contains('"') || word.contains('\'') {
+        return Ok(": a path has no quotation marks and no blanks");
+    }
+    let small = word.to_ascii_lowercase(alloc)?;
+    let small = small.as_str();
+    if small != word && (form_of(place, small).is_some() || fits(alloc, place, small)) {
+        return Ok(": write it in small letters");
+    }
+    if place == "PATH" {
+        return Ok(": a path has no blanks");
+    }
+    Ok("")
+}
+
+/// The misfit in words.
+fn told(alloc: Global, misfit: Misfit<'_>) -> Result<String, AllocError> {
+    match misfit {
+        Misfit::NoCommand { word } => {
+            let hint = hint(alloc, "LINE", word)?;
+            let word = shown(alloc, word.as_bytes())?;
+            format!(in alloc; "no command is \"{word}\"{hint}: camplot --help has all of them")
+        }
+        Misfit::Word { form, place, word } => {
+            let hint = hint(alloc, place, word)?;
+            let word = shown(alloc, word.as_bytes())?;
+            let meaning = meaning(place);
+            format!(in alloc; "{form}: {place} is {meaning}, and \"{word}\" is not{hint}")
+        }
+        Misfit::Missing { form, place } => { format!(in alloc; "{form}: {place} is missing") }
+        Misfit::Extra { form, word } => {
+            let place = if form.ends_with("PATH") { "PATH" } else { "" };
+            let hint = hint(alloc, place, word)?;
+            let word = shown(alloc, word.as_bytes())?;
+            format!(in alloc; "{form}: \"{word}\" is one word too many{hint}")
+        }
+    }
+}
+
+/// Why a line is bad, and whether that is since the script is a file of another kind: of one that is known to be so, each line
+/// that begins with no command. `None` where no reason shows.
+pub fn why_bad(
+    alloc: Global,
+    line: &[u8],
+    is_other_file: bool,
+) -> Result<Option<(String, bool)>, AllocError> {
+    let line = String::from_utf8_lossy(alloc, line)?;
+    let line = line.as_str();
+    let misfit = first_misfit(alloc, line);
+    if let Some(Misfit::NoCommand { .. }) = misfit {
+        if is_other_file {
+            return Ok(Some((String::new(alloc), true)));
+        }
+        if let Some(other) = other_file(line) {
+            return Ok(Some((other.to_string(alloc)?, true)));
+        }
+    }
+    let why = match (cause(line), misfit) {
+        (Some(cause), _) => cause.to_string(alloc)?,
+        (None, Some(misfit)) => told(alloc, misfit)?,
+        (None, None) => return Ok(None),
+    };
+    Ok(Some((why, false)))
+}
