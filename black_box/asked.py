@@ -116,6 +116,15 @@ ANSWERS = (
     ("at top 4000000000 0", []),
     ("in top 1900000 -600000 6000000 600000", ["2", "3", "4"]),
     ("in top 6000000 600000 1900000 -600000", ["2", "3", "4"]),
+    # (a quarter of a circle clockwise and one the other way, each in the box of what it paints, and a whole circle)
+    ("in top 2750000 750000 5250000 3250000", ["9"]),
+    ("in top 2750001 750000 5250000 3250000", []),
+    ("in top 2750000 750001 5250000 3250000", []),
+    ("in top 2750000 750000 5249999 3250000", []),
+    ("in top 2750000 750000 5250000 3249999", []),
+    ("in top 2750000 2750000 5250000 5250000", ["10"]),
+    ("in top 750000 3750000 3250000 6250000", ["11"]),
+    ("in top 750000 3750000 3250000 6249999", []),
     ("item top 0", ["flash 10 1000000 2000000 r0 dark"]),
     ("item top 1", ["flash 11 1000000 2000000 r90 clear"]),
     ("items top 4 2", ["flash 11 5000000 0 m270 clear", "flash 12 6000000 0 m0 clear"]),
@@ -131,6 +140,50 @@ ANSWERS = (
     ("attributes top", [".Part,Single"]),
     ("attributes holes", []),
     ("history", ["0 0"]),
+)
+
+# Arcs of a pen of 0.2 mm whose outermost points are not their ends: one over the top of (0, 0), from 30 to 150 degrees,
+# the rest of this circle, and one on the right of (10, 0), whose ends lie 1 nm off one circle. And a flash that reaches
+# over the edge of the board.
+ARCS = b"""%FSLAX46Y46*%
+%MOMM*%
+%ADD10C,0.2*%
+%ADD11C,42*%
+D10*
+G75*
+X3464102Y2000000D02*
+G03*
+X-3464102Y2000000I-3464102J-2000000D01*
+G03*
+X3464102Y2000000I3464102J-2000000D01*
+X12000000Y-1000000D02*
+G03*
+X12000001Y1000000I-2000000J1000000D01*
+D11*
+X999000000Y0D03*
+M02*
+"""
+
+# (the first radius is 4000000.33 nm, no whole number of half nm, so that these boxes are half a nm larger on each side)
+ON_ARCS = (
+    ("in arcs -3564103 1899999 3564103 4100001", ["0"]),
+    ("in arcs -3564103 1899999 3564103 4100000", []),
+    # (a box around its ends alone)
+    ("in arcs -3564103 1899999 3564103 2100001", []),
+    ("in arcs -4100001 -4100001 4100001 2100001", ["1"]),
+    ("in arcs -4100001 -4100001 4100001 4100001", ["0", "1"]),
+    ("in arcs -4100000 -4100001 4100001 2100001", []),
+    ("in arcs -4100001 -4100001 4100000 2100001", []),
+    ("in arcs -4100001 -4100000 4100001 2100001", []),
+    ("in arcs 11899998 -1100002 12336068 1100002", ["2"]),
+    ("in arcs 11899999 -1100002 12336068 1100002", []),
+    ("in arcs 11899998 -1100002 12336067 1100002", []),
+    ("at arcs 999999999 0", ["3"]),
+    ("at arcs 1000000000 0", []),
+    ("at arcs 1019000000 0", []),
+    ("box arcs 3", ["978000000 -21000000 1020000000 21000000"]),
+    ("in arcs 978000000 -21000000 1020000000 21000000", ["3"]),
+    ("items arcs 4 1", []),
 )
 
 REFUSALS = (
@@ -242,6 +295,10 @@ def ask_by_hand(library):
         wants("a closed one", station.ask("history"), ["1 0"])
         accepted(station, "undo")
         wants("one taken back", station.ask("history"), ["0 1"])
+    with Station(library) as station:
+        accepted(station, "load arcs gerber file", ARCS)
+        for question, answer in ON_ARCS:
+            wants(question, station.ask(question), answer)
 
 
 def main():

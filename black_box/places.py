@@ -8,12 +8,17 @@ alone: where it is black, its last leaf that covers the place is dark. It is plo
 that is white, this leaf is clear. Elsewhere nothing of the item covers the place. At each place the question `at`, asked
 again and again with the place in the list that it answered, must find exactly these items, the last one first; and the
 picture of the whole layer must be black exactly where the last leaf of the topmost item is dark. FILEs are Gerber files;
-by default they are those of `examples` and a layer with blocks in blocks. It prints what differs, and ends with 1.
+by default they are those of `examples` and a layer with blocks in blocks.
+
+Then arcs of all kinds are plotted, each alone in a layer. The question `in` must find the arc in the box of its black
+pixels, widened by a pixel to each side, and not in this box without its outermost pixels on one side. It prints what
+differs, and ends with 1.
 """
 
 import argparse
 import random
 import sys
+from math import cos, pi, sin
 from pathlib import Path
 
 TOP = Path(__file__).resolve().parents[1]
@@ -205,6 +210,75 @@ def compared(library, label, source, side):
         with_layer.close()
 
 
+# One arc a layer, by a pen of 0.3 mm about (0, 0): the end where it starts, where it ends, and its direction.
+ARC = """%FSLAX46Y46*%
+%MOMM*%
+%ADD10C,0.3*%
+D10*
+G75*
+X{from_x}Y{from_y}D02*
+{way}*
+X{to_x}Y{to_y}I{i}J{j}D01*
+M02*
+"""
+ARCS = 200
+# Sides of a picture of an arc, and its pitch in nm: the circles have a radius of 2 to 4 mm.
+ARC_SIDE = 96
+ARC_PITCH = 100_000
+
+
+def arc_sources(count):
+    """So many arcs, from any direction to any other; a few end where they start."""
+    for k in range(count):
+        radius = random.randrange(2_000_000, 4_000_000)
+        start = random.uniform(0, 2 * pi)
+        end = start if k % 16 == 0 else random.uniform(0, 2 * pi)
+        from_x, from_y, to_x, to_y = (round(radius * it) for it in (cos(start), sin(start), cos(end), sin(end)))
+        way = random.choice(("G02", "G03"))
+        yield ARC.format(from_x=from_x, from_y=from_y, to_x=to_x, to_y=to_y, i=-from_x, j=-from_y, way=way).encode()
+
+
+def black_centres(rows):
+    """The least and the greatest coordinates of the centres of black pixels, along x and along y."""
+    half = ARC_PITCH // 2
+    low = -ARC_SIDE * half
+    across = [low + i * ARC_PITCH + half for row in rows for i, is_black in enumerate(row) if is_black]
+    up = [low + (ARC_SIDE - 1 - j) * ARC_PITCH + half for j, row in enumerate(rows) if any(row)]
+    return min(across), min(up), max(across), max(up)
+
+
+def arc_differs(layer):
+    """Which boxes find the arc of a layer and should not, or the other way round."""
+    low = -ARC_SIDE * ARC_PITCH // 2
+    layer.done(f"window {low} {low} {ARC_PITCH} {ARC_SIDE} {ARC_SIDE}")
+    left, bottom, right, top = black_centres(layer.picture())
+    reach = 3 * ARC_PITCH // 2
+    boxes = [
+        (left - reach, bottom - reach, right + reach, top + reach),
+        (left + 1, bottom - reach, right + reach, top + reach),
+        (left - reach, bottom + 1, right + reach, top + reach),
+        (left - reach, bottom - reach, right - 1, top + reach),
+        (left - reach, bottom - reach, right + reach, top - 1),
+    ]
+    told = [layer.answer(f"in a {' '.join(map(str, box))}") for box in boxes]
+    return [(box, found) for k, (box, found) in enumerate(zip(boxes, told)) if found != (["0"] if k == 0 else [])]
+
+
+def arcs_compared(library, count):
+    """How many of so many arcs are not found as their pictures show them."""
+    wrong = 0
+    for source in arc_sources(count):
+        layer = Layer(library, source)
+        try:
+            differing = arc_differs(layer)
+        finally:
+            layer.close()
+        if differing:
+            wrong += 1
+            print(f"{source.decode()}: {differing}")
+    return wrong
+
+
 def main():
     words = argparse.ArgumentParser(description=__doc__, formatter_class=argparse.RawDescriptionHelpFormatter)
     words.add_argument("library")
@@ -218,7 +292,9 @@ def main():
     found = [compared(library, *layer, said.side) for layer in layers]
     places, wrong = (sum(it) for it in zip(*found))
     print(f"{places} places of {sum(it[0] > 0 for it in found)} layers, {wrong} differ")
-    return 1 if wrong or not places else 0
+    wrong_arcs = arcs_compared(library, ARCS)
+    print(f"{ARCS} arcs in boxes, {wrong_arcs} differ")
+    return 1 if wrong or wrong_arcs or not places else 0
 
 
 if __name__ == "__main__":

@@ -56,8 +56,23 @@ static void without_a_window(camplot_station *station) {
     wants("the rows", rows[0], 7);
 }
 
+/* The version, into rooms of each size. */
+static void version(void) {
+    const size_t length = sizeof CAMPLOT_VERSION - 1;
+    uint8_t room[16] = "as it is", fresh[sizeof CAMPLOT_VERSION - 1];
+    wants("no room for the version", camplot_version(NULL, 16), length);
+    wants("a room past all", camplot_version(room, SIZE_MAX), length);
+    wants("a small room for the version", camplot_version(room, length - 1), length);
+    wants("its bytes", memcmp(room, "as it is", 8), 0);
+    wants("a room that just holds it", camplot_version(fresh, length), length);
+    wants("the version", memcmp(fresh, CAMPLOT_VERSION, length), 0);
+    wants("a larger room", camplot_version(room, sizeof room), length);
+    wants("the version there", memcmp(room, CAMPLOT_VERSION " is", length + 3), 0);
+}
+
 int main(void) {
     camplot_station *station;
+    version();
     wants("no place for a station", camplot_open(1, NULL), CAMPLOT_NO_POINTER);
     wants("depth 0", camplot_open(0, &station), 50);
     wants("its station", station != NULL, 0);
