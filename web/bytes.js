@@ -13,11 +13,12 @@ export function latin1(bytes) {
   if (isAscii(bytes)) return utf8(bytes);
   let text = "";
   for (let at = 0; at < bytes.length; at += PIECE) {
-    text += String.fromCharCode.apply(null, bytes.subarray(at, at + PIECE));
+    text += String.fromCharCode(...bytes.subarray(at, at + PIECE));
   }
   return text;
 }
 
+/** @param {Uint8Array} bytes */
 function isAscii(bytes) {
   for (let at = 0; at < bytes.length; at++) if (bytes[at] > 127) return false;
   return true;

@@ -38,11 +38,15 @@ export function kindOf(bytes) {
   return lines.length === 1 && lines[0] === "M30" ? DRILL : null;
 }
 
-// Whether a Gerber command stands in a text. A word ends with a star, so none stands behind the last one.
+/**
+ * Whether a Gerber command stands in a text. A word ends with a star, so none stands behind the last one.
+ * @param {string} head
+ */
 function hasCommand(head) {
   return EXTENDED.test(head) || WORD.test(head.slice(0, head.lastIndexOf("*") + 1));
 }
 
+/** @param {string} line */
 function stripped(line) {
   let start = 0, end = line.length;
   while (start < end && isBlank(line.charCodeAt(start))) start++;
@@ -50,6 +54,7 @@ function stripped(line) {
   return line.slice(start, end);
 }
 
+/** @param {number} code */
 function isBlank(code) {
   return code === 32 || code === 9 || code === 11 || code === 12;
 }

@@ -13,6 +13,8 @@ import { latin1Bytes, latin1, utf8 } from "./bytes.js";
  * @property {boolean} isShown whether it is shown at first
  */
 
+/** @typedef {[name: string, label: string, colour: string, height: number, isShown: boolean]} Row */
+/** @type {Row[]} */
 const TABLE = [
   ["bottom-glue", "bottom glue", "#7a6a9a", 4, false],
   ["bottom-paste", "bottom paste", "#8b9db0", 6, false],
@@ -33,12 +35,25 @@ const TABLE = [
 ];
 const INNER_COLOURS = ["#c9a227", "#46a758", "#c2689a", "#5bb7c9", "#d98f43", "#8f7ae0"];
 
+/** @param {Row} row @returns {LayerFunction} */
 function layerFunction([name, label, colour, height, isShown]) {
   return Object.freeze({ name, label, colour, height, isShown });
 }
 
-/** The functions of a board but inner copper, by name. @type {Map<string, LayerFunction>} */
+/**
+ * The functions of a board but inner copper, by name.
+ * @type {Map<string, LayerFunction>}
+ */
 export const PLAIN = new Map(TABLE.map((row) => [row[0], layerFunction(row)]));
+
+/**
+ * One of them.
+ * @param {string} name
+ * @returns {LayerFunction}
+ */
+export function plain(name) {
+  return /** @type {LayerFunction} */ (PLAIN.get(name));
+}
 
 /**
  * Inner copper.
@@ -58,12 +73,15 @@ export function inner(number) {
  * @returns {LayerFunction}
  */
 export function labelled(name, label) {
-  return Object.freeze({ ...PLAIN.get(name), label });
+  return Object.freeze({ ...plain(name), label });
 }
 
 const ATTRIBUTE = /TF[ \t\r\n\v\f]*\.FileFunction[ \t\r\n\v\f]*,([^*\r\n]*)/;
+/** @type {Record<string, string>} */
 const SIDES = { Top: "top", Bot: "bottom" };
+/** @type {Record<string, string>} */
 const ON_A_SIDE = { Soldermask: "mask", Legend: "silk", Paste: "paste", Glue: "glue" };
+/** @type {Record<string, string>} */
 const HOLES = { Plated: "plated", NonPlated: "nonplated", MixedPlating: "holes" };
 const DRAWINGS = ["Drillmap", "Component"];
 
@@ -71,27 +89,53 @@ const DRAWINGS = ["Drillmap", "Component"];
  * What a file says that it shows: `%TF.FileFunction,..*%` (Gerber Layer Format Specification, "File attributes"), also in
  * the comments `G04 #@! TF..*` and `; #@! TF..` that KiCad writes.
  * @param {Uint8Array} head the file's first bytes
+ * @returns {string | null} as the file has it; null where it says nothing
+ */
+export function fileFunction(head) {
+  const found = ATTRIBUTE.exec(latin1(head));
+  return found && utf8(latin1Bytes(found[1])).trim();
+}
+
+/**
+ * The fields of a file's function.
+ * @param {string} value
+ * @returns {string[]}
+ */
+export function functionFields(value) {
+  return value.split(",").map((field) => field.trim());
+}
+
+/**
+ * The layer that a file says it shows.
+ * @param {Uint8Array} head the file's first bytes
  * @returns {LayerFunction | null} null where it says nothing
  */
 export function byAttribute(head) {
-  const found = ATTRIBUTE.exec(latin1(head));
-  if (!found) return null;
-  const value = utf8(latin1Bytes(found[1])).trim();
-  const fields = value.split(",").map((field) => field.trim());
-  const what = fields[0];
+  const value = fileFunction(head);
+  return value === null ? null : byFunction(value);
+}
+
+/**
+ * The layer of a value of the attribute.
+ * @param {string} value its fields, with commas between them
+ * @returns {LayerFunction}
+ */
+export function byFunction(value) {
+  const fields = functionFields(value), what = fields[0];
   if (what === "Copper" && fields.length > 2 && /^L\d+$/.test(fields[1])) {
     const side = own(SIDES, fields[2]);
-    return side ? PLAIN.get(side) : inner(Number(fields[1].slice(1)) - 1);
+    return side ? plain(side) : inner(Number(fields[1].slice(1)) - 1);
   }
   if (own(ON_A_SIDE, what)) {
     const side = own(SIDES, fields[1]);
-    return side ? PLAIN.get(`${side}-${ON_A_SIDE[what]}`) : labelled("other", value);
+    return side ? plain(`${side}-${ON_A_SIDE[what]}`) : labelled("other", value);
   }
-  if (what === "Profile") return PLAIN.get("outline");
-  if (own(HOLES, what)) return PLAIN.get(HOLES[what]);
+  if (what === "Profile") return plain("outline");
+  if (own(HOLES, what)) return plain(HOLES[what]);
   return labelled(what.endsWith("Drawing") || DRAWINGS.includes(what) ? "drawing" : "other", value);
 }
 
+/** @param {Record<string, string>} table @param {string} key */
 function own(table, key) {
   return Object.hasOwn(table, key) ? table[key] : undefined;
 }

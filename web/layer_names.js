@@ -1,6 +1,6 @@
 // What a file shows by its name, as KiCad, Altium (Protel), EAGLE, Fritzing, and gEDA or pcb-rnd give it.
 
-import { PLAIN, inner, labelled } from "./layer_functions.js";
+import { inner, labelled, plain } from "./layer_functions.js";
 
 // Extensions that say what a file shows: Protel's, which Altium, KiCad and Fritzing use too, EAGLE's old ones, OrCAD's.
 const EXTENSIONS = new Map(Object.entries({
@@ -63,18 +63,23 @@ export function isOfLayers(ending) {
   return EXTENSIONS.has(ending) || GERBER_EXTENSIONS.includes(ending);
 }
 
+/** @param {string} stem */
 function wordsOf(stem) {
   const spaced = stem.replace(/([a-z])(?=[A-Z])/g, "$1 ")
     .replace(/(top|bottom|bot|front|back|component)(?=mask|silk|paste)/g, "$1 ");
   return ` ${(spaced.toLowerCase().match(/[a-z]+|\d+/g) ?? []).join(" ")} `;
 }
 
-// The last word that names a side: a project's own name comes first.
+/**
+ * The last word that names a side: a project's own name comes first.
+ * @param {string} words
+ * @returns {string | null}
+ */
 function sideOf(words) {
   const parts = words.replace(/solder (?=mask|paste|resist)/g, "").split(" ");
   for (const names of [SIDES, OLDER_SIDES]) {
     const found = parts.filter((word) => names.has(word));
-    if (found.length) return names.get(found[found.length - 1]);
+    if (found.length) return names.get(found[found.length - 1]) ?? null;
   }
   return null;
 }
@@ -88,17 +93,17 @@ export function byName(name) {
   const { stem, ending } = nameParts(name);
   const words = wordsOf(stem);
   const byEnding = EXTENSIONS.get(ending);
-  if (byEnding && byEnding !== "holes") return PLAIN.get(byEnding);
+  if (byEnding && byEnding !== "holes") return plain(byEnding);
   if (MECHANICAL.test(ending)) return labelled("drawing", `mechanical ${ending.slice(2)}`);
   const innerEnding = INNER_EXTENSION.exec(ending);
   if (innerEnding) return inner(Number(innerEnding[1]) - (ending.startsWith("ly") ? 1 : 0));
   const side = sideOf(words);
   const word = WORDS.find(({ pattern, isOnSide }) => pattern.test(words) && (side || !isOnSide));
-  if (word) return PLAIN.get(word.isOnSide ? `${side}-${word.name}` : word.name);
-  if (byEnding) return PLAIN.get("holes");
+  if (word) return plain(word.isOnSide ? `${side}-${word.name}` : word.name);
+  if (byEnding) return plain("holes");
   const innerWord = INNER_WORD.exec(words);
   if (innerWord) return inner(Number(innerWord[1]));
   const layer = side === null && INNER_LAYER.exec(words);
   if (layer) return inner(Number(layer[1]) - 1);
-  return side ? PLAIN.get(side) : null;
+  return side ? plain(side) : null;
 }

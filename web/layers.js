@@ -1,20 +1,20 @@
 // The layers among the files of a board: what each shows, how it is loaded, and its name in a script.
 
 import { DRILL, GERBER, HEAD, endingOf, kindOf } from "./file_kinds.js";
-import { PLAIN, byAttribute, labelled } from "./layer_functions.js";
+import { byAttribute, labelled, plain } from "./layer_functions.js";
 import { byName, isOfLayers, nameParts } from "./layer_names.js";
 
 export { byAttribute, byName, nameParts };
 
 /**
- * A file to look at; its bytes may be the first 65,536 alone. What else it holds is kept.
- * @typedef {{name: string, bytes: Uint8Array}} BoardFile
+ * A file to look at; its bytes may be the first 65,536 alone. Its path is kept where it lies on a disk.
+ * @typedef {{name: string, bytes: Uint8Array, path?: string}} BoardFile
  */
 
 /** What told what a layer shows. */
 export const BY_ATTRIBUTE = "its attribute";
-export const BY_NAME = "its name";
-export const BY_CONTENT = "what it holds";
+const BY_NAME = "its name";
+const BY_CONTENT = "what it holds";
 
 /** A file of the board, its name in the script, and how it is loaded. */
 export class Layer {
@@ -65,7 +65,7 @@ export function recognise(file, isNamed) {
     shown = byName(file.name);
     toldBy = BY_NAME;
     // Of several of these, people want to know which.
-    if (shown === PLAIN.get("drawing") || shown === PLAIN.get("other")) {
+    if (shown === plain("drawing") || shown === plain("other")) {
       shown = labelled(shown.name, `${shown.label} ${file.name}`);
     }
   }
@@ -73,7 +73,7 @@ export function recognise(file, isNamed) {
   if (!seen && !isNamed && !isOfLayers(nameParts(file.name).ending)) return null;
   const kind = seen ?? (isHoles ? DRILL : GERBER);
   if (!shown || (kind === DRILL && !isHoles)) {
-    shown = kind === DRILL ? PLAIN.get("holes") : labelled("other", nameParts(file.name).stem);
+    shown = kind === DRILL ? plain("holes") : labelled("other", nameParts(file.name).stem);
     toldBy = BY_CONTENT;
   }
   return new Layer(file, kind, shown, toldBy);

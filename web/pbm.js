@@ -5,9 +5,13 @@
  * @typedef {{width: number, height: number, stride: number, bits: Uint8Array}} Picture
  */
 
+/** @param {number} byte */
 const isBlank = (byte) => byte === 32 || byte >= 9 && byte <= 13;
 
-/** Whether bytes begin as a raw PBM file. @param {Uint8Array} bytes */
+/**
+ * Whether bytes begin as a raw PBM file.
+ * @param {Uint8Array} bytes
+ */
 export function isPbm(bytes) {
   return bytes[0] === 0x50 && bytes[1] === 0x34 && (isBlank(bytes[2]) || bytes[2] === 35);
 }

@@ -10,6 +10,7 @@ import { wordsOf } from "./replies.js";
  * @typedef {Map<number, Meaning>} Meanings
  */
 
+/** @param {string} text */
 function firstSentence(text) {
   const flat = text.split("\n- ")[0].split(/\s+/).filter((word) => word).join(" ");
   const found = /^(.+?\.)(?= |$)/.exec(flat);
@@ -31,7 +32,7 @@ export function meaningsOf(page) {
   for (const paragraph of page.split("\n\n")) {
     const heads = [...paragraph.matchAll(HEAD)];
     if (!heads.length) continue;
-    const rest = paragraph.split(/\*\*\d+, [^*]+\*\*/).pop().replace(/^[:, \n]+/, "");
+    const rest = (paragraph.split(/\*\*\d+, [^*]+\*\*/).pop() ?? "").replace(/^[:, \n]+/, "");
     const whole = firstSentence(rest), parts = whole.split(/;\s/);
     heads.forEach(([, number, name], at) => {
       const part = parts.length === heads.length ? parts[at] : whole;
@@ -44,6 +45,7 @@ export function meaningsOf(page) {
   return { general, drill: drillMeanings(page, general) };
 }
 
+/** @param {string} page @param {Meanings} general @returns {Meanings} */
 function drillMeanings(page, general) {
   const told = new Map(), found = /^\*\*1\*\*, [^]*?\.\s([^]*?)\n\n/m.exec(page);
   if (!found) return told;
@@ -51,6 +53,7 @@ function drillMeanings(page, general) {
     const sentence = /^(\d+) (also |is )?(.+)$/.exec(part);
     if (!sentence) continue;
     const known = general.get(Number(sentence[1]));
+    if (!known) continue;
     const own = sentence[2] === "also " ? `${known.sentence} In a drill file also: ${sentence[3]}.`
       : firstSentence(sentence[3]);
     told.set(Number(sentence[1]), { name: known.name, sentence: own });
@@ -64,7 +67,7 @@ function drillMeanings(page, general) {
  * @param {{general: Meanings, drill: Meanings}} meanings
  * @returns {Meaning | undefined}
  */
-export function meaningOf(reply, { general, drill }) {
+function meaningOf(reply, { general, drill }) {
   const isOfDrill = reply.at !== null && wordsOf(reply.line)[2] === DRILL;
   return (isOfDrill ? drill.get(reply.refusal) : undefined) ?? general.get(reply.refusal);
 }

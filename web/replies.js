@@ -33,12 +33,19 @@ export class Reply {
   }
 }
 
-/** The words of a line, as the program cuts them. @param {string} line @returns {string[]} */
+/**
+ * The words of a line, as the program cuts them.
+ * @param {string} line
+ * @returns {string[]}
+ */
 export function wordsOf(line) {
   return line.split(/[ \t\r]+/).filter((word) => word);
 }
 
-/** Whether a line has a reply: it is neither blank nor a comment. @param {string} line */
+/**
+ * Whether a line has a reply: it is neither blank nor a comment.
+ * @param {string} line
+ */
 export function isCommand(line) {
   return /^[ \t\r]*[^ \t\r#]/.test(line);
 }
@@ -62,7 +69,7 @@ export function scriptLines(text) {
  */
 export function repliesOf(lines, output) {
   const replies = scriptLines(output);
-  const commands = lines.map((line, at) => [at + 1, line]).filter(([, line]) => isCommand(line));
+  const commands = lines.map((line, at) => ({ number: at + 1, line })).filter(({ line }) => isCommand(line));
   if (replies.length !== commands.length) return null;
-  return commands.map(([number, line], at) => new Reply(number, line, replies[at].split(" ")));
+  return commands.map(({ number, line }, at) => new Reply(number, line, replies[at].split(" ")));
 }

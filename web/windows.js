@@ -1,6 +1,6 @@
 // The window around a board, within the limits of docs/formats.md ("Windows, tiles and PBM files").
 
-import { join } from "./canonical/box.js";
+import { joined } from "./boxes.js";
 
 // Around the box, in nm.
 const MARGIN = 1_000_000;
@@ -17,7 +17,10 @@ const INCH = 25_400_000;
  * @typedef {{x: number, y: number, pitch: number, width: number, height: number}} PlotWindow
  */
 
-/** The line of a script that sets a window. @param {PlotWindow} window */
+/**
+ * The line of a script that sets a window.
+ * @param {PlotWindow} window
+ */
 export function windowLine({ x, y, pitch, width, height }) {
   return `window ${x} ${y} ${pitch} ${width} ${height}`;
 }
@@ -25,18 +28,27 @@ export function windowLine({ x, y, pitch, width, height }) {
 /**
  * Whether a window reaches around a box.
  * @param {PlotWindow} window
- * @param {import("./canonical/box.js").Box} box in nm
+ * @param {import("./boxes.js").Box} box in nm
  * @returns {boolean}
  */
 export function isInWindow({ x, y, pitch, width, height }, box) {
   return x <= box.left && y <= box.low && box.right <= x + width * pitch && box.high <= y + height * pitch;
 }
 
-function pitchOf(dpi) {
+/**
+ * The pitch of so many dots an inch, in whole nm.
+ * @param {number} dpi
+ */
+export function pitchOf(dpi) {
   return Math.max(1, Math.round(INCH / dpi));
 }
 
-// Where pixels begin, at a whole number of pitches, and how many it takes, all on the board.
+/**
+ * Where pixels begin, at a whole number of pitches, and how many it takes, all on the board.
+ * @param {number} low
+ * @param {number} high
+ * @param {number} pitch
+ */
 function span(low, high, pitch) {
   const limit = Math.floor(BOARD / pitch);
   const first = Math.max(Math.floor((low - MARGIN) / pitch), -limit);
@@ -45,21 +57,29 @@ function span(low, high, pitch) {
 }
 
 /**
- * The window around the outline, else around all boxes. Where the pitch of these dots an inch takes too many pixels, it
- * has the finest pitch that does not.
- * @param {import("./canonical/box.js").Box | null} outline
- * @param {import("./canonical/box.js").Box[]} boxes
+ * The window around a box, with a margin. Where this pitch takes too many pixels, it has the finest pitch that does not.
+ * @param {import("./boxes.js").Box} box in nm
+ * @param {number} finest the pitch that is asked for, in nm
+ * @returns {PlotWindow}
+ */
+export function windowAtPitch(box, finest) {
+  const longer = Math.max(box.right - box.left, box.high - box.low) + 2 * MARGIN;
+  const pitch = Math.min(PITCH, Math.max(finest, Math.ceil(longer / (SIDE - 2))));
+  const [x, width] = span(box.left, box.right, pitch);
+  const [y, height] = span(box.low, box.high, pitch);
+  return { x, y, pitch, width, height };
+}
+
+/**
+ * The window around the outline, else around all boxes, in pixels of so many dots an inch.
+ * @param {import("./boxes.js").Box | null} outline
+ * @param {import("./boxes.js").Box[]} boxes
  * @param {number} dpi
  * @returns {PlotWindow | null} null where there is no box
  */
 export function windowAround(outline, boxes, dpi) {
-  const box = outline ?? join(boxes);
-  if (!box) return null;
-  const longer = Math.max(box.right - box.left, box.high - box.low) + 2 * MARGIN;
-  const pitch = Math.min(PITCH, Math.max(pitchOf(dpi), Math.ceil(longer / (SIDE - 2))));
-  const [x, width] = span(box.left, box.right, pitch);
-  const [y, height] = span(box.low, box.high, pitch);
-  return { x, y, pitch, width, height };
+  const box = outline ?? joined(boxes);
+  return box ? windowAtPitch(box, pitchOf(dpi)) : null;
 }
 
 /**
@@ -72,7 +92,7 @@ export function windowAround(outline, boxes, dpi) {
 export function describeWindow(window, hasOutline, dpi) {
   const { pitch, width, height } = window;
   const about = hasOutline ? "the outline" : "all layers, as there is no outline";
-  const mm = (side) => (side * pitch / 1e6).toFixed(2);
+  const mm = (/** @type {number} */ side) => (side * pitch / 1e6).toFixed(2);
   const told = `the window around ${about}: ${mm(width)} x ${mm(height)} mm, ${width} x ${height} pixels of ${pitch} nm`;
   return pitch === pitchOf(dpi) ? told : `${told} (--dpi ${dpi} would take more than ${SIDE} of them a side)`;
 }

@@ -10,29 +10,43 @@ import { inlined } from "./inline.js";
 import { refusalsOf } from "./refusals.js";
 
 const web = dirname(dirname(fileURLToPath(import.meta.url)));
+/** @type {(path: string) => string} */
 const read = (path) => readFileSync(join(web, path), "utf8");
 
+/** @type {(text: string) => string} */
 const sum = (text) => `'sha256-${createHash("sha256").update(text).digest("base64")}'`;
 
-// A text in an element of the page ends where the first end of that element stands in it.
+/**
+ * A text in an element of the page ends where the first end of that element stands in it.
+ * @param {string} text
+ * @param {string} element
+ */
 function within(text, element) {
   if (new RegExp(`</${element}|<!--`, "i").test(text)) throw new Error(`a text holds the end of its ${element}`);
   return text;
 }
 
+/** @type {(value: unknown) => string} */
 const json = (value) => JSON.stringify(value).replace(/</g, "\\u003c");
 
-export function pageOf(module) {
-  const style = within(read("page/style.css"), "style");
+// In this order: of two rules that are as strong as one another the later one holds.
+const STYLES = ["roles", "frame", "board", "panels", "windows"];
+
+/** @param {Uint8Array} module @returns {string} */
+function pageOf(module) {
+  const style = within(STYLES.map((name) => read(`page/style/${name}.css`)).join("\n"), "style");
   const script = within(inlined(join(web, "page/main.js")), "script");
   const worker = within(inlined(join(web, "worker/main.js")), "script");
+  const netsWorker = within(inlined(join(web, "nets/worker.js")), "script");
+  const convertingWorker = within(inlined(join(web, "page/converting_worker.js")), "script");
   const policy = ["default-src 'none'", `script-src ${sum(script)} 'wasm-unsafe-eval'`, `style-src ${sum(style)}`,
     "worker-src blob:", "base-uri 'none'", "form-action 'none'"].join("; ");
+  /** @type {Record<string, string>} */
   const parts = {
-    policy, style, script, worker, module: gzipSync(module, { level: 9 }).toString("base64"),
+    policy, style, script, worker, netsWorker, convertingWorker, module: gzipSync(module, { level: 9 }).toString("base64"),
     refusals: json(refusalsOf(read("../docs/refusals.md"))), contents: "null",
   };
-  return read("page/index.html").replace(/\{(\w+)\}/g, (whole, name) => parts[name] ?? whole);
+  return read("page/index.html").replace(/\{(\w+)\}/g, (/** @type {string} */ whole, /** @type {string} */ name) => parts[name] ?? whole);
 }
 
 const [module, out] = process.argv.slice(2);

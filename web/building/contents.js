@@ -16,6 +16,7 @@ const EMPTY = '<script type="application/json" id="contents">null</script>';
  * @property {string | null} [window]
  */
 
+/** @param {{bytes?: Uint8Array}} part */
 function packed({ bytes, ...rest }) {
   return bytes ? { ...rest, packed: gzipSync(bytes, { level: 9 }).toString("base64") } : rest;
 }

@@ -10,33 +10,48 @@ const EXPORTED = /^export (?:async )?(?:function\*?|class|const|let) (\w+)/gm;
 // Several of one line, as 'export const MM = "mm", INCH = "inch";'.
 const SEVERAL = /^export const (\w+ = "\w*"(?:, \w+ = "\w*")+);$/gm;
 const LIST = /^export \{([^}]*)\};$/gm;
+// Comments that give types: they are for tsc, and left out.
+const TYPES = /^ *\/\*\*(?:[^*]|\*(?!\/))*\*\/\n/gm;
 
-// 'a, b as c' as [[a, a], [b, c]].
+/**
+ * 'a, b as c' as [[a, a], [b, c]].
+ * @type {(list: string) => string[][]}
+ */
 const pairs = (list) => list.split(",").map((part) => part.trim()).filter((part) => part)
   .map((part) => part.split(/\s+as\s+/)).map(([name, alias = name]) => [name, alias]);
 
 class Inliner {
   constructor() {
+    /** @type {Map<string, string>} those that modules have in the whole, by their paths */
     this.names = new Map();
-    // What each exports.
+    /** @type {Map<string, Set<string>>} what each exports, by its name */
     this.exports = new Map();
+    /** @type {string[]} */
     this.open = [];
+    /** @type {string[]} */
     this.texts = [];
   }
 
-  // The name that the module's exports have in the whole.
+  /**
+   * The name that the module's exports have in the whole.
+   * @param {string} path
+   * @returns {string}
+   */
   add(path) {
     if (this.open.includes(path)) throw new Error(`modules import one another: ${[...this.open, path].join(" -> ")}`);
-    if (this.names.has(path)) return this.names.get(path);
+    const known = this.names.get(path);
+    if (known) return known;
     this.open.push(path);
+    /** @type {string[]} */
     const exported = [];
+    /** @type {(source: string, wanted: string[][]) => string} */
     const of = (source, wanted) => {
       const other = resolve(dirname(path), source), name = this.add(other);
-      const lacking = wanted.find(([from]) => !this.exports.get(name).has(from));
+      const lacking = wanted.find(([from]) => !this.exports.get(name)?.has(from));
       if (lacking) throw new Error(`${path}: ${other} does not export ${lacking[0]}`);
       return name;
     };
-    let text = readFileSync(path, "utf8").replace(IMPORT, (_, whole, list, source) => {
+    let text = /** @type {string} */ (readFileSync(path, "utf8")).replace(TYPES, "").replace(IMPORT, (_, whole, list, source) => {
       const name = of(source, whole ? [] : pairs(list));
       if (whole) return `const ${whole.slice(5)} = ${name};`;
       return `const { ${pairs(list).map(([from, to]) => from === to ? from : `${from}: ${to}`).join(", ")} } = ${name};`;
@@ -64,6 +79,7 @@ class Inliner {
   }
 }
 
+/** @param {string} path @returns {string} */
 export function inlined(path) {
   const inliner = new Inliner();
   inliner.add(resolve(path));

@@ -1,9 +1,15 @@
 // docs/refusals.md as data: of each number its name and what to do, for files of drill layers where those differ.
 
-// A text of the page as a sentence: one line, without its marks. A `*` in code is Gerber's own and stays.
+/**
+ * A text of the page as a sentence: one line, without its marks. A `*` in code is Gerber's own and stays.
+ * @type {(text: string) => string}
+ */
 const plain = (text) => text.replace(/\s+/g, " ").replace(/`([^`]*)`|\*/g, "$1").trim();
 
-// The first sentences of a text, as long as they are of use in a line.
+/**
+ * The first sentences of a text, as long as they are of use in a line.
+ * @param {string} text
+ */
 function opening(text) {
   const sentences = plain(text).match(/.*?[.:](?= |$)/g) ?? [plain(text)];
   let told = "";
@@ -16,6 +22,9 @@ function opening(text) {
 
 const PARAGRAPH = /^\*\*(\d+), ([^*]+?)\.?\*\*((?:,? (?:and )?\*\*\d+, [^*]+\*\*)*)([\s\S]*?)(?=\n\n\*\*\d|\n## |$(?![\s\S]))/gm;
 
+/** @typedef {Record<string, {name: string, text: string}>} Told by the number of the refusal */
+
+/** @param {string} section @param {Told} into */
 function paragraphs(section, into) {
   for (const [, number, name, others, text] of section.matchAll(PARAGRAPH)) {
     const heads = [[number, name], ...[...others.matchAll(/\*\*(\d+), ([^*]+?)\.?\*\*/g)].map((found) => found.slice(1))];
@@ -23,14 +32,18 @@ function paragraphs(section, into) {
   }
 }
 
+/** @param {string} page the text of docs/refusals.md */
 export function refusalsOf(page) {
-  const section = (title) => {
+  const section = (/** @type {string} */ title) => {
     const at = page.indexOf(`\n## ${title}\n`);
     if (at < 0) throw new Error(`docs/refusals.md has no section "${title}"`);
     const end = page.indexOf("\n## ", at + 4);
     return page.slice(at, end < 0 ? undefined : end);
   };
-  const general = {}, drill = {};
+  /** @type {Told} */
+  const general = {};
+  /** @type {Told} */
+  const drill = {};
   for (const [, number, name, meaning, advice] of section("Lines of a script").matchAll(
     /^\| (\d+) \| ([^|]+) \| ([^|]+) \| ([^|]+) \|$/gm)) {
     general[number] = { name: plain(name), text: `${plain(meaning)}: ${plain(advice)}.` };

@@ -33,26 +33,37 @@ export function rational(n, d = 1n) {
   return a > 1n ? { n: top / a, d: bottom / a } : { n: top, d: bottom };
 }
 
-/** @returns {Rational} */
+/** @type {(a: Rational, b: Rational) => Rational} */
 export const add = (a, b) => rational(a.n * b.d + b.n * a.d, a.d * b.d);
-/** @returns {Rational} */
+/** @type {(a: Rational, b: Rational) => Rational} */
 export const subtract = (a, b) => rational(a.n * b.d - b.n * a.d, a.d * b.d);
-/** @returns {Rational} */
+/** @type {(a: Rational, b: Rational) => Rational} */
 export const multiply = (a, b) => rational(a.n * b.n, a.d * b.d);
-/** @returns {Rational} a / b, where b is not 0 */
+/**
+ * a / b, where b is not 0.
+ * @type {(a: Rational, b: Rational) => Rational}
+ */
 export const divide = (a, b) => rational(a.n * b.d, a.d * b.n);
-/** @returns {Rational} */
+/** @type {(a: Rational) => Rational} */
 export const negate = (a) => ({ n: -a.n, d: a.d });
-/** @returns {Rational} */
+/** @type {(a: Rational) => Rational} */
 export const half = (a) => rational(a.n, a.d * 2n);
-/** @returns {number} below 0, 0 or above 0, as a is to b */
+/**
+ * Below 0, 0 or above 0, as a is to b.
+ * @param {Rational} a
+ * @param {Rational} b
+ * @returns {-1 | 0 | 1}
+ */
 export function compare(a, b) {
   const difference = a.n * b.d - b.n * a.d;
   return difference < 0n ? -1 : difference > 0n ? 1 : 0;
 }
-/** @returns {boolean} */
+/** @type {(a: Rational) => boolean} */
 export const isZero = (a) => a.n === 0n;
-/** @returns {boolean} whether a is b */
+/**
+ * Whether a is b.
+ * @type {(a: Rational, b: Rational) => boolean}
+ */
 export const equal = (a, b) => a.n * b.d === b.n * a.d;
 
 const DECIMAL = /^([+-]?)(\d+\.?\d*|\.\d+)$/;
@@ -114,13 +125,20 @@ export function decimalText(value, decimals) {
 
 // Reals in fixed point
 
-/** @returns {bigint} a rational as a real of fixed point, at most one last bit below it */
+/**
+ * A rational as a real of fixed point, at most one last bit below it.
+ * @param {Rational} value
+ * @returns {bigint}
+ */
 export function fixed({ n, d }) {
   const scaled = n << BITS;
   return n < 0n && scaled % d !== 0n ? scaled / d - 1n : scaled / d;
 }
 
-/** @returns {bigint} the product of a rational and a real */
+/**
+ * The product of a rational and a real.
+ * @type {(value: Rational, real: bigint) => bigint}
+ */
 export const times = ({ n, d }, real) => (n * real) / d;
 
 /**
@@ -133,7 +151,10 @@ export function roundReal(real) {
   return real < 0n ? -rounded : rounded;
 }
 
-/** @returns {number} a real as a float, for messages alone */
+/**
+ * A real as a float, for messages alone.
+ * @type {(real: bigint) => number}
+ */
 export const approximately = (real) => Number(real >> (BITS - 52n)) / 2 ** 52;
 
 /**

@@ -70,7 +70,7 @@ export function toldChanges(changes) {
  * @param {number[]} lines  in order, not empty
  * @returns {string}
  */
-export function linesText(lines) {
+function linesText(lines) {
   const first = lines[0];
   const last = lines[lines.length - 1];
   if (lines.length === 1) {

@@ -13,7 +13,11 @@ import { BITS, modulo, rational, compare, subtract } from "./exact.js";
 const GUARD = 32n;
 const ONE = 1n << (BITS + GUARD);
 
-/** 1/k - 1/3k^3 + 1/5k^5 - .., the angle whose tangent is 1/k. */
+/**
+ * 1/k - 1/3k^3 + 1/5k^5 - .., the angle whose tangent is 1/k.
+ * @param {bigint} k
+ * @returns {bigint}
+ */
 function inverseTangent(k) {
   const square = k * k;
   let power = ONE / k;
@@ -28,7 +32,11 @@ function inverseTangent(k) {
 /** Machin: pi / 4 = 4 atan(1/5) - atan(1/239). */
 const PI = 4n * (4n * inverseTangent(5n) - inverseTangent(239n));
 
-/** The sine and cosine of an angle in degrees from 0 to 45, by their series. */
+/**
+ * The sine and cosine of an angle in degrees from 0 to 45, by their series.
+ * @param {Rational} angle
+ * @returns {Turn}
+ */
 function series({ n, d }) {
   const angle = (PI * n) / (180n * d);
   let term = ONE;
@@ -48,7 +56,11 @@ function series({ n, d }) {
 
 const HALF_TURN = rational(90n);
 
-/** The turn by an angle from 0 to below 90 degrees. */
+/**
+ * The turn by an angle from 0 to below 90 degrees.
+ * @param {Rational} angle
+ * @returns {Turn}
+ */
 function firstQuarter(angle) {
   if (angle.n === 0n) {
     return { cos: 1n << BITS, sin: 0n };

@@ -2,17 +2,29 @@
 
 import { byId, element } from "./dom.js";
 
+/** @type {Page.Action[]} */
 export const actions = [];
 
 // `keys` are as KeyboardEvent.key has them, with Ctrl+ and Shift+ in front; the first is shown on the button.
+/**
+ * @param {string} id
+ * @param {string} group
+ * @param {string} label
+ * @param {string[]} keys
+ * @param {Page.Action["run"]} run
+ */
 export function act(id, group, label, keys, run) {
   actions.push({ id, group, label, keys, run });
 }
 
+/** @type {Record<string, string>} */
 const named = { " ": "Space", "ArrowLeft": "←", "ArrowRight": "→", "ArrowUp": "↑", "ArrowDown": "↓" };
+/** @param {string} part */
 const partWords = (part) => named[part] ?? (part.length === 1 ? part.toUpperCase() : part);
+/** @param {string} key */
 export const keyWords = (key) => key === "+" ? key : key.split("+").map(partWords).join(" ");
 
+/** @param {KeyboardEvent} event */
 function keyOf(event) {
   const isLetter = event.key.length === 1;
   const parts = [];
@@ -22,28 +34,50 @@ function keyOf(event) {
   return parts.join("+");
 }
 
-const isTyping = (target) => /^(INPUT|SELECT|TEXTAREA)$/.test(target.tagName)
-  && !["checkbox", "color", "range", "button"].includes(target.type);
+const PRESSED = [" ", "Enter"];
+const SLID = ["ArrowLeft", "ArrowRight", "ArrowUp", "ArrowDown", "PageUp", "PageDown", "Home", "End"];
+const PRESSABLE = "button, summary, input:is([type=checkbox], [type=color], [type=file])";
+
+/** @param {HTMLElement & { type?: string }} control */
+const isTyping = (control) => /^(INPUT|SELECT|TEXTAREA)$/.test(control.tagName)
+  && !["checkbox", "color", "range", "button", "file"].includes(control.type);
+
+// Whether the control that has the focus has a use for a key: Space and Enter press it, and the others move a slider, or
+// scroll a list.
+/** @param {HTMLElement} control @param {KeyboardEvent} event */
+function isOfControl(control, { key, ctrlKey, metaKey }) {
+  if (isTyping(control)) return true;
+  if (ctrlKey || metaKey || control === document.body || control.id === "marks") return false;
+  return control.matches(PRESSABLE) ? PRESSED.includes(key) : SLID.includes(key);
+}
+
+const isTextPicked = () => String(document.getSelection()) !== "";
+
+// Runs the action of a key where it has one.
+/** @param {KeyboardEvent} event */
+function runKey(event) {
+  const key = keyOf(event), found = actions.find((action) => action.keys.includes(key));
+  if (!found || found.id === "copy" && isTextPicked()) return;
+  event.preventDefault();
+  found.run(event);
+}
 
 export function listenToKeys() {
   document.addEventListener("keydown", (event) => {
-    if (event.altKey || document.querySelector("dialog[open]")) return;
-    const isEscape = event.key === "Escape";
-    if (isTyping(event.target) && !isEscape) return;
-    // Space and Enter press the button that has the focus.
-    if (event.target.tagName === "BUTTON" && [" ", "Enter"].includes(event.key)) return;
-    if (isEscape && isTyping(event.target)) event.target.blur();
-    const key = keyOf(event);
-    const found = actions.find((action) => action.keys.includes(key));
-    if (!found) return;
-    event.preventDefault();
-    found.run(event);
+    const { key } = event, target = /** @type {HTMLInputElement} */ (event.target);
+    if (event.altKey || event.isComposing || document.querySelector("dialog[open]")) return;
+    // It leaves a field, and lets go of nothing else.
+    if (key === "Escape" && isTyping(target)) return byId("marks").focus({ preventScroll: true });
+    if (!isOfControl(target, event)) return runKey(event);
+    // (a browser presses a checkbox by Space alone)
+    if (key === "Enter" && target.type === "checkbox") target.click();
+    return undefined;
   });
 }
 
 // The buttons of the page: each names its action.
 export function listenToButtons() {
-  for (const found of document.querySelectorAll("button[data-act]")) {
+  for (const found of /** @type {NodeListOf<HTMLElement>} */ (document.querySelectorAll("button[data-act]"))) {
     const action = actions.find(({ id }) => id === found.dataset.act);
     if (!action) throw new Error(`no action ${found.dataset.act}`);
     found.onclick = (event) => action.run(event);
@@ -55,6 +89,7 @@ export function listenToButtons() {
 }
 
 export function showKeys() {
+  /** @type {Map<string, Page.Action[]>} */
   const groups = new Map();
   for (const action of actions) {
     if (!action.keys.length) continue;

@@ -1,42 +1,82 @@
 // The elements of the page. What comes of a file becomes text, and never HTML.
 
-export const byId = (id) => document.getElementById(id);
+import { short } from "./units.js";
+
+// Letters of what happened, so that the words of a long item are not laid out in the one line that they have.
+const MOST_TOLD = 1000;
+
+export const byId = /** @type {Page.ById} */ ((id) => document.getElementById(id));
 
 // An element with properties or attributes, and what stands in it.
+/**
+ * @template {keyof HTMLElementTagNameMap} K
+ * @param {K} name
+ * @param {Record<string, unknown>} properties
+ * @param {(Node | string)[]} children
+ * @returns {HTMLElementTagNameMap[K]}
+ */
 export function element(name, properties = {}, ...children) {
   const made = document.createElement(name);
   for (const [key, value] of Object.entries(properties)) {
     if (key in made && !key.includes("-")) made[key] = value;
-    else made.setAttribute(key, value);
+    else made.setAttribute(key, String(value));
   }
   made.append(...children);
   return made;
 }
 
+/** @param {string} label @param {(event: MouseEvent) => unknown} run @param {Record<string, unknown>} properties */
 export const button = (label, run, properties = {}) =>
   element("button", { type: "button", onclick: run, ...properties }, label);
 
 // A field with its label.
+/** @param {string} label @param {HTMLElement} input */
 export function field(label, input) {
   return element("label", { className: "row" }, element("span", {}, label), input);
 }
 
-// A dialogue; answers what the chosen button stands for, or null where it was closed.
-export function ask(title, parts, choices) {
-  const dialogue = byId("question");
-  byId("question-title").textContent = title;
-  byId("question-body").replaceChildren(...parts);
-  return new Promise((answer) => {
-    byId("question-choices").replaceChildren(...choices.map(([label, value], at) =>
-      button(label, () => dialogue.close(value), at === 0 ? { className: "chosen", autofocus: true } : {})));
-    dialogue.onclose = () => answer(dialogue.returnValue || null);
-    dialogue.returnValue = "";
-    dialogue.showModal();
+const CONTROLS = "button, input, select, textarea, summary, [tabindex]";
+
+// Which control of a list has the focus: its row, by its `data-row` or else by its place, and the how manieth of its kind it
+// is there; null where none has it.
+/** @param {HTMLElement} list */
+function focusIn(list) {
+  const { activeElement: control } = document, rows = /** @type {HTMLElement[]} */ ([...list.children]);
+  const at = rows.findIndex((row) => row.contains(control));
+  if (at < 0) return null;
+  const kind = kindOf(control), turn = ofKind(rows[at], kind).findIndex((other) => other === control);
+  return { at, row: rows[at].dataset.row, kind, turn };
+}
+
+/** @param {{ tagName: string, type?: string, className: string }} control */
+const kindOf = ({ tagName, type, className }) => `${tagName} ${type} ${className}`;
+
+/** @param {HTMLElement} row @param {string} kind @returns {HTMLElement[]} */
+const ofKind = (row, kind) => [row, .../** @type {NodeListOf<HTMLElement>} */ (row.querySelectorAll(CONTROLS))].filter((control) => kindOf(control) === kind);
+
+// Gives the focus to the same control of a list, or where its row is gone to that of the row in its place.
+/** @param {HTMLElement} list @param {{ at: number, row?: string, kind: string, turn: number }} focus */
+function focusAgain(list, { at, row, kind, turn }) {
+  const rows = /** @type {HTMLElement[]} */ ([...list.children]);
+  const same = row === undefined ? rows[at] : rows.find((other) => other.dataset.row === row) ?? rows[Math.min(at, rows.length - 1)];
+  const found = same ? ofKind(same, kind) : [];
+  (found[turn] ?? found[0])?.focus({ preventScroll: true });
+}
+
+// Draws a list anew. The control that had the focus has it again, and what was unfolded stays so.
+/** @param {HTMLElement} list @param {(Node | string)[]} rows */
+export function redraw(list, ...rows) {
+  const focus = focusIn(list), unfolded = [...list.querySelectorAll("details")].map(({ open }) => open);
+  list.replaceChildren(...rows);
+  list.querySelectorAll("details").forEach((details, at) => {
+    details.open = unfolded[at] ?? false;
   });
+  if (focus) focusAgain(list, focus);
 }
 
 // What happened, for the eye and for screen readers.
+/** @param {string} text @param {boolean} isFault */
 export function tell(text, isFault = false) {
-  byId("told").textContent = byId("told").title = text;
+  byId("told").textContent = byId("told").title = short(text, MOST_TOLD);
   byId("told").classList.toggle("fault", isFault);
 }

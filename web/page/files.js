@@ -1,160 +1,140 @@
-// Files that are opened or dropped: which layer each is, loading them, and what is done about one that is refused.
+// Files that are opened or dropped: their names and bytes, for the machine.
 
-import { byId, tell } from "./dom.js";
-import { boxOfAll, describeBy, refresh } from "./documents.js";
-import { changed, layerOf, shownLayers, state } from "./state.js";
-import { isPbm } from "../pbm.js";
-import { openPictures } from "./pictures_panel.js";
-import { plural } from "./units.js";
-import { recogniseFiles } from "../layers.js";
-import { run } from "./script.js";
-import { showRefused } from "./refused_files.js";
+import { byId } from "./dom.js";
+import { faultWords } from "./kept.js";
+import { withUnpacked } from "./unpacking.js";
 
-// The bytes of each file of the session by its path in the script.
-export const session = new Map();
+/**
+ * What was dropped: a file, or a folder by its entry, and by its handle where the browser has one.
+ * @typedef {object} Dropped
+ * @property {boolean} isFolder
+ * @property {File | null} [file]
+ * @property {FileSystemEntry} [entry]
+ * @property {Promise<FileSystemHandle | null>} [handle]
+ */
 
-// A path that a script can name, and that no file has yet.
-function pathFor(name) {
-  const plain = name.replace(/[^A-Za-z0-9_.-]+/g, "_").slice(-120) || "file";
-  let path = `files/${plain}`;
-  for (let number = 2; session.has(path); number++) path = `files/${number}-${plain}`;
-  return path;
+// Browsers tell a drag several times a second while it is over the page: one that was not told for so long has left it.
+const SILENT_MS = 1000;
+
+/** @template T @param {(done: (value: T) => void, fail: (fault: Error) => void) => void} act @returns {Promise<T>} */
+const promised = (act) => new Promise((done, fail) => { act(done, fail); });
+
+// The files of a folder, by its handle or by its entry: on a page that was opened from disk the entries of a drop throw
+// where they are read. A browser that reads neither throws.
+/** @param {Dropped} item @param {File[]} files */
+async function filesIn({ handle, entry }, files) {
+  const folder = /** @type {FileSystemDirectoryHandle | null} */ (await handle?.catch(() => null) ?? null);
+  return folder ? filesOfHandle(folder, files) : filesOfEntry(entry, files);
 }
 
-// A layer's name that none has yet.
-function nameFor(wanted) {
-  let name = wanted;
-  for (let number = 2; layerOf(name); number++) name = `${wanted}-${number}`;
-  return name;
-}
-
-const extra = ["#f08cd0", "#8ce0a0", "#e0c08c", "#8cb4f0"];
-
-// The layer on the page of a recognised one.
-function pageLayer(name, { kind, layerFunction, file, toldBy }) {
-  const { label, colour, height, isShown } = layerFunction;
-  const isSecond = name !== layerFunction.name;
-  return {
-    name, kind, label: isSecond ? `${label} (${file.name})` : label, height, isShown, opacity: 0.85, items: 0, entries: 0,
-    colour: isSecond ? extra[state.layers.length % extra.length] : colour, file: file.name, toldBy,
-  };
-}
-
-async function loadOne(name, layer, bytes) {
-  const path = pathFor(layer.file.name);
-  describeBy(() => pageLayer(name, layer));
-  const { isWell, answers } = await run([`load ${name} ${layer.kind} ${path}`], bytes);
-  describeBy(null);
-  if (isWell) session.set(path, bytes);
-  return { isWell, reply: answers[0].reply };
-}
-
-// A line that came with the page; the file of a load is kept under a path of its own.
-export async function runGiven({ line, bytes }) {
-  if (!bytes) return run([line]);
-  const [, name, kind, given] = line.trim().split(/\s+/), path = pathFor(given.replace(/^.*\//, ""));
-  const done = await run([`load ${name} ${kind} ${path}`], bytes);
-  if (done.isWell) session.set(path, bytes);
-  return done;
-}
-
-// Loads the layers among files under names that none has yet; those that load, and those that are refused.
-async function loadAll(layers) {
-  const opened = [], refused = [];
-  state.isOpening = true;
-  for (const layer of layers) {
-    const name = nameFor(layer.name);
-    const { isWell, reply } = await loadOne(name, layer, layer.file.bytes);
-    if (isWell) opened.push(name);
-    else refused.push({ name, layer, reply });
+/** @param {FileSystemDirectoryHandle} folder @param {File[]} files */
+async function filesOfHandle(folder, files) {
+  for await (const inner of folder.values()) {
+    if (inner.kind === "directory") await filesOfHandle(inner, files);
+    else files.push(await inner.getFile());
   }
-  state.isOpening = false;
-  return { opened, refused };
 }
 
-// The document has new layers; where it had none before, they are shown whole.
-async function showOpened(opened, wasEmpty) {
-  if (wasEmpty && opened.length) state.active = opened.includes("top") ? "top" : opened[opened.length - 1];
-  await refresh();
-  if (opened.length && wasEmpty) await changed("fit", await boxOfAll(state.layers));
-}
-
-// Loads what a refused file was converted to, now or later.
-async function openConverted({ name, layer }, bytes, opened) {
-  const wasEmpty = state.layers.length === 0, again = nameFor(name);
-  const done = await loadOne(again, layer, bytes);
-  if (done.isWell) {
-    opened.push(again);
-    await showOpened([again], wasEmpty);
+/** @param {FileSystemEntry} entry @param {File[]} files */
+async function filesOfEntry(entry, files) {
+  if (entry.isFile) return files.push(await promised((done, fail) => /** @type {FileSystemFileEntry} */ (entry).file(done, fail)));
+  const reader = /** @type {FileSystemDirectoryEntry} */ (entry).createReader();
+  for (;;) {
+    /** @type {FileSystemEntry[]} */
+    const some = await promised((done, fail) => reader.readEntries(done, fail));
+    if (!some.length) return undefined;
+    for (const inner of some) await filesOfEntry(inner, files);
   }
-  return done;
 }
 
-// Loads files, [{ name, bytes }]; the refused ones are told, and where they can be converted that is offered. PBM files are
-// pictures beside the layers.
-export async function openFiles(given, areNamed = true) {
-  const wasEmpty = state.layers.length === 0;
-  const { layers, others } = recogniseFiles(given.filter(({ bytes }) => !isPbm(bytes)), areNamed);
-  const { opened, refused } = await loadAll(layers);
-  await showOpened(opened, wasEmpty);
-  for (const entry of refused) await showRefused(entry, (bytes) => openConverted(entry, bytes, opened));
-  const faults = [], pictures = await openPictures(given.filter(({ bytes }) => isPbm(bytes)), faults);
-  const parts = [
-    opened.length || !pictures && !refused.length ? `${plural(opened.length, "layer")} opened.` : "",
-    pictures ? `${plural(pictures, "picture")} opened.` : "",
-    others.length ? `${plural(others.length, "file")} left out: ${names(others)}.` : "",
-    refused.length ? `${plural(refused.length, "file")} refused, see the left side.` : "", ...faults,
-  ];
-  tell(parts.filter((part) => part).join(" "), refused.length > 0 || faults.length > 0);
-  return { opened, refused, others };
+// What is dropped: each file as it is, each folder by what reads it. It is asked while the drop is told, since a drop has
+// its items no longer.
+/** @param {DataTransfer} transfer @returns {Dropped[]} */
+function droppedOf(transfer) {
+  const items = [...transfer.items].filter(({ kind }) => kind === "file").map((item) => {
+    const entry = item.webkitGetAsEntry?.() ?? null, isFolder = entry !== null && entry.isDirectory;
+    return isFolder ? { entry, isFolder, handle: item.getAsFileSystemHandle?.() } : { isFolder, file: item.getAsFile() };
+  });
+  return items.length ? items : [...transfer.files].map((file) => ({ file, isFolder: false }));
 }
 
-const names = (files) => files.slice(0, 5).map((file) => file.name).join(", ") + (files.length > 5 ? ", .." : "");
-
-// The files of a drop, those in folders too.
-export async function droppedFiles(transfer) {
-  const entries = [...transfer.items].map((item) => item.webkitGetAsEntry?.()).filter((entry) => entry);
-  if (!entries.length) return { files: [...transfer.files], areNamed: true };
-  const files = [];
-  const walk = async (entry) => {
-    if (entry.isFile) return files.push(await new Promise((done, fail) => entry.file(done, fail)));
-    const reader = entry.createReader();
-    for (;;) {
-      const some = await new Promise((done, fail) => reader.readEntries(done, fail));
-      if (!some.length) return;
-      for (const inner of some) await walk(inner);
+/** @param {Dropped[]} list */
+async function readDropped(list) {
+  const files = [], faults = [];
+  for (const item of list) {
+    if (!item.isFolder) {
+      if (item.file) files.push(item.file);
+      continue;
     }
-  };
-  for (const entry of entries) await walk(entry);
-  return { files, areNamed: entries.every((entry) => entry.isFile) };
+    try {
+      await filesIn(item, files);
+    } catch {
+      faults.push(`${item.entry.name} is a folder, which this browser does not read from a drop: use the button 'folder'.`);
+    }
+  }
+  return { ...await readAll(files, faults), areNamed: !list.some(({ isFolder }) => isFolder) };
 }
 
-export async function readAll(files) {
+/** @param {File[]} files @param {string[]} faults */
+export async function readAll(files, faults = []) {
   const read = [];
   for (const file of files) {
     try {
       read.push({ name: file.name, bytes: new Uint8Array(await file.arrayBuffer()) });
     } catch {
-      tell(`${file.name} cannot be read.`, true);
+      faults.push(`${file.name} cannot be read.`);
     }
   }
-  return read;
+  return { files: read, faults };
 }
 
-export function listenToFiles() {
-  const open = async (input, areNamed) => {
-    const files = await readAll([...input.files]);
+// While files are dragged over the page, it shows where they go. The last that is heard of a drag that leaves is nothing more.
+function listenToDrags() {
+  let timer = 0;
+  /** @param {boolean} isOver */
+  const show = (isOver) => {
+    byId("dropping").hidden = !isOver;
+    clearTimeout(timer);
+    if (isOver) timer = setTimeout(show, SILENT_MS, false);
+  };
+  for (const kind of /** @type {const} */ (["dragenter", "dragover"])) {
+    document.addEventListener(kind, (event) => {
+      event.preventDefault();
+      show([...event.dataTransfer.types].includes("Files"));
+    });
+  }
+  document.addEventListener("dragleave", ({ relatedTarget }) => relatedTarget ?? show(false));
+  document.addEventListener("drop", () => show(false));
+}
+
+// `take` takes what is no layer and no picture out of the files that are opened, and gives the others back.
+/** @param {Page.Runner} machine @param {(files: Page.File[]) => Page.File[]} take */
+export function listenToFiles(machine, take = (files) => files) {
+  // One after another, in the order in which they were given.
+  let last = Promise.resolve();
+  /** @param {Promise<{ files: Page.File[], faults: string[], areNamed: boolean }>} reading */
+  const inTurn = (reading) => {
+    last = last.then(async () => {
+      const read = await reading, { files, faults, isAny } = await withUnpacked(read.files), all = [...read.faults, ...faults];
+      const rest = take(files);
+      // The files of an archive are opened as those of a folder.
+      if (rest.length || all.length || !files.length) machine.open(rest, read.areNamed && !isAny, all);
+    }).catch((fault) => machine.send({ kind: "fault", why: faultWords(fault) }));
+    machine.await(last);
+  };
+  /** @param {HTMLInputElement} input @param {boolean} areNamed */
+  const open = (input, areNamed) => {
+    const files = [...input.files];
     input.value = "";
-    await openFiles(files, areNamed);
+    inTurn(readAll(files).then((read) => ({ ...read, areNamed })));
   };
   byId("files").onchange = () => open(byId("files"), true);
   byId("folder").onchange = () => open(byId("folder"), false);
-  document.addEventListener("dragover", (event) => event.preventDefault());
-  document.addEventListener("drop", async (event) => {
+  listenToDrags();
+  document.addEventListener("drop", (event) => {
     event.preventDefault();
-    const { files, areNamed } = await droppedFiles(event.dataTransfer);
-    await openFiles(await readAll(files), areNamed);
+    const dropped = droppedOf(event.dataTransfer);
+    if (dropped.length) inTurn(readDropped(dropped));
+    else machine.send({ kind: "say", text: "Nothing in that drop is a file.", isFault: true });
   });
 }
-
-export const fitBox = () => boxOfAll(shownLayers().length ? shownLayers() : state.layers);

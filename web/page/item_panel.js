@@ -1,18 +1,27 @@
 // What is picked, with what can be done to it, and what insertions use.
 
-import { aperture, diameter, dropAttribute, move, polarity, reorder, setAttribute, tool } from "./editing.js";
-import { button, byId, element, field, tell } from "./dom.js";
-import { layerOf, on, state } from "./state.js";
-import { lengthOf, mm, plural, wholeOf } from "./units.js";
-import { entries } from "./documents.js";
+import { arrangingRows } from "./arranging.js";
+import { button, byId, element, field, redraw } from "./dom.js";
+import { gapParts } from "./gap_panel.js";
+import { lengthIn, lengthText, plural, short, wholeOf, wordsIn } from "./units.js";
 import { joined } from "./items.js";
-import { question } from "./station.js";
+import { layerOf } from "./machine/state.js";
 
+// So many letters of an item's words are shown: all of most items, and of a long region what its panel has room for.
+const MOST_WORDS = 600;
+
+/** @param {string} value @param {Record<string, unknown>} properties */
 const input = (value, properties = {}) => element("input", { type: "text", value, spellcheck: false, ...properties });
 
 // A field whose value is taken by Enter or its button.
+/**
+ * @param {string} label
+ * @param {string} verb
+ * @param {HTMLElement[]} parts
+ * @param {() => unknown} run
+ */
 function form(label, verb, parts, run) {
-  const made = element("form", { className: "row" }, element("span", {}, label), ...parts,
+  const made = element("form", { className: "row", "data-row": label }, element("span", {}, label), ...parts,
     element("button", { type: "submit" }, verb));
   made.onsubmit = (event) => {
     event.preventDefault();
@@ -21,110 +30,139 @@ function form(label, verb, parts, run) {
   return made;
 }
 
-function moveForm() {
-  const dx = input("0", { "aria-label": "to the right, in mm" }), dy = input("0", { "aria-label": "up, in mm" });
-  return form("by, mm", "move", [dx, dy], () => {
-    const [x, y] = [dx, dy].map((each) => lengthOf(each.value));
-    if (x === null || y === null) return tell("A length is a number of mm, as 1.25, or with a unit, as 50 mil.", true);
-    move(x, y);
-  });
+// The forms about what is picked act on these picks, and on no others that are picked when their turn comes.
+class PickedForms {
+  /** @param {Page.Runner} machine @param {Page.State} state */
+  constructor(machine, state) {
+    this.machine = machine;
+    this.state = state;
+    this.of = state.picked.map(({ id }) => id);
+  }
+
+  edit(verb, more) {
+    return this.machine.gesture({ kind: "edit", verb, of: this.of, ...more });
+  }
+
+  /** @param {string} text */
+  say(text) {
+    this.machine.send({ kind: "say", text, isFault: true });
+  }
+
+  move() {
+    const { unit } = this.state;
+    const dx = input("0", { "aria-label": `to the right, in ${unit}` }), dy = input("0", { "aria-label": `up, in ${unit}` });
+    return form(`by, ${unit}`, "move", [dx, dy], () => {
+      const [x, y] = [dx, dy].map((each) => lengthIn(each.value, unit));
+      if (x === null || y === null) return this.say(`A length is a number of ${unit}, as 1.25, or with a unit, as 50 mil.`);
+      return this.edit("move", { dx: x, dy: y });
+    });
+  }
+
+  /** @param {Page.Picked} item */
+  entry(item) {
+    const layer = layerOf(this.state, item.name), isDrill = layer.kind === "drill";
+    const choice = entryChoice(this.state, item.name, Number(item.words.split(" ")[1]));
+    return form(isDrill ? "tool" : "aperture", "set", [choice],
+      () => this.edit(isDrill ? "tool" : "aperture", { number: Number(choice.value) }));
+  }
+
+  polarity() {
+    return element("div", { className: "buttons", "data-row": "polarity" }, ...["dark", "clear"].map((value) =>
+      button(value, () => this.edit("polarity", { value }))));
+  }
+
+  /** @param {Page.Picked} item */
+  reorder(item) {
+    const to = input(String(item.place), { inputMode: "numeric", "aria-label": "place in the list" });
+    return form("place", "move there", [to], () => {
+      const place = wholeOf(to.value);
+      if (place === null) return this.say("A place is a whole number from 0.");
+      return this.edit("reorder", { to: place });
+    });
+  }
 }
 
-function entryChoice(list, chosen) {
-  return element("select", { "aria-label": "aperture or tool" }, ...list.map(({ number, words }) =>
-    element("option", { value: number, selected: number === chosen }, `${number}: ${words}`)));
+/** @param {Page.State} state @param {string} name @param {number} chosen */
+function entryChoice({ entries, unit }, name, chosen) {
+  return element("select", { "aria-label": "aperture or tool" }, ...(entries[name] ?? []).map(({ number, words }) =>
+    element("option", { value: number, selected: number === chosen }, `${number}: ${wordsIn(words, unit)}`)));
 }
 
-async function entryForm(item) {
-  const layer = layerOf(item.name), list = await entries(item.name);
-  const number = Number(item.words.split(" ")[1]);
-  const choice = entryChoice(list, number);
-  const isDrill = layer.kind === "drill";
-  return form(isDrill ? "tool" : "aperture", "set", [choice], () => (isDrill ? tool : aperture)(Number(choice.value)));
-}
-
-function polarityButtons() {
-  return element("div", { className: "buttons" }, button("dark", () => polarity("dark")),
-    button("clear", () => polarity("clear")));
-}
-
-function reorderForm(item) {
-  const to = input(String(item.place), { inputMode: "numeric", "aria-label": "place in the list" });
-  return form("place", "move there", [to], () => {
-    const place = wholeOf(to.value);
-    if (place === null) return tell("A place is a whole number from 0.", true);
-    reorder(place);
-  });
-}
-
-function sizeWords(box) {
+/** @param {Page.Box | null} box @param {string} unit */
+function sizeWords(box, unit) {
   if (!box) return "It paints nothing.";
-  return `${mm(box.right - box.left)} by ${mm(box.high - box.low)} mm, from ${mm(box.left)}, ${mm(box.low)}`;
+  const [width, height, left, low] = [box.right - box.left, box.high - box.low, box.left, box.low].map((nm) => lengthText(nm, unit));
+  return `${width} by ${height} ${unit}, from ${left}, ${low}`;
 }
 
-async function showPicked() {
+/** @param {Page.Runner} machine @param {Page.State} state */
+function showPicked(machine, state) {
   const items = state.picked, panel = byId("picked");
   if (!items.length) return panel.replaceChildren(element("p", { className: "hint" },
-    "Click an item to pick it, again for the one under it; drag a box for several."));
-  const first = items[0];
-  const isOne = items.length === 1;
-  const head = isOne ? `${first.name} ${first.place}` : plural(items.length, "item");
-  const parts = [element("h3", {}, head)];
-  if (isOne) parts.push(element("code", { className: "words" }, first.words));
-  parts.push(element("p", { className: "hint" }, sizeWords(joined(items.map((item) => item.box)))), moveForm());
+    "Click an item to pick it, again for the one under it; drag a box to the right for all that lie in it, to the left for all "
+      + "that it touches."));
+  const [first] = items, isOne = items.length === 1, forms = new PickedForms(machine, state);
+  /** @type {HTMLElement[]} */
+  const parts = [element("h3", {}, isOne ? `${first.name} ${first.place}` : plural(items.length, "item"))];
+  if (isOne) parts.push(element("code", { className: "words" }, short(first.words, MOST_WORDS)));
+  parts.push(element("p", { className: "hint" }, sizeWords(joined(items.map((item) => item.box)), state.unit)),
+    ...gapParts(machine, state), forms.move());
   const kinds = new Set(items.map((item) => item.words.split(" ")[0]));
   const layers = new Set(items.map((item) => item.name));
-  const hasEntry = !kinds.has("region") && !kinds.has("repeat") && layers.size === 1;
-  if (hasEntry) parts.push(await entryForm(first));
-  if (items.some((item) => layerOf(item.name)?.kind === "gerber")) parts.push(polarityButtons());
-  if (isOne) parts.push(reorderForm(first));
-  // Another pick may have come meanwhile.
-  if (state.picked === items) panel.replaceChildren(...parts);
+  if (!kinds.has("region") && !kinds.has("repeat") && layers.size === 1) parts.push(forms.entry(first));
+  if (items.some((item) => layerOf(state, item.name)?.kind === "gerber")) parts.push(forms.polarity());
+  if (isOne) parts.push(forms.reorder(first));
+  parts.push(...arrangingRows(state));
+  return redraw(panel, ...parts);
 }
 
 // The active layer: its apertures or tools, for insertions and diameters, and its attributes.
-async function showActive() {
-  const layer = layerOf(state.active), panel = byId("active");
+/** @param {Page.Runner} machine @param {Page.State} state */
+function showActive(machine, state) {
+  const layer = layerOf(state, state.active), panel = byId("active");
   if (!layer) return panel.replaceChildren(element("p", { className: "hint" }, "No layer is open."));
-  const list = await entries(layer.name);
-  if (!list.some(({ number }) => number === state.entry)) state.entry = list[0]?.number ?? null;
-  const choice = entryChoice(list, state.entry);
-  choice.onchange = () => { state.entry = Number(choice.value); };
+  const list = state.entries[layer.name] ?? [], choice = entryChoice(state, layer.name, state.entry);
+  choice.onchange = () => machine.send({ kind: "setting", changes: { entry: Number(choice.value) } });
   const isDrill = layer.kind === "drill";
-  const parts = [element("h3", {}, layer.label),
-    field(isDrill ? "new with tool" : "new with aperture", choice)];
-  if (isDrill && list.length) parts.push(diameterForm(layer.name, choice));
-  if (!isDrill) parts.push(...await attributeParts(layer.name));
-  if (state.active === layer.name) panel.replaceChildren(...parts);
+  /** @type {HTMLElement[]} */
+  const parts = [element("h3", {}, layer.label), field(isDrill ? "new with tool" : "new with aperture", choice)];
+  if (isDrill && list.length) parts.push(diameterForm(machine, layer.name, choice, state.unit));
+  if (!isDrill) parts.push(...attributeParts(machine, layer.name, state.attributes[layer.name]));
+  return redraw(panel, ...parts);
 }
 
-function diameterForm(name, choice) {
-  const size = input("", { placeholder: "mm", "aria-label": "diameter in mm" });
+/** @param {Page.Runner} machine @param {string} name @param {HTMLSelectElement} choice @param {string} unit */
+function diameterForm(machine, name, choice, unit) {
+  const size = input("", { placeholder: unit, "aria-label": `diameter in ${unit}` });
   return form("its diameter", "set", [size], () => {
-    const nm = lengthOf(size.value);
-    if (nm === null) return tell("A diameter is a number of mm, as 0.8.", true);
-    diameter(name, Number(choice.value), nm);
+    const nm = lengthIn(size.value, unit);
+    if (nm === null) return machine.send({ kind: "say", text: `A diameter is a number of ${unit}, as 0.8.`, isFault: true });
+    return machine.gesture({ kind: "edit", verb: "diameter", name, number: Number(choice.value), nm });
   });
 }
 
-async function attributeParts(name) {
-  const lines = await question(`attributes ${name}`);
+/** @param {Page.Runner} machine @param {string} name @param {string[] | undefined} lines */
+function attributeParts(machine, name, lines) {
   if (!lines) return [];
   const key = input("", { placeholder: ".Part", "aria-label": "name of the attribute" });
   const fields = input("", { placeholder: "Single", "aria-label": "fields of the attribute" });
+  const edit = (verb, more) => machine.gesture({ kind: "edit", verb, name, ...more });
   const rows = lines.map((line) => {
     const [shown] = line.split(/[ ,]/, 1);
     return element("li", {}, element("code", {}, line.slice(0, 120)),
-      button("drop", () => dropAttribute(name, shown), { "aria-label": `drop ${shown}` }));
+      button("drop", () => edit("dropattr", { key: shown }), { "aria-label": `drop ${shown}` }));
   });
   return [element("details", {}, element("summary", {}, plural(lines.length, "file attribute")),
     element("ul", { className: "attributes" }, ...rows),
-    form("attribute", "set", [key, fields], () => setAttribute(name, key.value.trim(), fields.value.trim())))];
+    form("attribute", "set", [key, fields], () => edit("setattr", { key: key.value.trim(), fields: fields.value.trim() })))];
 }
 
-export function listenToItems() {
-  on("picked", showPicked);
-  on("active", showActive);
-  on("layers", showActive);
-  return Promise.all([showPicked(), showActive()]);
+/** @param {Page.Runner} machine */
+export function listenToItems(machine) {
+  machine.panel(({ picked, entries, layers, unit, gap }) => [picked, entries[picked[0]?.name], layers.length, unit, gap],
+    (state) => showPicked(machine, state));
+  machine.panel((state) => {
+    const { active, entries, attributes } = state, layer = layerOf(state, active);
+    return [active, layer?.label, entries[active], attributes[active], state.unit];
+  }, (state) => showActive(machine, state));
 }

@@ -1,13 +1,16 @@
 // The words of an item, as a script has them, taken apart: for its outline, its copies and its fields.
 
+/** @param {string} word */
 const isTurn = (word) => /^[rm](0|90|180|270)$/.test(word);
 
 // { kind, number, points, polarity, turn, direction, segments }; null where the words are none. `points` are its control
 // points in nm.
+/** @param {string} text @returns {Page.Item | null} */
 export function itemOf(text) {
   const words = text.trim().split(/\s+/);
   const [kind] = words;
   const numbers = (from, count) => words.slice(from, from + count).map(Number);
+  /** @type {(list: number[]) => Page.Pair[]} */
   const pairs = (list) => list.reduce((points, value, at) => {
     if (at % 2) points[points.length - 1].push(value);
     else points.push([value]);
@@ -15,13 +18,13 @@ export function itemOf(text) {
   }, []);
   switch (kind) {
     case "flash":
-      return { kind, number: Number(words[1]), points: [numbers(2, 2)], turn: words[4], polarity: words[5] };
+      return { kind, number: Number(words[1]), points: pairs(numbers(2, 2)), turn: words[4], polarity: words[5] };
     case "draw":
       return { kind, number: Number(words[1]), points: pairs(numbers(2, 4)), turn: words[6], polarity: words[7] };
     case "arc":
       return { kind, number: Number(words[1]), points: pairs(numbers(2, 6)), direction: words[8], polarity: words[9] };
     case "hit":
-      return { kind, number: Number(words[1]), points: [numbers(2, 2)] };
+      return { kind, number: Number(words[1]), points: pairs(numbers(2, 2)) };
     case "rout":
       return { kind, number: Number(words[1]), points: pairs(words.slice(2).map(Number)) };
     case "region":
@@ -31,27 +34,30 @@ export function itemOf(text) {
   }
 }
 
+/** @param {string[]} words @returns {Page.Item} */
 function regionOf(words) {
+  /** @type {Page.Segment[]} */
   const segments = [];
   let at = 4;
   while (at < words.length) {
     const kind = words[at];
     const count = kind === "l" ? 2 : 4;
-    const numbers = words.slice(at + 1, at + 1 + count).map(Number);
-    segments.push({ kind, to: numbers.slice(0, 2), centre: kind === "l" ? null : numbers.slice(2) });
+    const [x, y, ...centre] = words.slice(at + 1, at + 1 + count).map(Number);
+    segments.push({ kind, to: [x, y], centre: kind === "l" ? null : [centre[0], centre[1]] });
     at += 1 + count;
   }
   return { kind: "region", number: null, polarity: words[1], points: [[Number(words[2]), Number(words[3])]], segments };
 }
 
 // The words of the same item somewhere else: all that are lengths are shifted.
+/** @param {string} text @param {number} dx @param {number} dy */
 export function shifted(text, dx, dy) {
   const words = text.trim().split(/\s+/);
+  // The first two say what it is, and by which aperture or in which polarity.
   const last = { flash: 4, hit: 4, draw: 6, arc: 8 }[words[0]] ?? words.length;
-  const first = words[0] === "region" ? 2 : 2;
   let isX = true;
   return words.map((word, at) => {
-    if (at < first || at >= last || isTurn(word) || !/^[-+]?\d+$/.test(word)) return word;
+    if (at < 2 || at >= last || isTurn(word) || !/^[-+]?\d+$/.test(word)) return word;
     const moved = Number(word) + (isX ? dx : dy);
     isX = !isX;
     return String(moved);
@@ -59,6 +65,12 @@ export function shifted(text, dx, dy) {
 }
 
 // The path of an item in nm, with what is stroked; `entryOf(number)` is its aperture or tool, or null.
+/**
+ * @param {Page.Item | null} item
+ * @param {Page.Box | null} box
+ * @param {(number: number) => Page.Entry | null} entryOf
+ * @returns {Page.Outline}
+ */
 export function outlineOf(item, box, entryOf) {
   const path = new Path2D();
   const widthOf = (number) => entryOf(number)?.width ?? 0;
@@ -94,6 +106,7 @@ export function outlineOf(item, box, entryOf) {
   return { path, width: 0 };
 }
 
+/** @param {Path2D} path @param {Page.Pair} start @param {Page.Pair} end @param {Page.Pair} centre @param {boolean} isClockwise */
 function addArc(path, [sx, sy], [ex, ey], [cx, cy], isClockwise) {
   const radius = Math.hypot(sx - cx, sy - cy);
   const start = Math.atan2(sy - cy, sx - cx);
@@ -103,12 +116,21 @@ function addArc(path, [sx, sy], [ex, ey], [cx, cy], isClockwise) {
   path.arc(cx, cy, radius, start, end, isClockwise);
 }
 
+/** @param {string} line @returns {Page.Box | null} */
 export const boxOf = (line) => {
   if (!line) return null;
   const [left, low, right, high] = line.split(" ").map(Number);
   return { left, low, right, high };
 };
 
+// The box of a window, which is a line of a script.
+/** @param {string} line @returns {Page.Box} */
+export function boxOfWindow(line) {
+  const [left, low, pitch, width, height] = line.trim().split(/\s+/).slice(1).map(Number);
+  return { left, low, right: left + width * pitch, high: low + height * pitch };
+}
+
+/** @param {(Page.Box | null)[]} boxes @returns {Page.Box | null} */
 export function joined(boxes) {
   const found = boxes.filter((box) => box);
   if (!found.length) return null;
@@ -119,13 +141,15 @@ export function joined(boxes) {
 }
 
 // The apertures, blocks or tools that an answer to `entries` tells: each has a line of its kind and number, and its
-// definition below. { number, words, width, shape }, with the width in nm that it strokes, 0 where that is not known, and
-// the name of its shape where that is simple.
+// definition below. { number, words, width, height, shape, hasHole }, with the width in nm that it strokes, 0 where that is not
+// known, and the name of its shape where that is simple.
+/** @param {string[]} lines @returns {Page.Entry[]} */
 export function entriesFrom(lines) {
   const found = [];
   for (const line of lines) {
     const head = /^(aperture|block|tool) (\d+)/.exec(line);
-    if (head) found.push({ number: Number(head[2]), words: head[1] === "block" ? "block" : "", width: 0, shape: null });
+    if (head) found.push({ number: Number(head[2]), words: head[1] === "block" ? "block" : "", width: 0, height: 0,
+      shape: null, hasHole: false });
     else if (found.length) describe(found[found.length - 1], line);
   }
   return found;
@@ -133,17 +157,20 @@ export function entriesFrom(lines) {
 
 const NAMES = { C: "circle", R: "rectangle", O: "obround" };
 
+/** @param {Page.Entry} entry @param {string} line */
 function describe(entry, line) {
-  const template = /^%ADD\d+([CRO]),([\d.]+)(?:X([\d.]+))?(?:X[\d.]+)?\*%$/.exec(line), tool = /^T\d+C([\d.]+)$/.exec(line);
+  const template = /^%ADD\d+([CRO]),([\d.]+)(?:X([\d.]+))?(?:X([\d.]+))?\*%$/.exec(line), tool = /^T\d+C([\d.]+)$/.exec(line);
   const short = (length) => String(Number(length));
   if (template) {
-    const [, name, width, height] = template;
-    entry.words = `${NAMES[name]} ${short(width)}${name === "C" ? "" : ` by ${short(height)}`} mm`;
-    entry.width = Math.round(Number(width) * 1e6);
+    const [, name, width, second, third] = template, nm = (length) => Math.round(Number(length) * 1e6);
+    entry.words = `${NAMES[name]} ${short(width)}${name === "C" ? "" : ` by ${short(second)}`} mm`;
+    entry.width = nm(width);
+    entry.height = name === "C" ? entry.width : nm(second);
     entry.shape = NAMES[name];
+    entry.hasHole = (name === "C" ? second : third) !== undefined;
   } else if (tool) {
     entry.words = `${short(tool[1])} mm`;
-    entry.width = Math.round(Number(tool[1]) * 1e6);
+    entry.width = entry.height = Math.round(Number(tool[1]) * 1e6);
   } else if (line.startsWith("%ADD")) {
     entry.words = "a shape of primitives";
   }

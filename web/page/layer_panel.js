@@ -1,91 +1,56 @@
 // The list of layers, the topmost first: shown or not, alone, colour, opacity, and which one insertions go to.
 
-import { button, byId, element } from "./dom.js";
-import { changed, layerOf, on, shownLayers, state } from "./state.js";
+import { button, byId, element, redraw } from "./dom.js";
+import { losses } from "./machine/attributes.js";
 import { plural } from "./units.js";
 
-let view = null;
-
-function row(layer) {
-  const shown = element("input", { type: "checkbox", checked: layer.isShown, title: "shown",
-    "aria-label": `${layer.label} is shown` });
-  shown.onchange = () => {
-    layer.isShown = shown.checked;
-    renewed();
-  };
+/** @param {Page.Runner} machine @param {Page.Layer} layer @param {string | null} active */
+function row(machine, layer, active) {
+  const { name, label, items } = layer, isActive = name === active;
+  const shown = element("input", { type: "checkbox", checked: layer.isShown, title: "shown", "aria-label": `${label} is shown` });
+  shown.onchange = () => machine.send({ kind: "show", name, isShown: shown.checked });
   const colour = element("input", { type: "color", value: layer.colour, title: "its colour",
-    "aria-label": `colour of ${layer.label}` });
-  colour.oninput = () => {
-    layer.colour = colour.value;
-    renewed(false);
-  };
+    "aria-label": `colour of ${label}` });
+  colour.oninput = () => machine.send({ kind: "layer", name, changes: { colour: colour.value } });
   const opacity = element("input", { type: "range", min: 10, max: 100, value: Math.round(layer.opacity * 100),
-    title: "how opaque", "aria-label": `how opaque ${layer.label} is` });
-  opacity.oninput = () => {
-    layer.opacity = opacity.value / 100;
-    view.paint();
-  };
-  opacity.onchange = () => changed("looks");
-  const name = button("", () => makeActive(layer.name), { className: "name",
-    title: `${layer.name}: ${plural(layer.items, "item")}, ${layer.file ?? ""}`,
-    "aria-pressed": String(layer.name === state.active) });
-  name.append(element("b", {}, layer.label), element("small", {}, ` ${layer.items.toLocaleString("en")}`));
-  const only = button("only", () => showOnly(layer.name), { className: "only", title: "show this layer alone",
-    "aria-label": `show ${layer.label} alone` });
-  return element("li", { className: layer.name === state.active ? "active" : "" }, shown, colour, name, opacity, only);
-}
-
-export async function makeActive(name) {
-  state.active = name;
-  await changed("active");
-  list();
-}
-
-function list() {
-  byId("layers").replaceChildren(...state.layers.map(row).reverse());
-  byId("no-layers").hidden = state.layers.length > 0;
-}
-
-function renewed(isListed = true) {
-  if (isListed) list();
-  view.renew();
-  changed("looks");
-}
-
-// Those that were shown before one was shown alone.
-let shownBefore = null;
-
-// One layer alone, or again those that were shown before.
-export function showOnly(name) {
-  const isAlone = state.layers.every((layer) => layer.isShown === (layer.name === name));
-  if (!isAlone) shownBefore = new Set(shownLayers().map((layer) => layer.name));
-  for (const layer of state.layers) layer.isShown = isAlone ? shownBefore?.has(layer.name) ?? true : layer.name === name;
-  renewed();
-}
-
-export function showAll(isShown) {
-  for (const layer of state.layers) layer.isShown = isShown;
-  renewed();
+    title: "how opaque", "aria-label": `how opaque ${label} is` });
+  opacity.oninput = () => machine.send({ kind: "layer", name, changes: { opacity: Number(opacity.value) / 100 } });
+  const choose = button("", () => machine.gesture({ kind: "choose", name }), { className: "name",
+    title: `${name}: ${plural(items, "item")}, ${layer.origin ?? layer.file ?? ""}`, "aria-pressed": String(isActive) });
+  choose.append(element("b", {}, label), element("small", {}, ` ${items.toLocaleString("en")}`));
+  const only = button("only", () => machine.send({ kind: "only", name }), { className: "only", title: "show this layer alone",
+    "aria-label": `show ${label} alone` });
+  return element("li", { className: isActive ? "active" : "", "data-row": name }, element("label", { className: "target" }, shown),
+    colour, choose, opacity, only);
 }
 
 // The next layer up or down becomes the active one.
-export function activeBy(step) {
-  const at = state.layers.findIndex((layer) => layer.name === state.active);
-  const next = state.layers[(at + step + state.layers.length) % state.layers.length];
-  if (next) makeActive(next.name);
+/** @param {Page.Runner} machine @param {number} by */
+export function activeBy(machine, by) {
+  const { layers, active } = machine.state, at = layers.findIndex((layer) => layer.name === active);
+  const next = layers[(at + by + layers.length) % layers.length];
+  if (next) machine.gesture({ kind: "choose", name: next.name });
 }
 
-export function toggleActive() {
-  const layer = layerOf(state.active);
-  if (!layer) return;
-  layer.isShown = !layer.isShown;
-  renewed();
-}
-
-export function listenToLayers(opened) {
-  view = opened;
-  on("layers", () => {
-    list();
-    view.renew();
+/** @param {Page.Runner} machine */
+export function listenToLayers(machine) {
+  // The list is as it is while a colour or an opacity of it is being chosen.
+  /** @param {Page.State} state */
+  const words = ({ layers }) =>
+    layers.map(({ name, label, items, isShown }) => `${name} ${items} ${isShown} ${label}`).join("\n");
+  machine.panel((state) => [words(state), state.active], ({ layers, active }) => {
+    redraw(byId("layers"), ...layers.map((layer) => row(machine, layer, active)).reverse());
+    byId("no-layers").hidden = layers.length > 0;
+  });
+  machine.panel(({ layers, opened }) => [layers.length + opened.length], ({ layers, opened }) => {
+    byId("nothing").hidden = layers.length + opened.length > 0;
+  });
+  // What the station's text of a layer has not of its file, told before it is saved.
+  machine.panel((state) => [state.dropped, words(state)], (state) => {
+    const lost = losses(state, state.layers);
+    byId("dropped-panel").hidden = lost.length === 0;
+    byId("dropped-count").textContent = `attributes and comments of ${plural(lost.length, "layer")}`;
+    byId("dropped").replaceChildren(...lost.reverse().map(({ label, words: told }) =>
+      element("li", {}, element("b", {}, label), ` ${told.join(", ")}`)));
   });
 }

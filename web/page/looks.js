@@ -1,50 +1,69 @@
-// How the page looks: dark or light, the grid, and what is kept of it.
+// How the page looks: dark or light, the grid, the unit of lengths, and what is kept of it.
 
-import { byId } from "./dom.js";
-import { lengthOf, mm } from "./units.js";
-import { state } from "./state.js";
-
-let view = null;
+import { byId, element } from "./dom.js";
+import { UNITS, lengthIn, lengthText } from "./units.js";
+import { looksOfState } from "./machine/keeping.js";
 
 const isLight = () => document.documentElement.dataset.look === "light";
 
-export function setLook(look) {
+/** @param {string} look @param {Page.View} view */
+export function setLook(look, view) {
   document.documentElement.dataset.look = look;
-  view?.renew();
+  view.change();
 }
 
-export function changeLook() {
-  setLook(isLight() ? "dark" : "light");
-}
+/** @param {Page.View} view */
+export const changeLook = (view) => setLook(isLight() ? "dark" : "light", view);
 
 // What is kept beside the journal.
-export function looksNow() {
+/** @param {Page.State} state @param {Page.View} view @returns {Page.Looks} */
+export function looksNow(state, view) {
   return {
-    look: document.documentElement.dataset.look, grid: state.grid, active: state.active, unsaved: state.unsaved,
-    view: { left: view.left, top: view.top, pitch: view.pitch },
-    layers: state.layers.map(({ name, kind, label, colour, opacity, isShown, height, file }) =>
-      ({ name, kind, label, colour, opacity, isShown, height, file })),
+    look: document.documentElement.dataset.look, ...looksOfState(state),
+    view: { left: view.left, top: view.top, pitch: view.pitch, isMirrored: view.isMirrored, quarters: view.quarters },
   };
 }
 
-// How a layer looked when the page was left.
-export function restoreLooks(looks, name) {
-  const plain = { label: name, colour: "#9fb06a", opacity: 0.85, isShown: true, height: 99 };
-  return looks?.layers.find((layer) => layer.name === name) ?? plain;
+// The unit of all lengths that are shown and typed. A length that stands in a field of the page is written in the other unit.
+/** @param {Page.Runner} machine @param {Page.View} view */
+function listenToUnit(machine, view) {
+  const choice = byId("unit");
+  let shown = "mm";
+  choice.replaceChildren(...Object.entries(UNITS).map(([value, { label }]) => element("option", { value }, label)));
+  choice.onchange = () => machine.send({ kind: "setting", changes: { unit: choice.value } });
+  machine.panel(({ unit }) => [unit], ({ unit }) => {
+    choice.value = unit;
+    for (const words of document.querySelectorAll("[data-unit]")) words.textContent = unit;
+    for (const field of /** @type {NodeListOf<HTMLInputElement>} */ (document.querySelectorAll("[data-length]"))) {
+      field.setAttribute("aria-label", `${field.dataset.length} in ${unit}`);
+      const nm = field.id === "grid" ? null : lengthIn(field.value, shown);
+      if (nm !== null) field.value = lengthText(nm, unit);
+    }
+    shown = unit;
+    view.paint();
+  });
 }
 
-export function showGrid() {
-  byId("grid").value = mm(state.grid);
+// The next unit in turn.
+/** @param {Page.Runner} machine */
+export function changeUnit(machine) {
+  const names = Object.keys(UNITS), next = names[(names.indexOf(machine.state.unit) + 1) % names.length];
+  machine.send({ kind: "setting", changes: { unit: next } });
 }
 
-export function listenToLooks(opened) {
-  view = opened;
-  const prefersLight = matchMedia("(prefers-color-scheme: light)");
-  setLook(prefersLight.matches ? "light" : "dark");
-  showGrid();
+/** @param {Page.Runner} machine @param {Page.View} view */
+export function listenToLooks(machine, view) {
+  setLook(matchMedia("(prefers-color-scheme: light)").matches ? "light" : "dark", view);
   byId("grid").onchange = () => {
-    const grid = lengthOf(byId("grid").value);
-    if (grid !== null && grid >= 1) state.grid = grid;
-    showGrid();
+    const { unit } = machine.state, grid = lengthIn(byId("grid").value, unit);
+    if (grid !== null && grid >= 1) machine.send({ kind: "setting", changes: { grid } });
+    byId("grid").value = lengthText(machine.state.grid, unit);
   };
+  machine.panel(({ grid, unit }) => [grid, unit], ({ grid, unit }) => { byId("grid").value = lengthText(grid, unit); });
+  listenToUnit(machine, view);
+  const settings = /** @type {const} */ ([["new-polarity", "polarity"], ["new-turn", "turn"], ["new-direction", "direction"]]);
+  for (const [id, key] of settings) {
+    byId(id).onchange = () => machine.send({ kind: "setting", changes: { [key]: byId(id).value } });
+    machine.panel((state) => [state[key]], (state) => { byId(id).value = state[key]; });
+  }
 }

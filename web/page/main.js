@@ -1,205 +1,278 @@
-// The page: what begins, in which order, and the actions by their names and keys.
+// The page: what begins, in which order, and what the machine asks of it.
 
-import { DEPTH, keepIn, listenToLine, plotView, run, steps, told } from "./script.js";
-import { act, listenToButtons, listenToKeys, showKeys } from "./actions.js";
-import { activeBy, listenToLayers, makeActive, showAll, showOnly, toggleActive } from "./layer_panel.js";
-import { ask, byId, element, tell } from "./dom.js";
-import { begin } from "./beginning.js";
-import { entriesMayChange, entryOf, loaded, refresh } from "./documents.js";
-import { on, state } from "./state.js";
-import { chooseTool, endMaking, escape, listenToPointer, pointUnder, pointer, showPicked } from "./pointer.js";
-import { compare, listenToHistory } from "./history_panel.js";
+import { Boards } from "./boards.js";
+import { DEPTH, isBlank, isOpening, scriptText, sessionOf } from "./machine/state.js";
 import { compareChosen, listenToPictures } from "./pictures_panel.js";
-import { leave, listenToCompared } from "./compared.js";
-import { copy, move, paste, polarity, redo, remove, reorder, undo } from "./editing.js";
-import { fitBox, listenToFiles, openFiles, session } from "./files.js";
-import { listenToLeaving, plot, saveAll, saveLayer, savePlot, saveScript, saved } from "./saving.js";
-import { pick, pickAllOf, pickAt, pickIn, pickPlace } from "./picking.js";
-import { Journal } from "./journal.js";
+import { contentsOf, unpacked } from "./contents.js";
+import { faultWords, Kept } from "./kept.js";
+import { askForScript, handOut, listenToLeaving, saveScript, saved } from "./saving.js";
+import { listenToButtons, listenToKeys } from "./actions.js";
+import { listenToLooks, looksNow, setLook } from "./looks.js";
+import { listenToRefused, tryRefused } from "./refused_files.js";
+import { ComparingView } from "./comparing_view.js";
+import { Going } from "./going.js";
+import { giveSvg, giveView } from "./giving.js";
+import { Link } from "./station.js";
 import { Marks } from "./marks.js";
+import { Menu } from "./menu.js";
+import { NetsPanel } from "./nets_panel.js";
+import { Panels } from "./panels.js";
+import { Pointer, pileOf } from "./pointer.js";
+import { Runner } from "./runner.js";
+import { TablesPanel } from "./tables_panel.js";
 import { View } from "./view.js";
-import { drawingTools } from "./drawing_tools.js";
+import { byId, tell } from "./dom.js";
 import { knowRefusals } from "./refusals.js";
+import { listenToFiles } from "./files.js";
+import { listenToGroups } from "./refused_groups.js";
+import { listenToHistory } from "./history_panel.js";
 import { listenToItemList } from "./item_list.js";
 import { listenToItems } from "./item_panel.js";
-import { snapped } from "./units.js";
-import { changeLook, listenToLooks, looksNow } from "./looks.js";
-import { openStation, startWorker } from "./station.js";
-import { contentsOf, unpacked } from "./contents.js";
+import { listenToKept } from "./kept_panel.js";
+import { listenToLayerSettings } from "./layer_settings.js";
+import { listenToLayers } from "./layer_panel.js";
+import { listenToQuestions } from "./questions.js";
+import { listenToScript } from "./script_panel.js";
+import { nameActions } from "./commands.js";
+import { printSheet } from "./printing.js";
+import { readPbm } from "../pbm.js";
+import { withUnpacked } from "./unpacking.js";
+import { plural, snapped } from "./units.js";
 
-const view = new View(byId("board"));
-const marks = new Marks(byId("marks"), view);
-let journal = null;
+// Tells the machine that the browser has what is handed out, or why it has not.
+/** @param {number} number @param {() => unknown} run */
+const handed = (number, run) => machine.await(Promise.resolve().then(run).then(() => null, faultWords)
+  .then((why) => machine.send({ kind: "answer", number, answer: { why } })));
+
+// What the machine asks of the page.
+/** @type {Page.Tasks} */
+const asked = {
+  fit: ({ box, room }) => {
+    view.fit(box, room);
+    going.opened();
+    keepLooks();
+  },
+  go: ({ place }) => going.to(place),
+  seek: (found) => {
+    if (going.seek(found)) keepLooks();
+  },
+  "copy link": () => going.copyLink(),
+  "give view": ({ number }) => handed(number, () => giveView(view)),
+  "give svg": ({ number, ...given }) => handed(number, () => giveSvg(view, given)),
+  "give print": ({ number, ...given }) => handed(number, () => printSheet(view, given)),
+  view: ({ view: was }) => view.show(was),
+  look: ({ look }) => setLook(look, view),
+  try: ({ refused }) => tryRefused(machine, refused),
+  download: ({ number, ...files }) => handed(number, () => handOut(files)),
+  script: ({ number }) => handed(number, () => saveScript(machine)),
+  copy: ({ text }) => navigator.clipboard?.writeText(text).catch(() => {}),
+  "show picked": () => machine.send({ kind: "showPicked" }),
+  "put picture": ({ name, file, window }) => machine.link.send({ number: 0, kind: "picture", name,
+    picture: readPbm(machine.state.files[file].bytes), line: window }),
+  start: () => machine.await(openStation().then(() => machine.send({ kind: "restarted" }), stopped)),
+  anew: () => Promise.all([machine.kept.clear(), boards.forgetOthers()]).finally(() => location.reload()),
+  "board closed": () => boards.left(),
+};
+
+/** @param {Error} fault */
+const stopped = (fault) => machine.send({ kind: "stopped", why: faultWords(fault) });
+
+const machine = new Runner(asked);
+const view = new View(byId("board"), machine, (shown) => machine.link?.send({ number: 0, kind: "view", view: shown }));
+const marks = new Marks(byId("marks"), view, machine);
+const going = new Going(machine, view);
+/** @type {Boards} */
+const boards = new Boards(machine, view, { openStation, keepLooks,
+  openJournal: (key) => Kept.open(`${journal}${key && ` ${key}`}`, hear) });
+const nets = new NetsPanel(machine, view, stationModule);
+view.afterDraw = () => {
+  nets.light.paint();
+  going.paint();
+  marks.paint();
+};
+const pointer = new Pointer(machine, view, marks);
+pointer.onNet = (place) => nets.lightAt(place);
+new Menu(machine, view, marks.signs);
+new TablesPanel(machine);
+new ComparingView(machine, view);
 
 function resize() {
   const box = byId("stage").getBoundingClientRect();
   const density = window.devicePixelRatio || 1;
   const width = Math.max(1, Math.round(box.width * density)), height = Math.max(1, Math.round(box.height * density));
-  Object.assign(byId("marks"), { width, height });
   view.resize(width, height, density);
-  view.paint();
+  // At once, since a canvas is black when its sides were set.
+  view.paintNow();
 }
 
-async function fit() {
-  const box = await fitBox();
-  if (box) view.fit(box);
-}
-
-const step = (x, y) => (event) => {
-  const length = state.grid * (event.shiftKey ? 10 : 1);
-  if (state.picked.length) return move(x * length, y * length);
-  const pixels = 80 * view.density;
-  view.pan(-x * pixels, y * pixels);
-};
-
-const zoomBy = (factor) => () => view.zoom(factor, view.canvas.width / 2, view.canvas.height / 2);
-
-async function pasteHere() {
-  await paste(10 * state.grid, 10 * state.grid);
-}
-
-function copyPoint() {
-  if (!pointer.last) return;
-  const { x, y } = pointUnder(pointer.last);
-  navigator.clipboard?.writeText(`${x} ${y}`).catch(() => {});
-  tell(`${x} ${y}`);
-}
-
-function pickUnder() {
-  const at = pointer.last ?? { x: view.canvas.width / 2, y: view.canvas.height / 2 };
-  const { x, y } = pointUnder(at);
-  return pickAt(x, y, 8 * view.density * view.pitch);
-}
-
-async function startAnew() {
-  const answer = await ask("Start over?", [element("p", {},
-    "All layers are closed, and what this page keeps of them in the browser is deleted. What you saved stays.")],
-  [["Keep working", "no"], ["Start over", "yes"]]);
-  if (answer !== "yes") return;
-  state.unsaved = 0;
-  await journal.clear();
-  location.reload();
-}
-
-function nameActions() {
-  act("open", "Files", "Open files", ["Ctrl+o"], () => byId("files").click());
-  act("open-folder", "Files", "Open a folder", ["Ctrl+Shift+o"], () => byId("folder").click());
-  act("save", "Files", "Save all layers", ["Ctrl+s"], saveAll);
-  act("save-layer", "Files", "Save this layer", ["Ctrl+Shift+s"], () => saveLayer(state.active));
-  act("plot", "Files", "Save a plot", ["Ctrl+p"], savePlot);
-  act("save-script", "Files", "Save the script with its files", ["Ctrl+e"], saveScript);
-  act("anew", "Files", "Start over", [], startAnew);
-  act("undo", "Edit", "Undo", ["Ctrl+z"], () => steps.done.length && undo());
-  act("redo", "Edit", "Redo", ["Ctrl+y", "Ctrl+Shift+z"], () => steps.undone.length && redo());
-  act("delete", "Edit", "Delete what is picked", ["Delete", "Backspace"], remove);
-  act("copy", "Edit", "Copy", ["Ctrl+c"], copy);
-  act("paste", "Edit", "Paste into the chosen layer", ["Ctrl+v"], pasteHere);
-  act("pick-all", "Edit", "Pick all items of the chosen layer", ["Ctrl+a"], () => pickAllOf(state.active));
-  act("dark", "Edit", "Make dark", ["d"], () => polarity("dark"));
-  act("clear", "Edit", "Make clear", ["x"], () => polarity("clear"));
-  act("earlier", "Edit", "One place earlier in the list", ["["], () => reorder(state.picked[0]?.place - 1));
-  act("later", "Edit", "One place later in the list", ["]"], () => reorder(state.picked[0]?.place + 1));
-  for (const [key, x, y, words] of [["ArrowLeft", -1, 0, "left"], ["ArrowRight", 1, 0, "right"], ["ArrowUp", 0, 1, "up"],
-    ["ArrowDown", 0, -1, "down"]]) {
-    act(`step-${words}`, "Edit", `Move ${words} what is picked, with Shift ten steps; else the view`,
-      [key, `Shift+${key}`], step(x, y));
-  }
-  act("pick", "Tools", "Pick and move", ["v"], () => chooseTool("pick"));
-  act("pan", "Tools", "Move the view", ["h"], () => chooseTool("pan"));
-  act("measure", "Tools", "Measure", ["m"], () => chooseTool("measure"));
-  for (const [name, key] of [["flash", "1"], ["draw", "2"], ["arc", "3"], ["region", "4"], ["hit", "5"], ["rout", "6"]]) {
-    act(name, "Tools", drawingTools[name].label, [key], () => chooseTool(name));
-  }
-  act("end", "Tools", "End a region or a rout", ["Enter"], endMaking);
-  act("escape", "Tools", "Let go", ["Escape"], escape);
-  act("pick-under", "Tools", "Pick under the pointer, again for the item below", [" "], pickUnder);
-  act("fit", "View", "Show the whole board", ["0"], fit);
-  act("fit-picked", "View", "Show what is picked", ["f"], showPicked);
-  act("zoom-in", "View", "Closer", ["+", "="], zoomBy(1.5));
-  act("zoom-out", "View", "Farther", ["-"], zoomBy(1 / 1.5));
-  act("only", "View", "Show the chosen layer alone, or those before", ["o"], () => showOnly(state.active));
-  act("toggle", "View", "Show or hide the chosen layer", ["t"], toggleActive);
-  act("all", "View", "Show all layers", ["a"], () => showAll(true));
-  act("none", "View", "Hide all layers", [], () => showAll(false));
-  act("layer-up", "View", "Choose the layer above", ["PageUp"], () => activeBy(1));
-  act("layer-down", "View", "Choose the layer below", ["PageDown"], () => activeBy(-1));
-  act("compare", "View", "Compare with before the last step, or go back", ["b"], () => compare(1));
-  act("copy-point", "View", "Copy the point under the pointer, in nm", ["c"], copyPoint);
-  act("look", "View", "Dark or light", ["l"], changeLook);
-  act("line", "Help", "Type a line of the script", [":"], () => byId("line").focus());
-  act("keys", "Help", "All keys", ["?", "F1"], showKeys);
-}
-
+/** @param {Page.News} message */
 function heard(message) {
-  if (message.kind === "picture") view.put(message);
+  if ("answer" in message) {
+    // Something changed is still to be drawn.
+    if ("answers" in message.answer && message.answer.answers.some(({ code }) => code === 0)) view.undrawn();
+    machine.send({ kind: "answer", ...message });
+  } else if (message.kind === "picture") view.put(message);
   else if (message.kind === "drawn") view.drawn(message);
-  else if (message.kind === "changed") view.undrawn();
-  else if (message.kind === "undrawn") tell(message.why ?? `${message.name} cannot be drawn: refused ${message.code}`, true);
-  else if (message.kind === "stopped") {
-    tell("The station stopped. What you did is kept in the browser: close the page and open it again.", true);
-  }
+  else if (message.kind === "drawing") showDrawing(message);
+  else machine.send({ kind: "say", text: message.why ?? `${message.name} cannot be drawn: refused ${message.code}`, isFault: true });
   byId("drawing").hidden = view.isWhole;
+  if (view.isWhole) showDrawing(null);
 }
 
-// What a browser without 64-bit memory is told.
-const TOO_OLD = "This browser cannot run the page: it lacks 64-bit WebAssembly memory. Use Chromium, Chrome or Edge from "
-  + "version 133 on, or Firefox from version 134 on; or the program camplot, which does the same from a script.";
+// How far a drawing is that takes long; null where none does.
+/** @param {Page.Progress | null} far */
+function showDrawing(far) {
+  byId("drawing-words").textContent = far ? `drawing ${far.drawn + 1} of ${plural(far.count, "layer")}${
+    far.part ? `, ${Math.floor(100 * far.part)} %` : ""} ..` : "drawing ..";
+  byId("drawing-stop").hidden = far === null;
+}
 
-// A module of a table and a memory with places of 64 bits, and nothing else.
-const TRIAL = new Uint8Array([0, 97, 115, 109, 1, 0, 0, 0, 4, 4, 1, 112, 4, 0, 5, 3, 1, 4, 0]);
+/** @type {Promise<Uint8Array> | null} */
+let module = null;
+
+// The name under which the browser keeps the work of this page, or of the board in it.
+let journal = "";
+
+// The station's module, unpacked once; again where that failed.
+function stationModule() {
+  module ??= unpacked(byId("module").textContent).catch((fault) => {
+    module = null;
+    throw fault;
+  });
+  return module;
+}
+
+// A station in a new worker; what was before is over.
+async function openStation() {
+  const before = machine.link;
+  machine.link = null;
+  before?.end("opened again");
+  /** @type {Link} */
+  const link = new Link(byId("worker").textContent, (message) => machine.link === link && heard(message), (why) => {
+    if (machine.link === link) machine.send({ kind: "stopped", why });
+    else boards.happened((board) => board.link === link, { kind: "stopped", why });
+  });
+  machine.link = link;
+  await link.call("open", { module: await stationModule(), depth: DEPTH });
+  view.number = 0;
+  view.renew();
+}
+
+// What a browser is told that cannot run the module.
+const TOO_OLD = "This browser cannot run the page: it lacks WebAssembly with vectors, or cannot unpack the module. Use Chromium, "
+  + "Chrome or Edge from version 91 on, Firefox from version 113 on, or Safari from version 16.4 on; or the program camplot, "
+  + "which does the same from a script.";
+
+// A module that sets a vector and fills a part of its memory, and nothing else.
+const TRIAL = new Uint8Array([0, 97, 115, 109, 1, 0, 0, 0, 1, 4, 1, 96, 0, 0, 3, 2, 1, 0, 5, 3, 1, 0, 1, 10, 32, 1, 30, 0,
+  253, 12, ...new Array(16).fill(0), 26, 65, 0, 65, 0, 65, 0, 252, 11, 0, 11]);
+const canRun = () => typeof DecompressionStream === "function" && WebAssembly.validate(TRIAL);
+
+function keepLooks() {
+  if (machine.kept) machine.kept.keepLooks(boards.looks(looksNow(machine.state, view))).then(() => machine.settle());
+}
+
+function listen() {
+  listenToLooks(machine, view);
+  listenToLayers(machine);
+  listenToLayerSettings(machine, view);
+  listenToHistory(machine, view);
+  listenToPictures(machine, view);
+  listenToItemList(machine);
+  listenToItems(machine);
+  listenToRefused(machine);
+  listenToGroups(machine);
+  listenToFiles(machine, (files) => nets.take(files));
+  listenToScript(machine, view);
+  listenToQuestions(machine);
+  listenToKept(machine, () => askForScript(machine));
+  byId("drawing-stop").onclick = () => machine.link?.send({ number: 0, kind: "halt" });
+  listenToLeaving(machine, boards);
+  boards.listen();
+  machine.panel(({ said }) => [said], ({ said: { text, isFault } }) => tell(text, isFault));
+  machine.panel((state) => [state.layers, state.opened, state.comparison, state.station, isOpening(state)], () => view.change());
+  machine.draw();
+}
+
+// What is kept of the looks is written when it changes, and when the page is hidden.
+function listenToChanges() {
+  machine.panel(({ layers, grid, unit, active, polarity, turn, direction }) => [layers, grid, unit, active, polarity, turn, direction],
+    keepLooks);
+  document.addEventListener("visibilitychange", keepLooks);
+  window.addEventListener("unhandledrejection", ({ reason }) => machine.send({ kind: "fault", why: faultWords(reason) }));
+  window.addEventListener("error", ({ message }) => machine.send({ kind: "fault", why: message || "an error" }));
+}
+
+// What is heard of a journal. A page in which nothing was done yet, and nothing meanwhile, goes on with what another one had,
+// which was closed.
+/** @type {Page.Warn} */
+async function hear({ isFreed = false, ...event }, kept) {
+  if (kept !== machine.kept) return boards.happened((board) => board.kept === kept, event);
+  const found = isFreed && isBlank(machine.state) ? await machine.kept.succeed() : null;
+  if (!found || !isBlank(machine.state)) return machine.send(event);
+  machine.kept.goOn();
+  return machine.send({ kind: "begin", kept: found, contents: null });
+}
 
 async function start() {
-  nameActions();
+  const panels = new Panels(), page = { machine, view, marks, pointer, panels, going, boards, keepLooks };
+  nameActions(page);
   listenToButtons();
   listenToKeys();
-  if (!WebAssembly.validate(TRIAL)) return tell(TOO_OLD, true);
+  panels.listen(machine);
+  if (!canRun()) return tell(TOO_OLD, true);
   knowRefusals(JSON.parse(byId("refusals").textContent));
-  listenToLooks(view);
-  listenToPointer(view, marks);
-  listenToLayers(view);
-  listenToCompared(view);
-  listenToHistory();
-  listenToPictures(view);
-  listenToItemList();
-  listenToFiles();
-  await listenToItems();
-  marks.entryOf = entryOf;
-  view.afterDraw = () => marks.draw();
-  plotView(() => view.window());
+  listen();
+  // Before this a key in a field would have sent its form, and another page come.
+  document.body.inert = false;
   new ResizeObserver(resize).observe(byId("stage"));
   resize();
-  startWorker(byId("worker").textContent, heard);
-  await openStation(await unpacked(byId("module").textContent), DEPTH);
   const contents = await contentsOf(byId("contents").textContent.trim());
   if (contents?.title) document.title = byId("title").textContent = contents.title;
-  journal = await Journal.open(contents?.id ?? "");
-  if (journal.why) tell(journal.why, true);
-  const showUnsaved = listenToLeaving();
-  on("document", async () => {
-    for (const { line, path } of told.slice(-1)) if (path) loaded(line);
-    told.slice(-2).forEach(({ line }) => entriesMayChange(line));
-    await refresh();
-    showUnsaved();
-    if (journal.why) tell(journal.why, true);
-    await journal.keepLooks(looksNow());
-  });
-  on("looks", () => { showUnsaved(); return journal.keepLooks(looksNow()); });
-  on("fit", (box) => box && view.fit(box));
-  document.addEventListener("visibilitychange", () => journal.keepLooks(looksNow()));
-  listenToLine(async (path) => session.get(path) ?? null);
-  chooseTool("pick");
-  keepIn(journal);
+  journal = contents?.id ?? "";
+  const opened = await Kept.open(journal, hear);
+  Object.assign(machine, { kept: opened });
+  const kept = await opened.read();
+  Object.assign(opened, { looks: kept.looks });
+  machine.send({ kind: "begin", kept, contents });
+  listenToChanges();
   try {
-    await begin(journal, contents, view);
+    await openStation();
+    machine.send({ kind: "started" });
   } catch (fault) {
-    tell(`What was kept could not be replayed (${fault.message}). Start over, or save the script.`, true);
+    stopped(fault);
   }
-  showUnsaved();
+  await machine.begun();
+  await boards.restore(kept.looks?.registry);
+  going.listen();
   document.body.dataset.ready = "yes";
 }
 
 // For tests and for those who look with a browser's own tools.
-globalThis.camplot = { state, view, marks, run, steps, told, pick, pickAt, pickIn, pickPlace, compare, compareChosen, leave,
-  openFiles, plot, saved, session, makeActive, fit, snapped };
+globalThis.camplot = {
+  view, marks, pointer, saved, snapped, machine, nets, going, boards,
+  get state() { return machine.state; },
+  get steps() { return machine.state.steps; },
+  get told() { return machine.state.told; },
+  get session() { return sessionOf(machine.state); },
+  idle: () => machine.idle(),
+  scriptText: () => scriptText(machine.state),
+  run: (lines) => machine.gesture({ kind: "lines", lines, window: view.window() }),
+  pickAt: (x, y, reach, isAdded = false) =>
+    machine.gesture({ kind: "pickAt", x, y, reach, isAdded, pile: pileOf(machine.state) }),
+  pickIn: (box, isAdded = false) => machine.gesture({ kind: "pickIn", box, isAdded, pile: pileOf(machine.state) }),
+  pick: (places, isAdded = false) => machine.gesture({ kind: "picks", places, isAdded }),
+  pickPlace: (name, place) => machine.gesture({ kind: "picks", places: [{ name, place }], isShown: true }),
+  compare: (back) => machine.gesture({ kind: "compare", back }),
+  compareChosen: (names) => compareChosen(machine, names),
+  leave: () => machine.send({ kind: "leave" }),
+  openFiles: async (given, areNamed = true) => {
+    const { files, faults, isAny } = await withUnpacked(given), rest = nets.take(files);
+    return rest.length || faults.length || !files.length ? machine.open(rest, areNamed && !isAny, faults) : { opened: [], refused: [] };
+  },
+  plot: (layers, pitch, form) => machine.gesture({ kind: "plot", names: layers.map(({ name }) => name), pitch, form }),
+  makeActive: (name) => machine.gesture({ kind: "choose", name }),
+  fit: () => machine.gesture({ kind: "fit" }),
+};
 
-start().catch((fault) => tell(`The page could not start: ${fault.message ?? fault}`, true));
+start().catch((fault) => tell(`The page could not start: ${faultWords(fault)}`, true));

@@ -8,6 +8,7 @@ const crcs = new Uint32Array(256).map((_, byte) => {
   return value;
 });
 
+/** @param {Uint8Array[]} parts */
 export function crc32(...parts) {
   let value = 0xffffffff;
   for (const part of parts) for (const byte of part) value = value >>> 8 ^ crcs[(value ^ byte) & 255];
@@ -15,7 +16,8 @@ export function crc32(...parts) {
 }
 
 // Numbers of 2 and 4 bytes, the least byte first: [[value, bytes], ..].
-function littles(...fields) {
+/** @param {[value: number, bytes: number][]} fields */
+export function littles(...fields) {
   const bytes = new Uint8Array(fields.reduce((sum, [, count]) => sum + count, 0));
   let at = 0;
   for (const [value, count] of fields) {
@@ -28,11 +30,13 @@ function littles(...fields) {
 const DATE = 0x21;
 
 // The bytes of a ZIP file of these files, [{ name, bytes }], as a list of parts.
+/** @param {Page.File[]} files */
 export function zipOf(files) {
   const parts = [], index = [];
   let at = 0;
   for (const { name, bytes } of files) {
     const path = text.encode(name), crc = crc32(bytes);
+    /** @type {[value: number, bytes: number][]} */
     const about = [[20, 2], [0x800, 2], [0, 2], [0, 2], [DATE, 2], [crc, 4], [bytes.length, 4], [bytes.length, 4],
       [path.length, 2], [0, 2]];
     const head = littles([0x04034b50, 4], ...about);
@@ -45,6 +49,7 @@ export function zipOf(files) {
   return [...parts, ...index, end];
 }
 
+/** @param {number[]} values */
 function bigs(...values) {
   const bytes = new Uint8Array(4 * values.length);
   const view = new DataView(bytes.buffer);
@@ -52,28 +57,48 @@ function bigs(...values) {
   return bytes;
 }
 
+/** @param {string} name @param {Uint8Array[]} parts */
 function chunk(name, ...parts) {
   const head = text.encode(name), size = parts.reduce((sum, part) => sum + part.length, 0);
   return [bigs(size), head, ...parts, bigs(crc32(head, ...parts))];
 }
 
+/** @param {Uint8Array} bytes */
 async function deflated(bytes) {
   const stream = new Blob([bytes]).stream().pipeThrough(new CompressionStream("deflate"));
   return new Uint8Array(await new Response(stream).arrayBuffer());
 }
 
 // The PNG file of a raw PBM file, black on white, with the pixels a metre of its pitch in nm.
-export async function pngOf(pbm, pitch) {
+/** @param {Uint8Array} pbm @param {number} pitch */
+export const pngOf = (pbm, pitch) => pngWith(pbm, pitch, 0, 255, []);
+
+// The same with what is black in a colour, "#rrggbb", and the rest clear.
+/** @param {Uint8Array} pbm @param {number} pitch @param {string} colour */
+export function inkPngOf(pbm, pitch, colour) {
+  const parts = [1, 3, 5].map((at) => parseInt(colour.slice(at, at + 2), 16));
+  return pngWith(pbm, pitch, 3, 0, [...chunk("PLTE", new Uint8Array([0, 0, 0, ...parts])), ...chunk("tRNS", new Uint8Array([0]))]);
+}
+
+// `kind` is the colour type of the PNG, `white` what each byte of the PBM file is turned by, and `palette` the chunks of one.
+/**
+ * @param {Uint8Array} pbm
+ * @param {number} pitch
+ * @param {number} kind
+ * @param {number} white
+ * @param {Uint8Array[]} palette
+ */
+async function pngWith(pbm, pitch, kind, white, palette) {
   const head = /^P4\s(\d+)\s(\d+)\s/.exec(String.fromCharCode(...pbm.subarray(0, 40)));
   const width = Number(head[1]), height = Number(head[2]), stride = width + 7 >> 3;
   const lines = new Uint8Array((stride + 1) * height);
   for (let row = 0, from = head[0].length; row < height; row++) {
     const to = row * (stride + 1) + 1;
-    for (let byte = 0; byte < stride; byte++) lines[to + byte] = ~pbm[from++];
+    for (let byte = 0; byte < stride; byte++) lines[to + byte] = pbm[from++] ^ white;
   }
   const metre = Math.min(0xffffffff, Math.round(1e9 / pitch));
   return [new Uint8Array([0x89, 80, 78, 71, 13, 10, 26, 10]),
-    ...chunk("IHDR", bigs(width, height), new Uint8Array([1, 0, 0, 0, 0])),
+    ...chunk("IHDR", bigs(width, height), new Uint8Array([1, kind, 0, 0, 0])),
     ...chunk("pHYs", bigs(metre, metre), new Uint8Array([1])),
-    ...chunk("IDAT", await deflated(lines)), ...chunk("IEND")];
+    ...palette, ...chunk("IDAT", await deflated(lines)), ...chunk("IEND")];
 }

@@ -1,216 +1,325 @@
-// What the pointer does on the board: picking, moving, boxes, panning, zooming, measuring and drawing.
+// What the pointer does on the board: it pans, zooms and measures by itself; picking, moving, boxes and drawing become
+// events of the machine. A finger pans and taps, and one that is held drags what is picked. The points of a tool snap to items.
 
+import { Fingers } from "./fingers.js";
 import { byId, tell } from "./dom.js";
-import { pick, pickAt, pickIn } from "./picking.js";
-import { Making, drawingTools } from "./drawing_tools.js";
-import { changed, on, state } from "./state.js";
-import { insert, move } from "./editing.js";
-import { mm, point, snapped } from "./units.js";
-import { joined } from "./items.js";
+import { point } from "./units.js";
+import { Grip } from "./grips.js";
+import { Snaps, takesPoints } from "./snaps.js";
+import { distanceWords } from "./marks.js";
+import { drawingTools } from "./drawing_tools.js";
+import { makingOf } from "./machine/immediate.js";
+import { shownLayers } from "./machine/state.js";
 
-// How far the pointer may go in a click, in pixels of the page.
-const STILL = 4;
-// How long it rests before the page looks what lies there.
+// How far the pointer may go in a click, and a finger in a tap, in pixels of the page: a hand is not still, and a finger is broader
+// than a pointer.
+const STILL = 4, STILL_FINGER = 10;
+// How long it rests before the page looks what lies there, which reads a pixel of each picture: some frames.
 const REST_MS = 60;
 
-let view = null, marks = null;
-let drag = null, making = null;
-// Fingers on the board by their number, for pinches.
-const fingers = new Map();
-
-export const pointer = { last: null };
-
-function onCanvas(event) {
-  const box = byId("marks").getBoundingClientRect();
-  return { x: (event.clientX - box.left) * view.density, y: (event.clientY - box.top) * view.density };
-}
-
+/** @param {Page.Point} at */
 const whole = ({ x, y }) => ({ x: Math.round(x), y: Math.round(y) });
 
-export const pointUnder = ({ x, y }) => whole(view.pointAt(x, y));
+// The shown layers, the topmost first: where a click looks.
+/** @param {Page.State} state */
+export const pileOf = (state) => shownLayers(state).map(({ name }) => name).reverse();
 
-// Whether a point lies in the box of something picked: a drag from there moves it.
-function isOnPicked({ x, y }) {
-  const reach = 3 * view.density * view.pitch;
-  return state.picked.some(({ box }) => box && x >= box.left - reach && x <= box.right + reach && y >= box.low - reach
-    && y <= box.high + reach);
-}
-
-function beginDrag(event) {
-  const at = onCanvas(event), from = pointUnder(at);
-  const base = { at, from, start: at, hasMoved: false, isAdded: event.shiftKey || event.ctrlKey };
-  const isPan = event.button === 1 || event.button === 2 || state.tool === "pan" || fingers.size > 1;
-  if (isPan) return { ...base, kind: "pan" };
-  if (state.tool === "measure") return { ...base, kind: "measure" };
-  if (drawingTools[state.tool]) return { ...base, kind: "draw" };
-  return { ...base, kind: !base.isAdded && isOnPicked(from) ? "move" : "box" };
-}
-
-const shiftOf = (from, to) =>
-  ({ x: snapped(to.x - from.x, state.grid), y: snapped(to.y - from.y, state.grid) });
-
-function dragOn(at) {
-  const to = pointUnder(at);
-  drag.hasMoved ||= Math.hypot(at.x - drag.start.x, at.y - drag.start.y) > STILL * view.density;
-  if (drag.kind === "measure") marks.measured = [drag.from, to];
-  if (!drag.hasMoved) return;
-  if (drag.kind === "pan") {
-    view.pan(at.x - drag.at.x, at.y - drag.at.y);
-    byId("stage").classList.add("dragging");
-  } else if (drag.kind === "move") {
-    marks.shift = shiftOf(drag.from, to);
-    tell(`by ${point(marks.shift.x, marks.shift.y)}`);
-  } else if (drag.kind === "box") {
-    marks.dragged = [drag.from, to];
+export class Pointer {
+  /** @param {Page.Runner} machine @param {Page.View} view @param {Page.Marks} marks */
+  constructor(machine, view, marks) {
+    this.machine = machine;
+    this.view = view;
+    this.marks = marks;
+    // Where it is, in pixels of the canvas; and what is dragged.
+    /** @type {Page.Point | null} */
+    this.last = null;
+    /** @type {Page.Drag | null} */
+    this.drag = null;
+    this.fingers = new Fingers(view, () => this.held());
+    this.snaps = new Snaps(machine, view);
+    this.snaps.onFound = () => this.look();
+    this.resting = 0;
+    /** @type {(place: Page.Point) => void} */
+    this.onNet = () => {};
+    this.listen(byId("marks"));
+    machine.panel(({ picked, making, tool, entry }) => [picked, making, tool, entry], () => this.show());
+    machine.panel(({ tool }) => [tool], ({ tool }) => this.showTool(tool));
+    machine.panel(({ unit, origin }) => [unit, origin], () => { if (this.last) this.showPlace(this.last); });
+    machine.panel(({ making }) => [making], ({ making }) => { byId("making").hidden = !making?.points.length; });
   }
-  drag.at = at;
-}
 
-async function endDrag(event) {
-  const { kind, from, hasMoved, isAdded } = drag;
-  const to = pointUnder(onCanvas(event));
-  drag = null;
-  byId("stage").classList.remove("dragging");
-  if (kind === "draw") return addPoint(to, event.shiftKey);
-  if (kind === "pan" || kind === "measure") return;
-  const shift = marks.shift;
-  marks.dragged = null;
-  if (!hasMoved) {
-    marks.shift = null;
-    await pickAt(to.x, to.y, STILL * 2 * view.density * view.pitch, isAdded);
-  } else if (kind === "move") {
-    await move(shift.x, shift.y);
-    marks.shift = null;
-  } else {
-    await pickIn({ left: Math.min(from.x, to.x), low: Math.min(from.y, to.y), right: Math.max(from.x, to.x),
-      high: Math.max(from.y, to.y) }, isAdded);
+  /** @param {MouseEvent} event */
+  onCanvas(event) {
+    const box = byId("marks").getBoundingClientRect(), { density } = this.view;
+    return { x: (event.clientX - box.left) * density, y: (event.clientY - box.top) * density };
   }
-  marks.draw();
-}
 
-async function addPoint(at, isCentre) {
-  if (!making) return;
-  const words = making.add(at, isCentre);
-  showMaking(at);
-  if (words) await insert(words);
-}
-
-function showMaking(at) {
-  marks.drawn = making?.preview(at) ?? null;
-  marks.draw();
-}
-
-// Ends a region or a rout that has points enough.
-export async function endMaking() {
-  const words = making?.end();
-  marks.drawn = null;
-  marks.draw();
-  if (words) await insert(words);
-  else if (making?.points.length) tell("It has too few points.", true);
-}
-
-export function chooseTool(name) {
-  state.tool = name;
-  making = drawingTools[name] ? new Making(name) : null;
-  marks.drawn = null;
-  if (name !== "measure") marks.measured = null;
-  byId("marks").dataset.tool = name;
-  for (const other of document.querySelectorAll("[data-tool-button]")) {
-    other.setAttribute("aria-pressed", String(other.dataset.toolButton === name));
+  /** @param {Page.Point} at */
+  under({ x, y }) {
+    return whole(this.view.pointAt(x, y));
   }
-  const hint = drawingTools[name]?.hint;
-  if (hint) tell(hint);
-  marks.draw();
-  changed("tool");
-}
 
-// What Escape does: first what is being drawn is let go, then the tool, then what is picked.
-export async function escape() {
-  if (state.comparison) return changed("compared", null);
-  if (making?.points.length) {
-    making.forget();
-    marks.drawn = null;
-  } else if (state.tool !== "pick") {
-    chooseTool("pick");
-  } else if (state.picked.length) {
-    await pick([]);
+  // The point that a tool takes: what it snaps to, or else the one under the pointer.
+  /** @param {Page.Point} at @returns {Page.Tapped} */
+  taken(at) {
+    const plain = this.under(at), snap = takesPoints(this.machine.state.tool) ? this.snaps.at(plain) : null;
+    this.marks.signs.snap = snap;
+    return snap ? { x: snap.x, y: snap.y, isSnapped: true } : plain;
   }
-  marks.measured = null;
-  marks.draw();
-}
 
-function pinch() {
-  const [one, other] = [...fingers.values()];
-  return { x: (one.x + other.x) / 2, y: (one.y + other.y) / 2, span: Math.hypot(one.x - other.x, one.y - other.y) };
-}
+  // Shows what the pointer's point snaps to, with what it has of items there.
+  look() {
+    const { drag, last, marks } = this;
+    if (!last) return;
+    if (drag) this.dragOn(last);
+    else if (takesPoints(this.machine.state.tool)) this.taken(last);
+    else marks.signs.snap = null;
+    this.show();
+  }
 
-function pinchOn(event) {
-  const before = pinch();
-  fingers.set(event.pointerId, onCanvas(event));
-  const now = pinch();
-  view.pan(now.x - before.x, now.y - before.y);
-  if (before.span > 0) view.zoom(now.span / before.span, now.x, now.y);
-}
+  // Whether a point lies in the box of something picked: a drag from there moves it.
+  /** @param {Page.Point} at @param {number} still */
+  isOnPicked({ x, y }, still = 3) {
+    const reach = still * this.view.density * this.view.pitch;
+    return this.machine.state.picked.some(({ box }) => box && x >= box.left - reach && x <= box.right + reach
+      && y >= box.low - reach && y <= box.high + reach);
+  }
 
-// The point under the pointer and, once it rests, what is black there.
-let resting = 0;
-function showPlace(at) {
-  const { x, y } = pointUnder(at);
-  byId("place").textContent = `${x} ${y} nm   ${mm(x)}, ${mm(y)} mm`;
-  clearTimeout(resting);
-  resting = setTimeout(() => {
-    const black = view.blackAt(at.x, at.y);
-    byId("dark").textContent = black.length ? `black in ${black.join(", ")}` : "";
-  }, REST_MS);
-}
+  /** @param {PointerEvent} event @returns {Page.Drag} */
+  begin(event) {
+    const { state } = this.machine, at = this.onCanvas(event), from = this.under(at);
+    const isFinger = event.pointerType === "touch", still = isFinger ? STILL_FINGER : STILL;
+    const base = { at, from, start: at, still, hasMoved: false, isAdded: event.shiftKey || event.ctrlKey };
+    const isPan = event.button === 1 || event.button === 2 || state.tool === "pan";
+    if (isPan) return { ...base, kind: "pan", isMenu: event.button === 2 };
+    if (state.tool === "measure") return { ...base, from: this.taken(at), kind: "measure" };
+    if (isFinger) return { ...base, kind: "tap" };
+    if (state.tool === "net") return { ...base, kind: "net" };
+    if (takesPoints(state.tool)) return { ...base, kind: "draw" };
+    const grip = base.isAdded ? null : this.gripAt(at, from);
+    return grip ? { ...base, kind: "grip", grip } : { ...base, kind: "box" };
+  }
 
-export function listenToPointer(opened, over) {
-  view = opened;
-  marks = over;
-  const canvas = byId("marks");
-  canvas.onpointerdown = (event) => {
-    canvas.focus({ preventScroll: true });
-    try {
-      canvas.setPointerCapture(event.pointerId);
-    } catch {
-      // A pointer that is gone already is not followed.
+  // What is dragged from a place: a handle of what is picked, or all that is; null where nothing of it lies there.
+  /** @param {Page.Point} at @param {Page.Point} from @param {number} still */
+  gripAt(at, from, still = 3) {
+    const { machine, marks, view } = this, handle = marks.signs.handleAt(at, 2 * still * view.density);
+    return handle === null && !this.isOnPicked(from, still) ? null : new Grip(machine.state, handle, from, this.snaps);
+  }
+
+  /** @param {Page.Point} at */
+  dragOn(at) {
+    const { drag, marks, view } = this, to = this.under(at), { unit } = this.machine.state;
+    drag.hasMoved ||= Math.hypot(at.x - drag.start.x, at.y - drag.start.y) > drag.still * view.density;
+    if (drag.kind === "measure") {
+      marks.measured = [drag.from, this.taken(at)];
+      tell(distanceWords(...marks.measured, unit));
     }
-    if (event.pointerType === "touch") fingers.set(event.pointerId, onCanvas(event));
-    drag = beginDrag(event);
-  };
-  canvas.onpointermove = (event) => {
-    const at = onCanvas(event);
-    pointer.last = marks.pointer = at;
-    if (fingers.size === 2 && fingers.has(event.pointerId)) pinchOn(event);
-    else if (drag) dragOn(at);
-    else if (making) showMaking(pointUnder(at));
-    showPlace(at);
-    view.paint();
-  };
-  canvas.onpointerup = (event) => {
-    fingers.delete(event.pointerId);
-    if (drag) endDrag(event);
-  };
-  canvas.onpointercancel = (event) => {
-    fingers.delete(event.pointerId);
-    drag = marks.shift = marks.dragged = null;
-  };
-  canvas.onpointerleave = () => {
-    marks.pointer = null;
-    view.paint();
-  };
-  canvas.ondblclick = () => endMaking();
-  canvas.oncontextmenu = (event) => event.preventDefault();
-  canvas.addEventListener("wheel", (event) => {
-    event.preventDefault();
-    const { x, y } = onCanvas(event);
-    const lines = event.deltaMode === 1 ? 30 : 1;
-    view.zoom(Math.exp(-event.deltaY * lines * 0.0018), x, y);
-  }, { passive: false });
-  on("picked", () => view.paint());
-}
+    if (!drag.hasMoved) return;
+    if (drag.kind === "pan" || drag.kind === "tap") {
+      view.pan(at.x - drag.at.x, at.y - drag.at.y);
+      byId("stage").classList.add("dragging");
+    } else if (drag.kind === "grip") {
+      this.dragGrip(drag.grip, to);
+    } else if (drag.kind === "box") {
+      marks.dragged = [drag.from, to];
+      tell(at.x < drag.start.x ? "picks what the box touches" : "picks what lies in the box");
+    }
+    drag.at = at;
+  }
 
-export const showPicked = () => {
-  const box = joined(state.picked.map((item) => item.box));
-  if (box) view.fit(box, 0.3);
-};
+  // What is gripped goes with the pointer: by the grid, or to what it snaps to.
+  /** @param {Grip} grip @param {Page.Point} to */
+  dragGrip(grip, to) {
+    const { marks, machine: { state: { unit } } } = this;
+    grip.dragTo(to);
+    marks.signs.snap = grip.snap;
+    if (grip.isHandle) {
+      marks.signs.reshaped = grip.preview;
+      tell(`to ${point(grip.to.x, grip.to.y, unit)}`);
+    } else {
+      marks.shift = grip.shift;
+      tell(`by ${point(grip.shift.x, grip.shift.y, unit)}`);
+    }
+  }
+
+  // A finger is held: it drags what is picked from now on, and where nothing is that was, what lies there; else a box.
+  held() {
+    const { drag, machine } = this;
+    if (drag?.kind !== "tap" || drag.hasMoved || machine.state.tool !== "pick") return;
+    const take = () => {
+      if (this.drag !== drag || drag.hasMoved) return;
+      const grip = this.gripAt(drag.start, drag.from, drag.still);
+      Object.assign(drag, { isHeld: true }, grip ? { kind: "grip", grip } : { kind: "box" });
+      tell(grip ? "held: a drag moves it, and lifted here it lists what lies here"
+        : "held: a drag picks what lies in its box");
+      navigator.vibrate?.(15);
+    };
+    if (this.gripAt(drag.start, drag.from, drag.still)) take();
+    else machine.gesture({ kind: "pickAt", ...drag.from, reach: 0, isAdded: false, pile: pileOf(machine.state) }).then(take);
+  }
+
+  // A click or a tap, by the tool.
+  /** @param {Page.Point} at @param {Page.Drag} drag @param {boolean} isCentre */
+  press(at, { isAdded, still }, isCentre) {
+    const { machine, view } = this, { tool } = machine.state, to = this.under(at);
+    if (tool === "net") this.onNet(to);
+    else if (tool === "origin") this.setOrigin(this.taken(at));
+    else if (drawingTools[tool]) machine.send({ kind: "point", ...this.taken(at), isCentre });
+    else machine.gesture({ kind: "pickAt", ...to, reach: still * 2 * view.density * view.pitch, isAdded, pile: pileOf(machine.state) });
+  }
+
+  // The menu of all that lies at a place.
+  /** @param {Page.Point} at */
+  list(at) {
+    this.machine.gesture({ kind: "pile", ...this.under(at), pile: pileOf(this.machine.state) });
+  }
+
+  // Lengths are shown from a point then, and another tool is not wanted any more.
+  /** @param {Page.Point} at */
+  setOrigin({ x, y }) {
+    const { machine } = this;
+    machine.send({ kind: "setting", changes: { origin: { x, y } } });
+    if (machine.state.tool === "origin") machine.send({ kind: "tool", name: "pick" });
+  }
+
+  /** @param {PointerEvent} event */
+  end(event) {
+    const { machine, marks, drag } = this, { kind, from, hasMoved, isAdded, grip } = drag;
+    const at = this.onCanvas(event), to = this.under(at);
+    this.drag = null;
+    byId("stage").classList.remove("dragging");
+    if (kind === "pan" && drag.isMenu && !hasMoved) return this.list(at);
+    if (kind === "pan" || kind === "measure" || kind === "tap" && hasMoved) return;
+    if (kind === "net" || kind === "draw" || kind === "tap") return this.press(at, drag, event.shiftKey);
+    const pile = pileOf(machine.state), letGo = () => this.letGo();
+    marks.dragged = marks.signs.snap = null;
+    if (!hasMoved) {
+      letGo();
+      if (drag.isHeld) this.list(at);
+      else this.press(at, drag, false);
+    } else if (kind === "grip") {
+      machine.gesture(grip.gesture()).then(letGo);
+    } else {
+      const [left, right, low, high] = [Math.min(from.x, to.x), Math.max(from.x, to.x), Math.min(from.y, to.y),
+        Math.max(from.y, to.y)];
+      letGo();
+      machine.gesture({ kind: "pickIn", box: { left, low, right, high }, isAdded, isTouched: at.x < drag.start.x, pile });
+    }
+    return undefined;
+  }
+
+  letGo() {
+    this.marks.shift = this.marks.signs.reshaped = null;
+    this.marks.draw();
+  }
+
+  // Lets go of what is dragged, and nothing of it is done.
+  drop() {
+    this.drag = this.marks.dragged = this.marks.signs.snap = null;
+    byId("stage").classList.remove("dragging");
+    this.letGo();
+  }
+
+  // What is being drawn, with the pointer as its next point.
+  show() {
+    const making = makingOf(this.machine.state);
+    this.marks.drawn = making && this.last ? making.preview(this.taken(this.last)) : null;
+    this.view.paint();
+    this.marks.draw();
+  }
+
+  /** @param {string} tool */
+  showTool(tool) {
+    if (tool !== "measure") this.marks.measured = null;
+    if (!takesPoints(tool)) this.marks.signs.snap = null;
+    byId("marks").dataset.tool = tool;
+    for (const other of /** @type {NodeListOf<HTMLElement>} */ (document.querySelectorAll("[data-tool-button]"))) {
+      other.setAttribute("aria-pressed", String(other.dataset.toolButton === tool));
+    }
+    this.marks.draw();
+  }
+
+  // Asks what lies near the pointer where its point snaps to it.
+  /** @param {Page.Point} at */
+  lookAt(at) {
+    const { drag } = this, { tool } = this.machine.state;
+    if (drag?.kind === "grip") this.snaps.look(drag.grip.lookAt(this.under(at)));
+    else if (takesPoints(tool)) this.snaps.look(this.under(at));
+    if (takesPoints(tool)) this.show();
+    if (tool === "measure" || tool === "origin") this.taken(at);
+  }
+
+  // A finger more: two of them pinch, and what one of them dragged is let go.
+  /** @param {PointerEvent} event */
+  putFinger(event) {
+    this.fingers.put(event.pointerId, this.onCanvas(event));
+    if (this.fingers.count > 1 && this.drag) this.drop();
+    return this.fingers.count === 1;
+  }
+
+  // One of two fingers is lifted: the other one pans.
+  /** @param {PointerEvent} event */
+  liftFinger({ pointerId }) {
+    const at = this.fingers.lift(pointerId);
+    if (at) this.drag = { kind: "pan", at, from: this.under(at), start: at, still: STILL_FINGER, hasMoved: false };
+    return at === null;
+  }
+
+  // The point under the pointer and, once it rests, what is black there.
+  /** @param {Page.Point} at */
+  showPlace(at) {
+    const { x, y } = this.under(at), { unit, origin } = this.machine.state;
+    const fromOrigin = origin ? `   from the origin ${point(x - origin.x, y - origin.y, unit)}` : "";
+    byId("place").textContent = `${x} ${y} nm   ${point(x, y, unit)}${fromOrigin}`;
+    clearTimeout(this.resting);
+    this.resting = setTimeout(() => {
+      const black = this.view.blackAt(at.x, at.y);
+      byId("dark").textContent = black.length ? `black in ${black.join(", ")}` : "";
+    }, REST_MS);
+  }
+
+  /** @param {HTMLElement} canvas */
+  listen(canvas) {
+    canvas.onpointerdown = (event) => {
+      canvas.focus({ preventScroll: true });
+      document.getSelection().removeAllRanges();
+      try {
+        canvas.setPointerCapture(event.pointerId);
+      } catch {
+        // A pointer that is gone already is not followed.
+      }
+      if (event.pointerType !== "touch" || this.putFinger(event)) this.drag = this.begin(event);
+      // (a finger was nowhere before)
+      if (event.pointerType === "touch") this.lookAt(this.last = this.onCanvas(event));
+    };
+    canvas.onpointermove = (event) => {
+      const at = this.onCanvas(event);
+      this.last = this.marks.pointer = at;
+      if (!this.fingers.move(event.pointerId, at) && this.drag) this.dragOn(at);
+      if (this.drag?.hasMoved) this.fingers.rest();
+      this.lookAt(at);
+      this.showPlace(at);
+      this.view.paint();
+    };
+    canvas.onpointerup = (event) => {
+      this.last = this.onCanvas(event);
+      if (this.liftFinger(event) && this.drag) this.end(event);
+    };
+    canvas.onpointercancel = (event) => {
+      this.fingers.lift(event.pointerId);
+      this.drop();
+    };
+    canvas.onpointerleave = () => {
+      this.marks.pointer = null;
+      this.view.paint();
+    };
+    canvas.ondblclick = () => this.machine.send({ kind: "endMaking" });
+    canvas.oncontextmenu = (event) => event.preventDefault();
+    canvas.addEventListener("wheel", (event) => {
+      event.preventDefault();
+      const { x, y } = this.onCanvas(event), lines = event.deltaMode === 1 ? 30 : 1;
+      this.view.zoom(Math.exp(-event.deltaY * lines * 0.0018), x, y);
+    }, { passive: false });
+  }
+}

@@ -1,34 +1,45 @@
-// Files that were refused: what is wrong with each, and converting it under a person's choices, each change of which is
-// shown before it is made.
+// Files that were refused: what is wrong with each, and how it can be converted under a person's choices, each change of
+// which is shown before it is made.
 
-import { ask, button, byId, element, field, tell } from "./dom.js";
-import { convertedOf, firstChoices } from "./converting.js";
+import { button, byId, element, field, redraw } from "./dom.js";
+import { CHOICES } from "../convert/choices.js";
+import { Converter } from "./converter.js";
 import { refusalWords } from "./refusals.js";
 
+/**
+ * A choice with its input; a way to read a file; and what a file is converted to first, by which choices.
+ * @typedef {import("../convert/choices.js").Choice & { input: HTMLInputElement | HTMLSelectElement }} Field
+ * @typedef {{ choices: Page.Choices, words: string[] }} Way
+ * @typedef {{ choices: Page.Choices, converted: Page.Converted }} First
+ */
+
+// So many refusals are told one by one, so that the choices stay in sight.
 const SHOWN = 12;
 
-const select = (...rows) => element("select", {}, ...rows.map(([value, label]) => element("option", { value }, label)));
-const tick = () => element("input", { type: "checkbox" });
-const typed = (placeholder) => element("input", { type: "text", placeholder, spellcheck: false });
-const UNITS = [["", "as in the file"], ["mm", "mm"], ["inch", "inch"]];
+// In files up to so many bytes the ways to convert them are looked for, each of which is a conversion: a large one is not converted
+// several times for a question.
+const FEW_BYTES = 2e6;
 
-// The choices for a kind of file: the name of each, what it is called, and its input.
-const FIELDS = {
-  gerber: () => [
-    ["nearest", "to the nearest nm", tick()],
-    ["unit", "unit", select(...UNITS)],
-    ["arcs", "arcs", select(["", "as in the file"], ["single", "of one quadrant, without signs"],
-      ["multi", "of any angle, with signs"])],
-    ["repeat", "a point alone repeats flashes and moves", tick()],
-  ],
-  drill: () => [
-    ["unit", "unit", select(...UNITS)],
-    ["digits", "digits", typed("2:4")],
-    ["zeros", "zeros that are written", select(["", "as in the file"], ["leading", "leading"], ["trailing", "trailing"])],
-    ["tools", "diameters", typed("1=0.8mm 2=40mil")],
-    ["report", "report of the program", element("input", { type: "file" })],
-  ],
+/** @type {Record<import("../convert/choices.js").Choice["form"], (choice: import("../convert/choices.js").Choice) => HTMLInputElement | HTMLSelectElement>} */
+const INPUTS = {
+  switch: () => element("input", { type: "checkbox" }),
+  one: ({ values }) => element("select", {}, ...[["", "as in the file"], ...values].map(([value, label]) =>
+    element("option", { value }, label))),
+  text: ({ example }) => element("input", { type: "text", placeholder: example, spellcheck: false }),
+  file: () => element("input", { type: "file" }),
 };
+
+// The choices for a kind of file, each with its input.
+/** @param {Page.LayerKind} kind */
+export const fieldsOf = (kind) => CHOICES[kind].map((choice) => ({ ...choice, input: INPUTS[choice.form](choice) }));
+
+/** @param {Field[]} fields @param {Page.Choices} choices */
+export function fill(fields, choices) {
+  for (const { name, form, input } of fields) {
+    if (form === "switch") Object.assign(input, { checked: choices[name] ?? false });
+    else if (form !== "file") input.value = choices[name] ?? "";
+  }
+}
 
 async function valueOf(input) {
   if (input.type === "checkbox") return input.checked;
@@ -37,17 +48,20 @@ async function valueOf(input) {
   return file ? { name: file.name, bytes: new Uint8Array(await file.arrayBuffer()) } : null;
 }
 
-async function choicesOf(fields) {
+/** @param {Field[]} fields @returns {Promise<Page.Choices>} */
+export async function choicesOf(fields) {
   const choices = {};
-  for (const [name, , input] of fields) choices[name] = await valueOf(input);
+  for (const { name, input } of fields) choices[name] = await valueOf(input);
   return choices;
 }
 
+/** @param {string[]} lines @param {string} className */
 function listOf(lines, className = "changes") {
   return element("ul", { className }, ...lines.map((line) => element("li", {}, line)));
 }
 
 // What comes of the choices, in words.
+/** @param {Page.Converted} converted @param {string} kind */
 function outcome(converted, kind) {
   if (converted === null) return [element("p", {}, "Nothing in it needs a change.")];
   if (!converted.refusals) return [element("p", {}, kind === "drill" ? "It is read so, and changed so:"
@@ -57,52 +71,143 @@ function outcome(converted, kind) {
   return [element("p", { className: "fault" }, "So it cannot be converted:"), listOf([...refusals.slice(0, SHOWN), ...more])];
 }
 
-// Asks how a file is to be converted; the bytes with their changes, or null where it is left out.
-async function asked({ kind, file }, words) {
-  const fields = FIELDS[kind](), first = firstChoices(kind, file.bytes);
-  for (const [name, , input] of fields) if (first[name] !== undefined) input.checked = first[name];
-  const seen = element("div", { "aria-live": "polite" });
-  const choose = element("details", { id: "choices" }, element("summary", {}, "Choices"),
-    ...fields.map(([, label, input]) => field(label, input)));
-  let converted = null, turn = 0;
-  const renew = async () => {
-    const mine = ++turn, found = convertedOf(kind, file.bytes, await choicesOf(fields));
-    if (mine !== turn) return;
-    converted = found;
-    seen.replaceChildren(...outcome(found, kind));
-    byId("question-choices").firstChild.disabled = !found?.bytes;
-  };
-  choose.onchange = renew;
-  choose.oninput = renew;
-  const answer = ask(`Convert ${file.name}?`, [element("p", {}, words), choose, seen],
-    [["Convert and open", "yes"], ["Leave it out", "no"]]);
-  await renew();
-  choose.open = !converted?.bytes;
-  return await answer === "yes" && converted?.bytes ? converted : null;
+// The ways between which a person has to choose, where choices are asked for: a button for each, which makes its choices.
+/** @param {Way[]} found @param {(choices: Page.Choices) => void} take @param {string} words */
+export function waysOffered(found, take, words = "The file does not say how it is to be read. It can be read so:") {
+  if (!found.length) return [];
+  return [element("p", {}, words),
+    element("div", { id: "ways", className: "row" }, ...found.map(({ choices, words }) => button(words.join(", "), () => take(choices))))];
 }
 
-// Shows a refused file and, where it can be converted, offers that; `open` loads what it is converted to, and answers the
-// station's reply.
-export async function showRefused({ layer, reply }, open) {
-  const { bytes, name } = layer.file;
-  const words = refusalWords(reply, bytes, layer.kind);
-  const row = element("li", {}, element("b", {}, name), ` ${words} `);
-  byId("refused").append(row);
-  byId("refused-panel").hidden = false;
-  const first = convertedOf(layer.kind, bytes, firstChoices(layer.kind, bytes));
-  if (!first) return;
-  const offer = async () => {
-    const converted = await asked(layer, words);
-    if (!converted) return;
-    const { isWell, reply: again } = await open(converted.bytes);
-    const told = isWell ? "It was converted and opened." : `What it was converted to is refused too: ${again}.`;
-    row.append(element("p", {}, told));
-    if (isWell) convert.remove();
+// One tries files one after another, the other one converts for the question that is open.
+const trying = new Converter();
+export const asking = new Converter();
+
+// What files that were tried are converted to first, by their bytes, so that a question does not wait for it once more.
+/** @type {WeakMap<Uint8Array, Promise<First>>} */
+const tried = new WeakMap();
+
+// What they are converted to first; by this converter where that is not known yet.
+/** @param {string} layer @param {Uint8Array} bytes @param {Converter} converter @returns {Promise<First>} */
+export function firstOf(layer, bytes, converter = trying) {
+  const known = tried.get(bytes);
+  if (known) return known;
+  const first = converter.call("first", { layer, bytes });
+  if (converter === trying) {
+    tried.set(bytes, first);
+    first.catch(() => tried.delete(bytes));
+  }
+  return first;
+}
+
+/** @param {Uint8Array} bytes */
+export const forgetFirst = (bytes) => tried.delete(bytes);
+
+// The ways to read a file that asks for choices, where it can be read in several.
+/** @param {string} layer @param {Uint8Array} bytes @param {unknown[]} asks @returns {Promise<Way[]>} */
+export async function waysFor(layer, bytes, asks) {
+  if (!asks.length || bytes.length > FEW_BYTES) return [];
+  return asking.call("ways", { layer, bytes }).catch(() => []);
+}
+
+/** @param {Error} fault */
+export const stoppedWords = (fault) => `the conversion ended: ${fault.message}`;
+
+// The part of a question that converts: what comes of the choices in its fields, told in `seen`.
+class Conversion {
+  /** @param {Page.LayerKind} kind @param {Uint8Array} bytes @param {Field[]} fields @param {Page.Allow} allow */
+  constructor(kind, bytes, fields, allow) {
+    this.kind = kind;
+    this.bytes = bytes;
+    this.fields = fields;
+    this.allow = allow;
+    /** @type {Page.Converted} */
+    this.converted = null;
+    this.turn = 0;
+    this.seen = element("div", { "aria-live": "polite" });
+  }
+
+  // Shows what a promise of a conversion comes to, unless another one came behind it; that one, or null.
+  /** @param {Promise<Page.Converted>} promised */
+  async show(promised) {
+    const mine = ++this.turn;
+    this.converted = null;
+    this.allow(false);
+    this.seen.replaceChildren(element("p", { className: "working" }, "It is being converted .."));
+    const found = await promised.catch((fault) => /** @type {Page.Converted} */ ({ refusals: [stoppedWords(fault)], asks: [] }));
+    if (mine !== this.turn) return null;
+    this.converted = found;
+    this.seen.replaceChildren(...outcome(found, this.kind));
+    this.allow(Boolean(found?.bytes));
+    return found;
+  }
+
+  renew() {
+    const { kind: layer, bytes } = this;
+    return this.show(choicesOf(this.fields).then((choices) => asking.instead("converted", { layer, bytes, choices })));
+  }
+
+  // The ways to read the file, where it can be read in several.
+  async ways() {
+    return waysFor(this.kind, this.bytes, this.converted?.asks ?? []);
+  }
+}
+
+// The question how a refused file is to be converted; its answer has the bytes that come of it. It can be left at any time.
+/** @param {Page.State} state @param {Page.QuestionOf<"convert">} question @param {Page.Allow} allow @returns {Page.Dialogue} */
+export function convertQuestion({ refused, files }, question, allow) {
+  const { layer, file, reply } = refused.find(({ id }) => id === question.refused);
+  const { bytes } = files[file], { kind } = layer, fields = fieldsOf(kind), offered = element("div", {});
+  const conversion = new Conversion(kind, bytes, fields, allow), renew = () => conversion.renew();
+  const choose = element("details", { id: "choices" }, element("summary", {}, "Choices"),
+    ...fields.map(({ label, input }) => field(label, input)));
+  choose.onchange = choose.oninput = renew;
+  conversion.show(firstOf(kind, bytes, asking).then(({ choices, converted }) => {
+    if (conversion.turn === 1) fill(fields, choices);
+    choose.open = !converted?.bytes;
+    return converted;
+  })).then(() => conversion.ways()).then((found) => offered.replaceChildren(...waysOffered(found, (choices) => {
+    fill(fields, choices);
+    renew();
+  })));
+  return {
+    title: `Convert ${layer.fileName}?`, parts: [element("p", {}, refusalWords(reply, bytes, kind)), offered, choose, conversion.seen],
+    choices: [["Convert and open", "yes"], ["Leave it out", "no"]],
+    answer: () => ({ bytes: conversion.converted?.bytes ?? null }),
+    end: () => {
+      asking.stop();
+      forgetFirst(bytes);
+    },
   };
-  const convert = button("convert ..", () => offer().catch((fault) => tell(fault.message, true)),
-    { "aria-label": `convert ${name}` });
-  row.append(convert);
-  if (!first.refusals) return offer();
-  const why = first.refusals.slice(0, 5).join("; ");
-  row.append(element("p", {}, `It cannot be converted as it stands: ${why}`));
+}
+
+// Tries whether a refused file can be converted as it stands, and tells the machine; `isAble` is null where there is nothing
+// to convert.
+/** @param {Page.Runner} machine @param {number} id */
+export function tryRefused(machine, id) {
+  const { refused, files } = machine.state, { layer, file } = refused.find((entry) => entry.id === id);
+  const told = (isAble, why = "", asks = []) => machine.send({ kind: "tried", refused: id, isAble, why, asks });
+  machine.await(firstOf(layer.kind, files[file].bytes).then(({ converted }) => {
+    if (converted === null) told(null);
+    else told(!converted.refusals, converted.refusals?.slice(0, 5).join("; "), converted.asks?.map(({ name }) => name));
+  }, (fault) => told(false, stoppedWords(fault))));
+}
+
+/** @param {Page.Runner} machine @param {Page.State} state @param {Page.Refused} entry */
+function row(machine, { files }, { id, layer, file, reply, isTried, offer, note }) {
+  const words = refusalWords(reply, files[file].bytes, layer.kind), { fileName } = layer;
+  const convert = () => button("convert ..", () => machine.send({ kind: "offer", refused: id }),
+    { "aria-label": `convert ${fileName}` });
+  return element("li", { "data-row": id }, element("b", {}, fileName), ` ${words} `, ...offer ? [convert()] : [],
+    ...offer && !offer.isAble ? [element("p", {}, `It cannot be converted as it stands: ${offer.why}`)] : [],
+    ...isTried ? [] : [element("p", { className: "working" }, "It is tried whether it can be converted ..")],
+    ...note ? [element("p", {}, note)] : []);
+}
+
+/** @param {Page.Runner} machine */
+export function listenToRefused(machine) {
+  machine.panel(({ refused }) => [refused], (state) => {
+    redraw(byId("refused"), ...state.refused.map((entry) => row(machine, state, entry)));
+    byId("refused-panel").hidden = state.refused.length === 0;
+  });
 }

@@ -1,64 +1,64 @@
-// The worker with the station, as promises. What fails there is thrown here.
+// The worker with the station. What it answers, and that it stopped, is told to `heard`.
 
-let worker = null;
-let number = 0;
-const waiting = new Map();
-let listener = () => {};
+export class Link {
+  // Starts a worker of this source; { number, answer } and news go to `heard`, and that it stopped to `stopped`.
+  /** @param {string} source @param {(message: Page.News) => void} heard @param {(why: string) => void} stopped */
+  constructor(source, heard, stopped) {
+    this.url = URL.createObjectURL(new Blob([source], { type: "text/javascript" }));
+    this.worker = new Worker(this.url);
+    this.isOver = false;
+    this.stopped = stopped;
+    /** @type {Map<number, { done: (answer: object) => void, fail: (fault: Error) => void }>} */
+    this.waiting = new Map();
+    this.number = 0;
+    this.worker.onmessage = ({ data }) => {
+      if (this.isOver) return;
+      if (data.kind === "alive") return this.watch(data.lock);
+      if (data.call !== undefined) return this.called(data);
+      if (data.fault !== undefined) return this.end(data.fault);
+      heard(data);
+    };
+    this.worker.onerror = (event) => this.end(event.message || "it ended");
+    this.worker.onmessageerror = () => this.end("a message could not be read");
+  }
 
-function failAll(why) {
-  for (const { fail } of waiting.values()) fail(new Error(why));
-  waiting.clear();
+  // The worker holds a lock as long as it lives.
+  /** @param {string} lock */
+  watch(lock) {
+    navigator.locks?.request(lock, () => this.end("it ended")).catch(() => {});
+  }
+
+  /** @param {{ call: number, answer?: object, fault?: string }} data */
+  called({ call, answer, fault }) {
+    const { done, fail } = this.waiting.get(call);
+    this.waiting.delete(call);
+    if (fault === undefined) return done(answer);
+    fail(new Error(fault));
+    return this.end(fault);
+  }
+
+  /** @param {string} why */
+  end(why) {
+    if (this.isOver) return;
+    this.isOver = true;
+    this.worker.terminate();
+    URL.revokeObjectURL(this.url);
+    for (const { fail } of this.waiting.values()) fail(new Error(why));
+    this.stopped(why);
+  }
+
+  /** @param {object} message @param {Transferable[]} over */
+  send(message, over = []) {
+    if (!this.isOver) this.worker.postMessage(message, over);
+  }
+
+  // A message with an answer of its own, past the machine: to open the station.
+  /** @template T @param {string} kind @param {object} message @returns {Promise<T>} */
+  call(kind, message = {}) {
+    const call = ++this.number;
+    return new Promise((done, fail) => {
+      this.waiting.set(call, { done, fail });
+      this.send({ call, kind, ...message });
+    });
+  }
 }
-
-// Starts a worker of this source; pictures and other news go to `heard`.
-export function startWorker(source, heard) {
-  listener = heard;
-  const url = URL.createObjectURL(new Blob([source], { type: "text/javascript" }));
-  worker = new Worker(url);
-  worker.onmessage = ({ data }) => {
-    if (data.id === undefined) return listener(data);
-    const { done, fail } = waiting.get(data.id);
-    waiting.delete(data.id);
-    if (data.fault !== undefined) fail(new Error(data.fault));
-    else done(data.answer);
-  };
-  worker.onerror = (event) => {
-    failAll(event.message || "the station stopped");
-    listener({ kind: "stopped", why: event.message });
-  };
-}
-
-export function send(kind, message = {}, over = []) {
-  const id = ++number;
-  return new Promise((done, fail) => {
-    waiting.set(id, { done, fail });
-    worker.postMessage({ id, kind, ...message }, over);
-  });
-}
-
-export const openStation = (module, depth) => send("open", { module, depth });
-
-// One line of a script: { code, reply, bytes }. The bytes of a load stay the page's: they go over as a copy.
-// What an accepted one changed is still to be drawn.
-export async function sendLine(line, file = null) {
-  const answer = await send("line", { line, file });
-  if (answer.code === 0) listener({ kind: "changed" });
-  return answer;
-}
-
-export const showView = (view) => send("view", { view });
-
-export const compareWith = (steps, colours) => send("compare", { steps, colours });
-
-// A picture beside the layers, with its window as a line; null takes it away.
-export const keepPicture = (name, picture, line = null) => send("picture", { name, picture, line });
-
-export const compareTwo = (pair, names) => send("compareTwo", { pair, names });
-
-// The lines of the answers to several questions; null where one was refused.
-export async function questions(asked) {
-  const { answers } = await send("ask", { questions: asked });
-  return answers.map(({ code, answer }) => code ? null : answer.split("\n").filter((line) => line));
-}
-
-export const question = async (words) => (await questions([words]))[0];

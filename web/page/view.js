@@ -3,23 +3,36 @@
 // belongs, and what no picture covers is marked as not drawn.
 
 import { BOARD, seen } from "./units.js";
-import { drawnLayers, shownLayers, state } from "./state.js";
-import { showView } from "./station.js";
+import { Composed } from "./composed.js";
+import { drawnLayers, isOpening } from "./machine/state.js";
+import { painterOf } from "./painting.js";
+import { placeSeen } from "./quarters.js";
 
 // Pixels of a picture beyond each edge of the canvas, so that a small move has its pixels.
 const MARGIN = 64;
-// Pixels of the station for one of the canvas, along each side.
+// Pixels of the station for one of the canvas, along each side: four give edges some shades.
 const SAMPLES = 2;
+// The nm of a pixel at the least, and at the greatest, where all that may be a board is 500 pixels wide.
 const LEAST_PITCH = 2 * SAMPLES;
 const GREATEST_PITCH = 4e6;
-// The page asks for another window at most so often while the one before is drawn.
+// The page asks for another window at most so often while the one before is drawn: often enough that a view that is moved fills up,
+// and seldom enough that something is drawn before it is asked anew.
 const PATIENCE_MS = 200;
-
-const isEmpty = () => state.layers.length === 0 && state.opened.length === 0;
+// The rulers are about so many pixels of the page wide.
+const EDGE = 20;
+// The view moves for so long after it was moved. Of each frame so many ms go to the composed picture, while it moves and else.
+const STILL_MS = 150, MOVING_MS = 2, RESTING_MS = 30;
+// While layers are drawn, their composed picture is made anew after so many times the time that it takes.
+const SELDOM = 3;
 
 export class View {
-  constructor(canvas) {
+  // It shows what the machine's state says; `ask` hands a view over to the worker.
+  /** @param {HTMLCanvasElement} canvas @param {Page.Runner} machine @param {(view: Page.Wanted) => void} ask */
+  constructor(canvas, machine, ask) {
+    this.machine = machine;
+    this.ask = ask;
     this.canvas = canvas;
+    /** @type {Page.Context} */
     this.context = canvas.getContext("2d", { alpha: false });
     // Device pixels a pixel of the page.
     this.density = 1;
@@ -27,15 +40,42 @@ export class View {
     this.left = 0;
     this.top = 0;
     this.pitch = 50000;
+    // The board as it is seen from above, upright, has its upper left corner at `left` and `top`. It is mirrored left to right where it
+    // is seen from below, and then turned so many quarters counterclockwise.
+    this.isMirrored = false;
+    this.quarters = 0;
     this.number = 0;
+    /** @type {Map<string, Page.Layered>} */
     this.pictures = new Map();
+    // The pictures composed, and which version of them there is; those that it may still use are closed when it is made.
+    this.composed = new Composed();
+    this.version = 1;
+    /** @type {(ImageBitmap | undefined)[]} */
+    this.replaced = [];
+    this.anchor = { left: 0, top: 0, pitch: 0 };
+    this.moved = 0;
     this.isWanted = false;
     this.isWhole = true;
     this.asked = 0;
     this.frames = 0;
+    /** @type {OffscreenCanvasRenderingContext2D | null} */
+    this.probe = null;
     this.afterDraw = () => {};
+    this.onMirror = () => {};
+    this.onDrawn = () => {};
   }
 
+  get state() {
+    return this.machine.state;
+  }
+
+  // Whether there is nothing to draw, or not yet.
+  get isEmpty() {
+    const { layers, opened, station } = this.state;
+    return layers.length === 0 && opened.length === 0 || !station.isOpen || isOpening(this.state);
+  }
+
+  /** @param {number} width @param {number} height @param {number} density */
   resize(width, height, density) {
     this.density = density;
     if (this.canvas.width === width && this.canvas.height === height) return;
@@ -44,51 +84,145 @@ export class View {
     this.renew();
   }
 
-  pointAt(x, y) {
-    return { x: this.left + x * this.pitch, y: this.top - y * this.pitch };
+  // Whether left and right of the board are up and down on the canvas.
+  get isTurned() {
+    return this.quarters % 2 === 1;
   }
 
+  // The sides of the view in pixels, as it is seen from above and upright.
+  get width() {
+    return this.isTurned ? this.canvas.height : this.canvas.width;
+  }
+
+  get height() {
+    return this.isTurned ? this.canvas.width : this.canvas.height;
+  }
+
+  /** @param {number} x @param {number} y */
+  pointAt(x, y) {
+    const at = this.uprightOf(x, y);
+    return { x: this.left + at.x * this.pitch, y: this.top - at.y * this.pitch };
+  }
+
+  /** @param {number} x @param {number} y @returns {Page.Point} */
   placeOf(x, y) {
-    return { x: (x - this.left) / this.pitch, y: (this.top - y) / this.pitch };
+    const column = (x - this.left) / this.pitch, row = (this.top - y) / this.pitch;
+    const across = this.isMirrored ? this.width - column : column;
+    switch (this.quarters) {
+      case 1: return { x: row, y: this.width - across };
+      case 2: return { x: this.width - across, y: this.height - row };
+      case 3: return { x: this.height - row, y: across };
+      default: return { x: across, y: row };
+    }
+  }
+
+  // Where a place of the canvas is in the picture from above and upright.
+  /** @param {number} x @param {number} y */
+  uprightOf(x, y) {
+    const [across, row] = [[x, y], [this.width - y, x], [this.width - x, this.height - y], [y, this.height - x]][this.quarters];
+    return { x: this.isMirrored ? this.width - across : across, y: row };
+  }
+
+  // A way over the canvas, to the right and down, as one over the board, to the right and up.
+  /** @param {number} right @param {number} down */
+  wayOf(right, down) {
+    const [across, low] = [[right, down], [-down, right], [-right, -down], [down, -right]][this.quarters];
+    return { x: this.isMirrored ? -across : across, y: -low };
+  }
+
+  // What is painted next lies where the picture from above and upright has it.
+  /** @param {Page.Context} context */
+  fromAbove(context = this.context) {
+    placeSeen(context, this, this);
+  }
+
+  // What lies in the middle stays there.
+  /** @param {boolean} isMirrored */
+  mirror(isMirrored) {
+    this.isMirrored = isMirrored;
+    this.onMirror();
+    this.paint();
+  }
+
+  // Turns what is seen so many quarters counterclockwise from upright; what lies in the middle stays there.
+  /** @param {number} quarters */
+  turnTo(quarters) {
+    const { x, y } = this.pointAt(this.canvas.width / 2, this.canvas.height / 2);
+    this.quarters = (quarters % 4 + 4) % 4;
+    this.onMirror();
+    this.centre(x, y);
   }
 
   // Shows a box as large as it fits, with some room around it.
+  /** @param {Page.Box} box @param {number} room */
   fit(box, room = 0.06) {
     const width = Math.max(1000, box.right - box.left), height = Math.max(1000, box.high - box.low);
-    const pitch = Math.max(width / this.canvas.width, height / this.canvas.height) / (1 - 2 * room);
+    const pitch = Math.max(width / this.width, height / this.height) / (1 - 2 * room);
     this.pitch = this.allowed(pitch, Math.ceil);
     this.centre((box.left + box.right) / 2, (box.low + box.high) / 2);
   }
 
+  // Whether a part of one of these boxes is in the view, and not under its rulers or at its edge.
+  /** @param {Page.Box[]} boxes */
+  sees(boxes) {
+    const { width, height } = this.canvas, edge = EDGE * this.density * this.pitch;
+    const left = this.left + edge, right = this.left + width * this.pitch - edge;
+    const top = this.top - edge, below = this.top - height * this.pitch + edge;
+    return boxes.some((box) => box.left <= right && box.right >= left && box.low <= top && box.high >= below);
+  }
+
   // The view that the page had when it was left.
-  show({ left, top, pitch }) {
-    Object.assign(this, { left, top, pitch });
+  /** @param {Page.Seen} seen */
+  show({ left, top, pitch, isMirrored = false, quarters = 0 }) {
+    Object.assign(this, { left, top, pitch, quarters });
+    this.mirror(isMirrored);
     this.renew();
   }
 
+  /** @param {number} x @param {number} y */
   centre(x, y) {
-    this.left = Math.round(x - this.canvas.width / 2 * this.pitch);
-    this.top = Math.round(y + this.canvas.height / 2 * this.pitch);
-    this.renew();
+    this.left = Math.round(x - this.width / 2 * this.pitch);
+    this.top = Math.round(y + this.height / 2 * this.pitch);
+    this.move();
   }
 
   // Pitches of the station are whole, so those of the canvas are multiples of SAMPLES.
+  /** @param {number} pitch @param {(value: number) => number} round */
   allowed(pitch, round) {
     return Math.min(GREATEST_PITCH, Math.max(LEAST_PITCH, round(pitch / SAMPLES) * SAMPLES));
   }
 
+  /** @param {number} factor @param {number} x @param {number} y */
   zoom(factor, x, y) {
-    const at = this.pointAt(x, y);
-    this.pitch = this.allowed(this.pitch / factor, factor > 1 ? Math.floor : Math.ceil);
-    this.left = Math.round(at.x - x * this.pitch);
-    this.top = Math.round(at.y + y * this.pitch);
+    this.hold(this.pointAt(x, y), x, y, this.pitch / factor, factor > 1 ? Math.floor : Math.ceil);
+  }
+
+  // Shows a point of the board at a place of the canvas, at a pitch.
+  /** @param {Page.Point} point @param {number} x @param {number} y @param {number} pitch @param {(value: number) => number} round */
+  hold(point, x, y, pitch, round = Math.round) {
+    this.pitch = this.allowed(pitch, round);
+    const at = this.uprightOf(x, y);
+    this.left = Math.round(point.x - at.x * this.pitch);
+    this.top = Math.round(point.y + at.y * this.pitch);
+    this.move();
+  }
+
+  /** @param {number} dx @param {number} dy */
+  pan(dx, dy) {
+    const way = this.wayOf(dx, dy);
+    this.left = Math.round(this.left - way.x * this.pitch);
+    this.top = Math.round(this.top - way.y * this.pitch);
+    this.move();
+  }
+
+  // Another part of the board is seen.
+  move() {
+    this.moved = performance.now();
     this.renew();
   }
 
-  pan(dx, dy) {
-    this.left = Math.round(this.left - dx * this.pitch);
-    this.top = Math.round(this.top + dy * this.pitch);
-    this.renew();
+  get isMoving() {
+    return performance.now() - this.moved < STILL_MS;
   }
 
   // The window of the station for this view, as a line of a script; what lies off the board is left out.
@@ -99,9 +233,15 @@ export class View {
       const sides = Math.floor((last - first) / this.pitch / 16) * 16;
       return [Math.round(first), Math.max(16, Math.min(sides, 16000))];
     };
-    const [left, width] = along(this.left, this.canvas.width + 16);
-    const [low, height] = along(this.top - this.canvas.height * this.pitch, this.canvas.height + 16);
+    const [left, width] = along(this.left, this.width + 16);
+    const [low, height] = along(this.top - this.height * this.pitch, this.height + 16);
     return `window ${left} ${low} ${this.pitch / SAMPLES} ${width * SAMPLES} ${height * SAMPLES}`;
+  }
+
+  // What lies on the board changed, or how it looks.
+  change() {
+    this.version++;
+    this.renew();
   }
 
   // Asks the worker for what is seen now, and paints what is there.
@@ -111,7 +251,7 @@ export class View {
   }
 
   request() {
-    if (!this.isWanted || isEmpty() || state.isOpening) return;
+    if (!this.isWanted || this.isEmpty) return;
     const now = performance.now();
     if (!this.isWhole && now - this.asked < PATIENCE_MS) return;
     this.isWanted = false;
@@ -120,22 +260,23 @@ export class View {
     this.number++;
     // The topmost layers first, since they are seen most.
     const isLight = document.documentElement.dataset.look === "light";
-    const layers = drawnLayers().map(({ name, colour, isOpened }) => ({ name, colour: seen(colour, isLight), isOpened }))
-      .reverse();
-    showView({ number: this.number, window: this.window(), samples: SAMPLES, layers }).catch(() => {});
-    state.isDrawing = true;
+    const layers = drawnLayers(this.state).slice().reverse()
+      .map(({ name, colour, isOpened }) => ({ name, colour: seen(colour, isLight), isOpened }));
+    this.ask({ number: this.number, window: this.window(), samples: SAMPLES, layers });
   }
 
   // A picture came from the worker.
+  /** @param {Page.Came} message */
   put({ name, bitmap, window, samples, place }) {
-    this.pictures.get(name)?.bitmap?.close();
+    this.forget(name);
     if (place) {
       this.pictures.set(name, { bitmap, ...place });
       return this.paint();
     }
     const [, left, low, pitch, , height] = window.split(" ").map(Number);
-    this.pictures.set(name, { bitmap, left, top: low + height * pitch, pitch: pitch * samples });
-    this.paint();
+    this.anchor = { left, top: low + height * pitch, pitch: pitch * samples };
+    this.pictures.set(name, { bitmap, ...this.anchor });
+    return this.paint();
   }
 
   // Something changed, which the worker draws by itself where it has a view.
@@ -143,14 +284,18 @@ export class View {
     if (this.number > 0) this.isWhole = false;
   }
 
+  /** @param {{ number: number }} message */
   drawn({ number }) {
     if (number !== this.number) return;
     this.isWhole = true;
-    state.isDrawing = false;
+    this.onDrawn();
     this.paint();
   }
 
+  /** @param {string} name */
   forget(name) {
+    this.version++;
+    this.replaced.push(this.pictures.get(name)?.bitmap);
     this.pictures.delete(name);
   }
 
@@ -163,66 +308,89 @@ export class View {
       this.request();
       this.paintNow();
       this.frames++;
-      if (this.isWanted && !isEmpty() && !state.isOpening) this.paint();
+      if (this.isWanted && !this.isEmpty || this.isStale) this.paint();
     });
   }
 
   paintNow() {
-    const { context, canvas } = this;
-    const style = getComputedStyle(canvas);
-    context.globalAlpha = 1;
-    context.fillStyle = style.getPropertyValue("--undrawn");
-    context.fillRect(0, 0, canvas.width, canvas.height);
-    this.clearDrawn(style.getPropertyValue("--board"));
-    const compared = state.comparison;
-    if (compared?.sheets) {
-      context.globalAlpha = 0.9;
-      for (const { bitmaps } of compared.sheets) for (const bitmap of bitmaps) this.place({ ...compared.place, bitmap });
-    } else {
-      for (const layer of drawnLayers()) {
-        const picture = this.pictures.get(layer.name);
-        context.globalAlpha = layer.opacity;
-        if (picture?.bitmap) this.place(picture);
-      }
-    }
-    context.globalAlpha = 1;
+    const { context } = this, colours = this.colours();
+    this.compose(colours);
+    this.paintInto(context, colours);
     this.afterDraw();
   }
 
-  // Where all shown layers have a picture, nothing is undrawn.
-  clearDrawn(colour) {
-    const shown = (state.comparison?.layers ? [] : shownLayers()).map((layer) => this.pictures.get(layer.name));
-    if (shown.some((picture) => !picture)) return;
-    let box = null;
-    for (const { left, top, pitch, bitmap, width = bitmap?.width, height = bitmap?.height } of shown) {
-      if (!bitmap) continue;
-      const at = this.placeOf(left, top), scale = pitch / this.pitch;
-      const found = [at.x, at.y, at.x + width * scale, at.y + height * scale];
-      box = box ? [Math.max(box[0], found[0]), Math.max(box[1], found[1]), Math.min(box[2], found[2]),
-        Math.min(box[3], found[3])] : found;
+  // The composed picture, and nothing over it.
+  /** @param {Page.Context} context @param {Page.Colours} colours */
+  paintInto(context, colours = this.colours()) {
+    const { composed } = this;
+    this.fromAbove(context);
+    context.globalAlpha = 1;
+    context.fillStyle = drawnLayers(this.state).length ? colours.undrawn : colours.board;
+    for (const box of composed.beside(this)) context.fillRect(...box);
+    composed.draw(context, this);
+    context.setTransform(1, 0, 0, 1, 0, 0);
+  }
+
+  colours() {
+    const style = getComputedStyle(this.canvas);
+    return { board: style.getPropertyValue("--board"), undrawn: style.getPropertyValue("--undrawn") };
+  }
+
+  // Whether what is composed is of another part of the board, or of another pitch: the view may come back to where its pictures
+  // are still those that it has, so that none comes.
+  get isElsewhere() {
+    const { composed } = this;
+    return composed.shown !== null && (composed.shown.pitch !== this.pitch || composed.beside(this).length > 0);
+  }
+
+  // Whether what is painted is not yet composed of all pictures that came; those that came while one was made wait for the next.
+  get isStale() {
+    return this.composed.making !== null || this.isWhole && (this.composed.version !== this.version || this.isElsewhere);
+  }
+
+  // Whether all that is in view is drawn and composed.
+  get isSettled() {
+    return this.isWhole && !this.isWanted && !this.isStale;
+  }
+
+  // Composes the pictures anew where they changed; while the view moves, a little with each frame.
+  compose(colours) {
+    const { composed, version } = this;
+    if ((composed.version !== version || this.isWhole && this.isElsewhere) && !composed.making) {
+      const left = SELDOM * composed.took - (performance.now() - composed.ended);
+      if (this.isWhole || left <= 0) composed.begin(version, this.frame(), this.pictures.size, this.painter(colours));
+      else setTimeout(() => this.paint(), left);
     }
-    this.context.fillStyle = colour;
-    if (!box || state.layers.length === 0) this.context.fillRect(0, 0, this.canvas.width, this.canvas.height);
-    else this.context.fillRect(box[0], box[1], box[2] - box[0], box[3] - box[1]);
+    if (composed.making) composed.step(this.isMoving ? MOVING_MS : RESTING_MS);
+    if (!composed.making) for (const bitmap of this.replaced.splice(0)) bitmap?.close();
+  }
+
+  // What is to be composed: the view with its margins, whose pixels are those of the last picture.
+  /** @returns {Page.Frame} */
+  frame() {
+    const { anchor, pitch } = this, from = anchor.pitch === pitch ? anchor : { left: 0, top: 0 };
+    const aligned = (start, to) => start + Math.floor((to - start) / pitch) * pitch;
+    return { left: aligned(from.left, this.left - MARGIN * pitch), top: aligned(from.top, this.top + (MARGIN + 1) * pitch), pitch,
+      width: this.width + 2 * MARGIN, height: this.height + 2 * MARGIN };
+  }
+
+  // Paints what lies on the board now into a frame of it.
+  /** @param {Page.Colours} colours */
+  painter(colours) {
+    return painterOf(this.state, this.pictures, colours);
   }
 
   // The names of what is black at a point of the canvas, the topmost first.
+  /** @param {number} x @param {number} y */
   blackAt(x, y) {
     const at = this.pointAt(x, y);
     this.probe ??= new OffscreenCanvas(1, 1).getContext("2d", { willReadFrequently: true });
-    return drawnLayers().filter(({ name }) => {
+    return drawnLayers(this.state).filter(({ name }) => {
       const { bitmap, left, top, pitch } = this.pictures.get(name) ?? {};
       if (!bitmap) return false;
       this.probe.clearRect(0, 0, 1, 1);
       this.probe.drawImage(bitmap, -Math.floor((at.x - left) / pitch), -Math.floor((top - at.y) / pitch));
       return this.probe.getImageData(0, 0, 1, 1).data[3] > 127;
     }).map(({ name, label }) => label ?? name).reverse();
-  }
-
-  place({ bitmap, left, top, pitch }) {
-    const scale = pitch / this.pitch, at = this.placeOf(left, top);
-    this.context.imageSmoothingEnabled = scale < 1;
-    this.context.drawImage(bitmap, Math.round(at.x), Math.round(at.y), Math.round(bitmap.width * scale),
-      Math.round(bitmap.height * scale));
   }
 }

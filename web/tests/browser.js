@@ -1,10 +1,11 @@
 // A headless Chromium, driven over its DevTools protocol by two pipes; no driver, no port and no network is needed.
 
-import { accessSync, constants, mkdtempSync, rmSync, writeFileSync } from "node:fs";
-import { delimiter, join } from "node:path";
+import { mkdtempSync, rmSync, writeFileSync } from "node:fs";
+import { join } from "node:path";
 import { pathToFileURL } from "node:url";
 import { spawn } from "node:child_process";
 import { tmpdir } from "node:os";
+import { onPath } from "./on_path.js";
 
 const NAMES = ["chromium", "chromium-browser", "google-chrome-stable", "google-chrome"];
 // Keys to which the browser itself has an answer.
@@ -12,19 +13,7 @@ const CODES = { Enter: 13, Escape: 27 };
 // A browser that is silent for so long is given up.
 const SILENT_MS = 180000;
 
-export function chromium() {
-  for (const name of NAMES) {
-    for (const folder of (process.env.PATH ?? "").split(delimiter)) {
-      try {
-        accessSync(join(folder, name), constants.X_OK);
-        return join(folder, name);
-      } catch {
-        // It is not there.
-      }
-    }
-  }
-  return null;
-}
+export const chromium = () => onPath(...NAMES);
 
 const pause = (ms) => new Promise((done) => setTimeout(done, ms));
 
@@ -42,6 +31,7 @@ export class Browser {
     this.waiting = new Map();
     this.events = [];
     this.rest = Buffer.alloc(0);
+    this.isOver = false;
   }
 
   async start(profile, width, height, scale) {
@@ -86,9 +76,14 @@ export class Browser {
     if (this.ownsProfile) rmSync(this.profile, { recursive: true, force: true, maxRetries: 5, retryDelay: 200 });
   }
 
-  fail(why) {
-    for (const { fail } of this.waiting.values()) fail(new Error(why));
-    this.waiting.clear();
+  // Nothing more is answered: by the browser, or by the page of a session.
+  fail(why, session = null) {
+    if (session === null) this.isOver = true;
+    for (const [id, waiting] of [...this.waiting]) {
+      if (session !== null && waiting.session !== session) continue;
+      this.waiting.delete(id);
+      waiting.fail(new Error(why));
+    }
   }
 
   receive(data) {
@@ -99,8 +94,9 @@ export class Browser {
       const waiting = this.waiting.get(message.id);
       if (!waiting) {
         this.events.push(message);
+        if (message.method === "Target.detachedFromTarget") this.fail("the page was closed", message.params.sessionId);
         if (message.method === "Page.javascriptDialogOpening") {
-          this.call("Page.handleJavaScriptDialog", { accept: true }).catch(() => {});
+          this.call("Page.handleJavaScriptDialog", { accept: true }, message.sessionId).catch(() => {});
         }
         continue;
       }
@@ -112,13 +108,15 @@ export class Browser {
 
   call(method, params = {}, sessionId = this.session) {
     const id = ++this.number;
+    // One that was killed answers nothing.
+    if (this.isOver) return Promise.reject(new Error("the browser ended"));
     return new Promise((done, fail) => {
       const timer = setTimeout(() => fail(new Error(`${method}: the browser was silent`)), SILENT_MS);
       const settle = (end) => (value) => {
         clearTimeout(timer);
         end(value);
       };
-      this.waiting.set(id, { method, done: settle(done), fail: settle(fail) });
+      this.waiting.set(id, { method, session: sessionId, done: settle(done), fail: settle(fail) });
       this.process.stdio[3].write(`${JSON.stringify({ id, method, params, sessionId: sessionId ?? undefined })}\0`);
     });
   }
@@ -160,12 +158,19 @@ export class Browser {
     await this.mouse("mouseReleased", x1, y1, { button, clickCount: 1 });
   }
 
-  // A key by its name, with Ctrl (2) or Shift (8) in `modifiers`.
-  async key(key, modifiers = 0) {
+  // A key by its name, with Ctrl (2) or Shift (8) in `modifiers`, held until it was repeated so many times.
+  async key(key, modifiers = 0, repeats = 0) {
     const text = key.length === 1 && !(modifiers & 2) ? key : undefined;
     const more = { text: key === "Enter" ? "\r" : text, windowsVirtualKeyCode: CODES[key] };
-    await this.call("Input.dispatchKeyEvent", { type: "keyDown", key, modifiers, ...more });
+    const down = (autoRepeat) => this.call("Input.dispatchKeyEvent", { type: "keyDown", key, modifiers, autoRepeat, ...more });
+    await Promise.all([down(false), ...Array.from({ length: repeats }, () => down(true))]);
     await this.call("Input.dispatchKeyEvent", { type: "keyUp", key, modifiers });
+  }
+
+  // Drops files and folders of these paths on the page, as a person does.
+  async drop(...files) {
+    const data = { items: [], files, dragOperationsMask: 1 };
+    for (const type of ["dragEnter", "dragOver", "drop"]) await this.call("Input.dispatchDragEvent", { type, x: 400, y: 300, data });
   }
 
   async type(text) {

@@ -1,8 +1,8 @@
 // Measures the module and the page, and the program outside in the same run, and prints tables.
 //
-//   node web/tests/measure.js PROGRAM [MODULE.wasm] [FILE.gbr..]
+//   node web/tests/measure.js [--browser firefox|webkit] PROGRAM [MODULE.wasm] [FILE.gbr..]
 //
-// The files are plotted too, beside those that are made here.
+// It measures in Chromium if no other browser is named. The files are plotted too, beside those that are made here.
 
 import { gzipSync } from "node:zlib";
 import { mkdtempSync, readFileSync, rmSync, statSync, writeFileSync } from "node:fs";
@@ -11,10 +11,14 @@ import { execFileSync, spawnSync } from "node:child_process";
 import { fileURLToPath } from "node:url";
 import { tmpdir } from "node:os";
 import { Browser } from "./browser.js";
+import { Firefox } from "./firefox.js";
+import { WebKit } from "./webkit.js";
 import { inlined } from "../building/inline.js";
 
 const web = dirname(dirname(fileURLToPath(import.meta.url)));
-const [given, module = join(web, "out", "station.wasm"), ...files] = process.argv.slice(2);
+const words = process.argv.slice(2), [, named] = words[0] === "--browser" ? words.splice(0, 2) : [];
+const [given, module = join(web, "out", "station.wasm"), ...files] = words;
+const driver = { chromium: Browser, firefox: Firefox, webkit: WebKit }[named ?? "chromium"];
 const program = resolve(given);
 const folder = mkdtempSync(join(tmpdir(), "camplot-measure-"));
 process.on("exit", () => rmSync(folder, { recursive: true, force: true }));
@@ -50,9 +54,9 @@ function outside(lines) {
 
 async function moduleTable() {
   const page = join(folder, "station.html");
-  writeFileSync(page, `<!DOCTYPE html><meta charset="utf-8"><body><script type="text/plain" id="module">${
+  writeFileSync(page, `<!DOCTYPE html><meta charset="utf-8"><body><script type="text/plain" data-module="32">${
     base64(gzipSync(readFileSync(module)))}</script><script>${inlined(join(web, "tests", "scripts_page.js"))}</script>`);
-  const browser = await Browser.open(page);
+  const browser = await driver.open(page);
   console.log("| file | load, ms | plot, ms | edit with redraw, ms | memory, MB | outside: start, load and plot, ms | ratio |");
   console.log("|---|---|---|---|---|---|---|");
   const list = [["100,000 circles", made(1e5, "circles")], ["1,000,000 circles", made(1e6, "circles")],
@@ -60,7 +64,7 @@ async function moduleTable() {
     ...files.map((path) => [basename(path), readFileSync(path)])];
   for (const [name, bytes] of list) {
     writeFileSync(join(folder, "a.gbr"), bytes);
-    await browser.ask("globalThis.parts = []");
+    await browser.ask("window.parts = []");
     for (let at = 0; at < bytes.length; at += 3e6) {
       await browser.ask(`parts.push(Uint8Array.from(atob("${base64(bytes.subarray(at, at + 3e6))}"), (x) => x.charCodeAt(0)))`);
     }
@@ -90,9 +94,9 @@ async function moduleTable() {
 }
 
 async function give(browser, files) {
-  await browser.ask("globalThis.given = []");
+  await browser.ask("window.given = []");
   for (const { name, bytes } of files) {
-    await browser.ask("globalThis.parts = []");
+    await browser.ask("window.parts = []");
     for (let at = 0; at < bytes.length; at += 3e6) {
       await browser.ask(`parts.push(Uint8Array.from(atob("${base64(bytes.subarray(at, at + 3e6))}"), (x) => x.charCodeAt(0)))`);
     }
@@ -104,10 +108,11 @@ const SETTLED = `new Promise((done) => { const look = () => camplot.view.isWhole
   && !camplot.view.isPainting ? done() : setTimeout(look, 2); setTimeout(look, 20); })`;
 
 // Opens, pans for two seconds with each frame, moves an item, and takes that back.
-async function pageRow(page, name, files) {
-  const browser = await Browser.open(page);
+async function pageRow(page, name, files, window = {}) {
+  const browser = await driver.open(page, window);
   await give(browser, files);
   const open = await browser.ask(`(async () => { const start = performance.now(); await camplot.openFiles(given, false);
+    camplot.machine.send({ kind: "show", name: null, isShown: true });
     await ${SETTLED}; return performance.now() - start; })()`);
   const frames = await browser.ask(`(async () => {
     const before = camplot.view.frames, start = performance.now();
@@ -146,6 +151,11 @@ async function pageTable() {
     name: at === 0 ? "board-F_Cu.gbr" : `board-In${at}_Cu.gbr`, bytes: made(5000, at % 2 ? "draws" : "circles", at * 20000),
   }));
   await pageRow(page, "20 layers, 100,000 items", many);
+  // Windows of other sizes are Chromium's own.
+  if (driver === Browser) {
+    await pageRow(page, "the same at twice the pixels", many, { width: 1280, height: 800, scale: 2 });
+    await pageRow(page, "the same in 3,840 by 2,160", many, { width: 3840, height: 2160 });
+  }
   await pageRow(page, "1 layer, 1,000,000 flashes", [{ name: "board-F_Cu.gbr", bytes: made(1e6, "circles") }]);
 }
 

@@ -1,58 +1,17 @@
-// A page for tests: the module's station without a worker, which serves whole scripts over files in memory.
+// A page for tests: stations of modules without a worker, which serve whole scripts over files in memory.
 
 import { Station } from "../worker/station.js";
+import { differencesOf } from "./scripts.js";
 import { unpacked } from "../page/contents.js";
 
-const LONGEST_LINE_WORD = /[ \t]+/;
+const modules = [...document.querySelectorAll("script[data-module]")].map(async (element) =>
+  [element.dataset.module, await WebAssembly.compile(await unpacked(element.textContent))]);
 
-const decoded = (text) => Uint8Array.from(atob(text), (letter) => letter.charCodeAt(0));
-const latin1 = (bytes) => Array.from(bytes, (byte) => String.fromCharCode(byte)).join("");
-
-function linesOf(script) {
-  const lines = script.split("\n");
-  const last = lines.pop();
-  const ended = lines.map((line) => line.endsWith("\r") ? line.slice(0, -1) : line);
-  return last ? [...ended, last] : ended;
-}
-
-let compiled = null;
-
-const isSame = (one, other) => one !== undefined && one.length === other.length && one.every((byte, at) => byte === other[at]);
-
-// Serves a script; what differs from what the program said, or null.
-function differenceOf({ script, depth, files, replies, put }) {
-  const held = new Map(Object.entries(files).map(([name, bytes]) => [name, decoded(bytes)]));
-  const station = new Station(compiled, depth);
-  const said = [];
-  held.set("script", decoded(script));
-  for (const line of linesOf(latin1(decoded(script)))) {
-    const words = line.split(LONGEST_LINE_WORD).filter((word) => word);
-    const path = words[0] === "load" && words.length === 4 ? words[3] : null;
-    const bytes = Uint8Array.from(line, (letter) => letter.charCodeAt(0));
-    const code = station.apply(bytes, path === null ? null : held.get(path) ?? null);
-    const reply = latin1(station.reply);
-    if (reply) said.push(reply.slice(0, -1));
-    if (reply.startsWith("refused") !== (code !== 0)) return `the number ${code} beside ${reply}`;
-    if (["plot", "write"].includes(words[0]) && reply.startsWith("ok")) held.set(words[2], station.file);
-  }
-  station.close();
-  const at = said.findIndex((reply, k) => reply !== replies[k]);
-  if (at >= 0 || said.length !== replies.length) return `reply ${at}: ${said[at]} in place of ${replies[at]}`;
-  const other = Object.entries(put).find(([name, bytes]) => !isSame(held.get(name), decoded(bytes)));
-  return other ? `${other[0]} is another` : null;
-}
-
-globalThis.differencesOf = (cases) => cases.map((each) => {
-  try {
-    return differenceOf(each);
-  } catch (fault) {
-    return String(fault);
-  }
-});
-
-globalThis.Station = Station;
-
-unpacked(document.getElementById("module").textContent).then(WebAssembly.compile).then((made) => {
-  globalThis.compiled = compiled = made;
+Promise.all(modules).then((made) => {
+  const compiled = new Map(made);
+  // The module whose memory has so many bits.
+  globalThis.differencesOf = (bits, cases) => differencesOf(compiled.get(String(bits)), cases);
+  globalThis.compiled = compiled.get("32");
+  globalThis.Station = Station;
   document.body.dataset.ready = "yes";
 });

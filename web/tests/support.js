@@ -22,9 +22,14 @@ export function room() {
 // A page that was built already, by its path in STATION_PAGE, in place of one that is built here.
 let page = process.env.STATION_PAGE ?? null;
 
-// The built page; the test is left out where a browser or the module is missing.
+// The built page; the test is left out where Chromium or the module is missing.
 export function builtPage() {
   if (!chromium()) skip("no chromium is at hand, so the page is not tried");
+  return pageForAny();
+}
+
+// The same, whatever browser is to show it.
+export function pageForAny() {
   if (page) return page;
   if (!existsSync(MODULE)) skip("web/out/station.wasm is not built, so the page is not tried");
   page = join(mkdtempSync(join(tmpdir(), "camplot-built-")), "camplot.html");
@@ -55,7 +60,7 @@ export const gerber = (...objects) => Buffer.from(`%FSLAX46Y46*%\n%MOMM*%\n%ADD1
 
 // Waits until all that is in view is drawn.
 export const settle = (browser) =>
-  browser.wait("camplot.view.isWhole && !camplot.view.isWanted && !camplot.view.isPainting");
+  browser.wait("camplot.view.isSettled && !camplot.view.isPainting");
 
 // Where a point in nm lies on the page.
 export async function onPage(browser, x, y) {
@@ -92,7 +97,8 @@ export function program() {
   return path;
 }
 
-export const runProgram = (folder, script) => spawnSync(program(), [script], { cwd: folder, encoding: "latin1" });
+export const runProgram = (folder, script, words = []) =>
+  spawnSync(program(), [script, ...words], { cwd: folder, encoding: "latin1", maxBuffer: 2 ** 30 });
 
 // Modifiers of keys and clicks.
 export const CTRL = 2, SHIFT = 8;

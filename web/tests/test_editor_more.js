@@ -83,7 +83,9 @@ suite("conversions by choice", () => {
         inputs[at].value = value;
         inputs[at].dispatchEvent(new Event("input", { bubbles: true }));
       });
-      setTimeout(() => done(document.getElementById("question-body").textContent), 100);
+      const look = () => document.querySelector("#question-body .working") ? setTimeout(look, 20)
+        : done(document.getElementById("question-body").textContent);
+      setTimeout(look, 100);
     }, 100));
   })()`);
 
@@ -93,12 +95,29 @@ suite("conversions by choice", () => {
       bytes: bytesOf("M48\nT01C0.800\n%\nT01\nX010000Y020000\nM30\n") }]);
     assert.deepEqual(opened, []);
     assert.match(await text(browser, "refused"), /cannot be converted as it stands: .*the unit is not given/);
-    // Unit, digits, zeros, diameters.
-    assert.match(await choose(browser, { 0: "mm", 1: "3:3", 2: "leading", 3: "1=0.9mm" }), /digits: 3:3.*1 read, 1 written/);
+    // Unit, digits, zeros, and behind the report the diameters.
+    assert.match(await choose(browser, { 0: "mm", 1: "3:3", 2: "leading", 4: "1=0.9mm" }), /digits: 3:3.*1 read, 1 written/);
     await browser.ask("document.querySelector('#question-choices button').click()");
     await browser.wait("camplot.state.layers.length === 1");
     assert.match(await written(browser, "holes"), /T1C0\.900000[\s\S]*X10\.000000Y20\.000000/);
     assert.equal(await browser.ask("document.querySelectorAll('#refused button').length"), 0);
+  });
+
+  test("a file that can be read in two ways, by a button for each", async () => {
+    const browser = await openPage(), folder = join(REPOSITORY, "tools", "cases", "to_gerber", "arcs_of_one_quadrant");
+    await give(browser, [{ name: "old.gtl", bytes: readFileSync(join(folder, "file.gbr")) }]);
+    assert.match(await text(browser, "refused"), /cannot be converted as it stands/);
+    await browser.ask("document.querySelector('#refused button').click()");
+    await browser.wait("document.querySelectorAll('#ways button').length === 2");
+    assert.deepEqual(await browser.ask("[...document.querySelectorAll('#ways button')].map((button) => button.textContent)"),
+      ["arcs: of one quadrant, without signs", "arcs: of any angle, with signs"]);
+    assert.ok(await browser.ask("document.querySelector('#question-choices button').disabled"));
+    await browser.ask("document.querySelectorAll('#ways button')[0].click()");
+    await browser.wait("!document.querySelector('#question-choices button').disabled");
+    await browser.ask("document.querySelector('#question-choices button').click()");
+    await browser.wait("camplot.state.layers.length === 1");
+    assert.equal((await browser.ask("Object.values(camplot.state.files).length")), 2);
+    assert.deepEqual(browser.complaints(), []);
   });
 
   test("a Gerber file, exactly or to the nearest nm", async () => {
@@ -108,8 +127,8 @@ suite("conversions by choice", () => {
     await browser.wait("document.getElementById('question').open");
     assert.match(await text(browser, "question-body"), /rounded: 8 corners/);
     await browser.ask("document.querySelector('#choices input').click()");
-    await browser.wait("document.querySelector('#question-choices button').disabled");
-    assert.match(await text(browser, "question-body"), /So it cannot be converted/);
+    await browser.wait("document.getElementById('question-body').textContent.includes('So it cannot be converted')");
+    assert.equal(await browser.ask("document.querySelector('#question-choices button').disabled"), true);
     await browser.ask("document.querySelector('#choices input').click()");
     await browser.wait("!document.querySelector('#question-choices button').disabled");
     await browser.ask("document.querySelector('#question-choices button').click()");

@@ -4,7 +4,7 @@ import assert from "node:assert/strict";
 import { execFileSync } from "node:child_process";
 import { mkdirSync, readFileSync, writeFileSync } from "node:fs";
 import { join } from "node:path";
-import { CTRL, PAD, SHIFT, builtPage, clickAt, gerber, give, kicad, lines, openPage, picked, program, room, run,
+import { CTRL, PAD, SHIFT, builtPage, clickAt, gerber, give, kicad, lines, openPage, program, room, run,
   runProgram, savedFile, settle, text, withBoard, withPads, written } from "./support.js";
 import { Browser } from "./browser.js";
 import { withContents } from "../building/contents.js";
@@ -101,8 +101,9 @@ suite("saving", () => {
     assert.ok(!stdout.includes("refused"), stdout);
     const same = (one, other) => assert.ok(readFileSync(join(folder, one)).equals(readFileSync(join(folder, other))), one);
     for (const name of ["top", "plated"]) same(`run/plots/${name}.pbm`, `pictures/${name}.pbm`);
-    for (const name of ["top.gbr", "bottom.gbr", "top-silk.gbr", "outline.gbr", "plated.drl", "nonplated.drl"]) {
-      same(`run/written/${name}`, `texts/${name}`);
+    for (const [name, file] of [["top.gbr", "F_Cu.gbr"], ["bottom.gbr", "B_Cu.gbr"], ["top-silk.gbr", "F_Silkscreen.gbr"],
+      ["outline.gbr", "Edge_Cuts.gbr"], ["plated.drl", "PTH.drl"], ["nonplated.drl", "NPTH.drl"]]) {
+      same(`run/written/${name}`, `texts/nightlight-${file}`);
     }
   });
 
@@ -140,7 +141,8 @@ suite("files", () => {
       /refused 3, .*line 1: .*line 5: /s), ["top"]);
     assert.deepEqual(await convert("old.drl", ["M48", "METRIC,TZ,000.000", "T01C0.800", "%", "T01", "X010000Y020000", "M30", ""],
       /refused 4[15], .*line 2/s), ["holes"]);
-    assert.match(await text(browser, "refused"), /old\.gtl .*It was converted and opened/s);
+    assert.equal(await text(browser, "refused"), "");
+    assert.match(await text(browser, "told"), /^1 layer opened\. 1 file converted\.$/);
     assert.match(await written(browser, "holes"), /X10\.000000Y20\.000000/);
     // The converted bytes are what the script's file holds.
     assert.match(await browser.ask("new TextDecoder().decode(camplot.session.get('files/old.gtl'))"), /^%FSLAX36Y36\*%/);

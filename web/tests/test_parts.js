@@ -80,10 +80,12 @@ suite("entries", () => {
     const lines = ["aperture 10", "%ADD10C,0.500000*%", "aperture 11", "%AMM11*", "1,1,0.500000,0.000000,0.000000*", "%",
       "%ADD11M11*%", "block 12 2", "  flash 10 0 0 r0 dark", "  flash 11 1000000 0 r0 clear", "aperture 13",
       "%ADD13R,2.000000X1.000000X0.300000*%"];
-    assert.deepEqual(entriesFrom(lines), [{ number: 10, words: "circle 0.5 mm", width: 500000, shape: "circle" },
-      { number: 11, words: "a shape of primitives", width: 0, shape: null }, { number: 12, words: "block", width: 0, shape: null },
-      { number: 13, words: "rectangle 2 by 1 mm", width: 2000000, shape: "rectangle" }]);
-    assert.deepEqual(entriesFrom(["tool 1", "T1C0.800000"]), [{ number: 1, words: "0.8 mm", width: 800000, shape: null }]);
+    const none = { width: 0, height: 0, shape: null, hasHole: false };
+    assert.deepEqual(entriesFrom(lines), [
+      { number: 10, words: "circle 0.5 mm", width: 500000, height: 500000, shape: "circle", hasHole: false },
+      { ...none, number: 11, words: "a shape of primitives" }, { ...none, number: 12, words: "block" },
+      { number: 13, words: "rectangle 2 by 1 mm", width: 2000000, height: 1000000, shape: "rectangle", hasHole: true }]);
+    assert.deepEqual(entriesFrom(["tool 1", "T1C0.800000"]), [{ ...none, number: 1, words: "0.8 mm", width: 800000, height: 800000 }]);
   });
 });
 
@@ -165,6 +167,15 @@ suite("modules in one text", () => {
     assert.equal(globalThis.told, "2");
     writeFileSync(join(folder, "b.js"), 'export const ONE = "1";\n');
     assert.throws(() => inlined(join(folder, "a.js")), /does not export TWO/);
+  });
+  test("comments that give types are left out", () => {
+    const folder = room();
+    writeFileSync(join(folder, "a.js"), "// One more.\n/**\n * @param {number} count of *all*\n */\nfunction more(count) {\n  /** @type {number} */\n"
+      + "  const one = 1;\n  return count + one;\n}\nglobalThis.told = more(/** @type {number} */ (2));\n");
+    const text = inlined(join(folder, "a.js"));
+    new Function(text)();
+    assert.equal(globalThis.told, 3);
+    assert.match(text, /^\/\/ One more\.\nfunction more\(count\) \{\n {2}const one = 1;$/m);
   });
   test("modules that import one another are refused", () => {
     const folder = room();

@@ -2,16 +2,18 @@
 // the page asks meanwhile.
 
 import { inkOf, paint, pictureOf, putTile } from "./pictures.js";
-import { around, difference, windowOf } from "./opened.js";
+import { windowOf } from "./opened.js";
 
-// A layer that took longer, or has more items before it was drawn once, is drawn in parts of so many tiles.
+// A layer that took longer, or has more items before it was drawn once, is drawn in parts of so many tiles, so that what the page
+// asks meanwhile is answered between two of them.
 const HEAVY_MS = 80;
 const HEAVY_ITEMS = 200000;
 const PART = 24;
 // What is not drawn yet in such a layer's picture.
 const UNDRAWN = "#80808066";
-// Between pictures of a layer that is drawn in parts.
-const PART_MS = 200;
+// Between pictures of a layer that is drawn in parts, and between words of how far the drawing is, where it takes longer than
+// the second: five of them a second are seen as growing, and each costs a bitmap. What is drawn within a second needs no words.
+const PART_MS = 200, LONG_MS = 1000;
 
 const text = new TextEncoder();
 const words = new TextDecoder();
@@ -29,12 +31,16 @@ export class Drawing {
     // The window that the station has, and that of the script, as lines.
     this.current = null;
     this.scripted = null;
+    // Of the window as it is: which layers the page has, by their names, and how they looked.
+    this.sent = new Map();
     // How long each layer took, and what is still to be drawn.
     this.took = new Map();
     this.waiting = [];
     this.part = null;
-    // Whether the page has still to be told that all is drawn.
+    // Whether the page has still to be told that all is drawn; since when it is drawn, and when the page was told how far.
     this.isOwed = false;
+    this.since = 0;
+    this.told = 0;
   }
 
   apply(line) {
@@ -67,6 +73,22 @@ export class Drawing {
     this.part = null;
     this.waiting = this.view ? this.view.layers.slice() : [];
     this.isOwed = this.view !== null;
+    this.since = this.told = performance.now();
+  }
+
+  // Draws no more of the view, until something changes.
+  halt() {
+    this.part = null;
+    this.waiting = [];
+  }
+
+  // Tells the page how far the drawing is, now and then where it takes long.
+  tell() {
+    const now = performance.now();
+    if (now - this.since < LONG_MS || now - this.told < PART_MS || !this.waiting.length) return;
+    this.told = now;
+    const count = this.view.layers.length, part = this.part ? Math.min(0.99, this.part.tiles / this.tiles()) : 0;
+    this.post({ kind: "drawing", number: this.view.number, drawn: count - this.waiting.length, count, part });
   }
 
   // Draws the next layer, or a part of it; answers whether more is to be done.
@@ -75,11 +97,12 @@ export class Drawing {
     const isNew = this.current !== this.view.window;
     this.use(this.view.window);
     if (this.current !== this.view.window) return this.stop("The view cannot be set.");
-    if (isNew) this.sent = new Map();
+    if (isNew) this.sent.clear();
     const layer = this.part?.layer ?? this.waiting[0];
     if (layer.isOpened) this.drawOpened(layer);
     else if (this.part || this.isHeavy(layer)) this.drawPart(layer);
     else this.drawWhole(layer);
+    this.tell();
     return this.waiting.length > 0 || this.end();
   }
 
@@ -121,11 +144,12 @@ export class Drawing {
   // none is left, the layer is plotted whole.
   drawPart(layer) {
     const number = [...this.layers.keys()].indexOf(layer.name);
-    this.part ??= { layer, start: performance.now(), sent: performance.now(), spent: 0 };
+    this.part ??= { layer, start: performance.now(), sent: performance.now(), spent: 0, tiles: 0 };
     const start = performance.now();
     const code = this.station.redraw(PART);
     this.part.spent += performance.now() - start;
     const drawn = code ? 0 : Number(words.decode(this.station.reply).split(" ")[1]);
+    this.part.tiles += drawn;
     const isClean = drawn < PART || this.station.tile(number, this.tiles() - 1) !== null;
     if (!isClean) {
       if (performance.now() - this.part.sent < PART_MS) return;
@@ -135,9 +159,8 @@ export class Drawing {
     }
     this.took.set(layer.name, Math.max(this.part.spent, this.took.get(layer.name) ?? 0));
     this.part = null;
-    const wasSent = this.sent.get(layer.name);
     this.sent.delete(layer.name);
-    this.drawRest(layer, wasSent);
+    this.drawRest(layer);
   }
 
   drawRest(layer) {
@@ -163,7 +186,7 @@ export class Drawing {
   // Hands the layer's picture over, but where the page has it already.
   send(layer, drawn, picture, isPart) {
     const looks = `${layer.colour} ${this.view.samples}`;
-    if (drawn === 0 && this.sent?.get(layer.name) === looks) return;
+    if (drawn === 0 && this.sent.get(layer.name) === looks) return;
     const bitmap = this.bitmapOf(picture(), layer.colour);
     if (!isPart) this.sent.set(layer.name, looks);
     this.post({ kind: "picture", number: this.view.number, window: this.view.window, samples: this.view.samples,
@@ -190,7 +213,7 @@ export class Drawing {
   keep(name, opened) {
     if (opened) this.opened.set(name, opened);
     else this.opened.delete(name);
-    this.sent?.delete(name);
+    this.sent.delete(name);
   }
 
   drawOpened({ name, colour }) {
@@ -210,48 +233,16 @@ export class Drawing {
       place: { left: part?.left, top: part?.top, pitch: part?.pitch } }, bitmap ? [bitmap] : []);
   }
 
+  // The raw PBM files of layers in a window as they are now; null where the station refuses one.
+  filesIn(names, line) {
+    this.use(line);
+    const files = names.map((name) => this.current === line && this.apply(`plot ${name} view`) === 0 ? this.station.file : null);
+    return files.includes(null) ? null : files;
+  }
+
   // The picture of a layer in a window as it is now, or null.
   pictureIn(name, line) {
     this.use(line);
     return this.current === line && this.apply(`plot ${name} view`) === 0 ? pictureOf(this.station.file) : null;
-  }
-
-  // What two have in both and alone, each a layer or a picture beside them, in the picture's window where one is, else in
-  // the view's. Three pictures of these names show it.
-  compareTwo(pair, names) {
-    const line = pair.map(({ name }) => this.opened.get(name)?.line).find((found) => found) ?? this.view.window;
-    const pictures = pair.map(({ name, isOpened }) => isOpened ? this.opened.get(name)?.picture : this.pictureIn(name, line));
-    const [first, second] = pictures;
-    this.refresh();
-    if (!first || !second || first.width !== second.width || first.height !== second.height) return { counts: null };
-    const { parts, box } = difference(first, second, line);
-    parts.forEach(({ opened }, at) => this.keep(names[at], opened));
-    return { counts: parts.map(({ count }) => count), box };
-  }
-
-  // Each shown layer now beside what `steps` undos make of it: how many pixels are in both, only then, only now. The
-  // document is as it was when this is done.
-  compare(steps, colours) {
-    const names = this.view.layers.filter((layer) => !layer.isOpened).map((layer) => layer.name);
-    const now = names.map((name) => this.pictureIn(name, this.view.window));
-    let taken = 0;
-    while (taken < steps && this.apply("undo") === 0) taken++;
-    const then = names.map((name) => this.pictureIn(name, this.view.window));
-    let given = 0;
-    while (given < taken && this.apply("redo") === 0) given++;
-    this.refresh();
-    if (taken !== steps || given !== taken) return { isWhole: given === taken, sheets: null };
-    const sheets = colours.map((colour) => ({ colour, count: 0, bitmaps: [] }));
-    const boxes = names.map((name, at) => {
-      if (!now[at] || !then[at]) return null;
-      const { parts, box } = difference(then[at], now[at], this.view.window);
-      parts.forEach(({ opened, count }, part) => {
-        sheets[part].count += count;
-        const bitmap = this.bitmapOf(opened.picture, colours[part]);
-        if (bitmap) sheets[part].bitmaps.push(bitmap);
-      });
-      return box;
-    });
-    return { isWhole: true, sheets, box: around(boxes), window: this.view.window, samples: this.view.samples };
   }
 }

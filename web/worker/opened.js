@@ -6,19 +6,34 @@ import { compared, inkOf, ones } from "./pictures.js";
 // How opaque a square with few black pixels is at least, so that a single one is seen.
 const LEAST = 96;
 
-// { left, low, pitch, width, height } of a line `window`.
+/**
+ * Of a line `window`.
+ * @param {string} line
+ */
 export function windowOf(line) {
   const [left, low, pitch, width, height] = line.trim().split(/\s+/).slice(1).map(Number);
   return { left, low, pitch, width, height };
 }
 
+/** @typedef {import("../pbm.js").Picture} Picture */
+/** @typedef {{left: number, low: number, right: number, high: number}} Sides of a box, in nm */
+
 // A picture with its window.
 export class Opened {
-  // Its window is a line; a loud one has each pixel with something black in it wholly black.
+  /**
+   * @param {Picture} picture
+   * @param {string} line its window
+   * @param {boolean} isLoud whether each pixel with something black in it is wholly black
+   */
   constructor(picture, line, isLoud = false) {
     const { left, low, pitch } = windowOf(line);
-    Object.assign(this, { picture, line, left, pitch, isLoud });
+    this.picture = picture;
+    this.line = line;
+    this.left = left;
+    this.pitch = pitch;
+    this.isLoud = isLoud;
     this.top = low + picture.height * pitch;
+    /** @type {Uint8Array | null} */
     this.counts = null;
   }
 
@@ -34,13 +49,21 @@ export class Opened {
     return this.counts;
   }
 
-  // The squares of pixels that stand for one of the view, by their side.
+  /**
+   * The squares of pixels that stand for one of the view, by their side.
+   * @param {number} pitch
+   */
   stepFor(pitch) {
     const step = Math.max(1, Math.floor(pitch / this.pitch));
     return step < 8 ? step : step - step % 8;
   }
 
-  // How many pixels are black in the square of this step whose upper left pixel is named.
+  /**
+   * How many pixels are black in the square of this step whose upper left pixel is named.
+   * @param {number} column
+   * @param {number} row
+   * @param {number} step
+   */
   count(column, row, step) {
     const { width, height, stride, bits } = this.picture;
     const right = Math.min(column + step, width), end = Math.min(row + step, height);
@@ -58,10 +81,15 @@ export class Opened {
     return count;
   }
 
-  // What of the picture a view shows, as an image with the place of its upper left corner and its pitch in nm; null where
-  // that is nothing. The view is { left, top, right, low } in nm, with the pitch of its pixels.
+  /**
+   * What of the picture a view shows, as an image with the place of its upper left corner and its pitch in nm; null where
+   * that is nothing.
+   * @param {{left: number, top: number, right: number, low: number, pitch: number}} view in nm, with the pitch of its pixels
+   * @param {string} colour
+   */
   partIn(view, colour) {
     const { width, height } = this.picture, step = this.stepFor(view.pitch), pitch = step * this.pitch;
+    /** @type {(start: number, end: number, length: number) => [number, number]} */
     const along = (start, end, length) => [Math.max(0, Math.floor(start / pitch)),
       Math.min(Math.ceil(length / step), Math.ceil(end / pitch))];
     const [left, right] = along(view.left - this.left, view.right - this.left, width);
@@ -82,7 +110,10 @@ export class Opened {
     return isAny ? { image, left: this.left + left * pitch, top: this.top - top * pitch, pitch } : null;
   }
 
-  // The box of the black pixels in nm, null where there is none.
+  /**
+   * The box of the black pixels in nm, null where there is none.
+   * @returns {Sides | null}
+   */
   box() {
     const { height, stride, bits } = this.picture;
     let left = stride, right = -1, top = -1, end = -1;
@@ -102,16 +133,26 @@ export class Opened {
   }
 }
 
-// The box around boxes; null where there is none.
+/**
+ * The box around boxes; null where there is none.
+ * @param {(Sides | null)[]} boxes
+ * @returns {Sides | null}
+ */
 export function around(boxes) {
   const found = boxes.filter((box) => box);
+  /** @type {(key: keyof Sides, choose: (...values: number[]) => number) => number} */
   const join = (key, choose) => choose(...found.map((box) => box[key]));
   return found.length ? { left: join("left", Math.min), low: join("low", Math.min), right: join("right", Math.max),
     high: join("high", Math.max) } : null;
 }
 
-// What two pictures of one window have in both, in the first alone and in the second alone: pictures of the same window,
-// how many pixels each has, and the box of where they differ.
+/**
+ * What two pictures of one window have in both, in the first alone and in the second alone: pictures of the same window,
+ * how many pixels each has, and the box of where they differ.
+ * @param {Picture} first
+ * @param {Picture} second
+ * @param {string} line
+ */
 export function difference(first, second, line) {
   const parts = compared(first, second).map(({ picture, count }, at) =>
     ({ opened: new Opened(picture, line, at > 0), count }));

@@ -27,7 +27,12 @@ export class Drilling {
     return this.itemTools.length - this.routs;
   }
 
-  /** Adds a hit. @param {number} tool @param {number} x @param {number} y */
+  /**
+   * Adds a hit.
+   * @param {number} tool
+   * @param {number} x
+   * @param {number} y
+   */
   hit(tool, x, y) {
     this.itemTools.push(tool);
     this.pointCounts.push(0);
@@ -35,7 +40,11 @@ export class Drilling {
     this.ys.push(y);
   }
 
-  /** Adds a rout, from each point to the next. @param {number} tool @param {[number, number][]} points */
+  /**
+   * Adds a rout, from each point to the next.
+   * @param {number} tool
+   * @param {[number, number][]} points
+   */
   rout(tool, points) {
     this.itemTools.push(tool);
     this.pointCounts.push(points.length);
@@ -46,7 +55,10 @@ export class Drilling {
     this.routs++;
   }
 
-  /** Whether another does the same. @param {Drilling} other */
+  /**
+   * Whether another does the same.
+   * @param {Drilling} other
+   */
   isSame(other) {
     return this.unit === other.unit && this.diameters.size === other.diameters.size
       && [...this.diameters].every(([number, diameter]) => other.diameters.get(number) === diameter)

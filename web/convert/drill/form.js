@@ -5,8 +5,11 @@ import { Unsaid } from "../report.js";
 import { DEFAULT_DIGITS } from "./hints.js";
 import { BOTH, LEADING, MM, TRAILING } from "./lengths.js";
 
-/** Digits as `2:4`. @param {import("./lengths.js").Digits} digits */
-export function digitsText({ whole, decimals }) {
+/**
+ * Digits as `2:4`.
+ * @param {import("./lengths.js").Digits} digits
+ */
+function digitsText({ whole, decimals }) {
   return `${whole}:${decimals}`;
 }
 

@@ -5,7 +5,8 @@ import { BOTH, INCH, LEADING, MM, TRAILING, unitOf } from "./lengths.js";
 
 /**
  * A unit, digits or zeros, and where they come from.
- * @typedef {{value: *, source: string}} Told
+ * @template T
+ * @typedef {{value: T, source: string}} Told
  */
 
 /**
@@ -19,11 +20,11 @@ export const DEFAULT_DIGITS = { [MM]: { whole: 3, decimals: 3 }, [INCH]: { whole
 /** All that a source tells of units, digits, zeros and tools. */
 export class Hints {
   constructor() {
-    /** @type {Told[]} */
+    /** @type {Told<import("./lengths.js").Unit>[]} */
     this.units = [];
-    /** @type {Told[]} */
+    /** @type {Told<import("./lengths.js").Digits>[]} */
     this.digits = [];
-    /** @type {Told[]} */
+    /** @type {Told<import("./lengths.js").Zeros>[]} */
     this.zeros = [];
     /** @type {Map<number, ToldTool>} */
     this.tools = new Map();
@@ -31,7 +32,10 @@ export class Hints {
     this.incremental = [];
   }
 
-  /** Adds what another source tells. @param {Hints} other */
+  /**
+   * Adds what another source tells.
+   * @param {Hints} other
+   */
   join(other) {
     for (const kind of ["units", "digits", "zeros", "incremental"]) this[kind].push(...other[kind]);
     for (const [number, tool] of other.tools) this.tools.set(number, tool);
@@ -74,7 +78,7 @@ export function unitHints(code, line) {
     const digits = HEADER_DIGITS.exec(word);
     if (Object.hasOwn(HEADER_ZEROS, word)) hints.zeros.push({ value: HEADER_ZEROS[word], source });
     else if (digits) hints.addDigits(digits[1].length, digits[2].length, source);
-    else throw new Unsaid(`${code}: what ${word || "nothing"} after a comma means is not known`);
+    else throw new Unsaid(`${code}: ${word || "nothing"} after a comma is not known: choose METRIC or INCH, LZ or TZ`);
   }
   return hints;
 }
@@ -88,6 +92,7 @@ const MENTOR_FORMAT = /Format\s*:\s*(\d)\.(\d)\s*\/\s*(\w+)\s*\/\s*(MM|INCH)\b/i
 const ALLEGRO_TOOL = new RegExp("(?:T(\\d+)\\s+)?Holesize\\s+(\\d+)\\.?\\s*=\\s*([\\d.]+)\\b.*\\b(MILS|INCHES|MM|MICRONS)\\b"
   + "(?:\\s+Quantity\\s*=\\s*(\\d+))?", "i");
 
+/** @param {RegExpExecArray} found @param {number} line */
 function kicadHints(found, line) {
   const hints = new Hints(), source = `the comment FORMAT={..} on line ${line}`;
   const [, whole, decimals, mode, unit, zeros] = found;
@@ -99,6 +104,7 @@ function kicadHints(found, line) {
   return hints;
 }
 
+/** @param {RegExpExecArray} found @param {number} line */
 function mentorHints([, whole, decimals, mode, unit], line) {
   const hints = new Hints(), source = `the comment Format : .. on line ${line}`;
   hints.addDigits(whole, decimals, source);

@@ -4,7 +4,7 @@
 import { Unsaid } from "../report.js";
 
 /** How many places camplot reads. */
-export const MOST_DECIMALS = 9;
+const MOST_DECIMALS = 9;
 /** One unit, in 10^-9 units. */
 export const ONE = 1e9;
 // Whole parts of more digits than these are past every limit of a drill file.
@@ -20,22 +20,25 @@ export const LEADING = "leading", TRAILING = "trailing", BOTH = "both";
 /**
  * How many digits stand before the point and after it, where none is left out.
  * @typedef {{whole: number, decimals: number}} Digits
+ *
+ * @typedef {"mm" | "inch"} Unit
+ * @typedef {"leading" | "trailing" | "both"} Zeros  those that a file writes
  */
 
 /**
  * The digits before the point and after it that a number's text stands for.
  * @param {string} text a number with a point, or one that is placed by digits and zeros
  * @param {Digits | null} digits
- * @param {"leading" | "trailing" | "both" | null} zeros
+ * @param {Zeros | null} zeros
  * @returns {{isNegative: boolean, whole: string, decimals: string}} without zeros that say nothing
  * @throws {Unsaid} where it is no number, or nothing places it
  */
 function partsOf(text, digits, zeros) {
   const found = NUMBER.exec(text);
-  if (!found) throw new Unsaid(`${text || "nothing"} is no number`);
+  if (!found) throw new Unsaid(`${text || "nothing"} is no number: write it in digits`);
   let whole = found[1] ?? "", decimals = found[2] || found[3] || "";
   if (!text.includes(".") && /[1-9]/.test(whole)) {
-    if (!digits || !zeros) throw new Unsaid(`${text} has no point`);
+    if (!digits || !zeros) throw new Unsaid(`${text} has no point: give --digits and --zeros`);
     const body = zeros === LEADING ? whole.padEnd(digits.whole, "0") : whole.padStart(digits.decimals + 1, "0");
     const point = zeros === LEADING ? digits.whole : body.length - digits.decimals;
     whole = body.slice(0, point);
@@ -54,7 +57,7 @@ function withoutLastZeros(digits) {
  * The value of a number's text as a decimal with a point: `1.5`, `-0.002`, `3.0`.
  * @param {string} text
  * @param {Digits | null} digits
- * @param {string | null} zeros
+ * @param {Zeros | null} zeros
  * @returns {string}
  */
 export function decimalOf(text, digits, zeros) {
@@ -67,14 +70,15 @@ export function decimalOf(text, digits, zeros) {
  * The length that a number's text stands for.
  * @param {string} text
  * @param {Digits | null} digits
- * @param {string | null} zeros
+ * @param {Zeros | null} zeros
  * @returns {number} in 10^-9 units; Infinity or -Infinity where it is a million units or more
  * @throws {Unsaid} where it is no number, nothing places it, or it has more places than camplot reads
  */
 export function lengthOf(text, digits, zeros) {
   const { isNegative, whole, decimals } = partsOf(text, digits, zeros);
   if (decimals.length > MOST_DECIMALS) {
-    throw new Unsaid(`${decimalOf(text, digits, zeros)} has more than the ${MOST_DECIMALS} decimals that camplot reads`);
+    throw new Unsaid(`${decimalOf(text, digits, zeros)} has more than the ${MOST_DECIMALS} decimals that camplot reads: `
+      + "choose fewer");
   }
   if (whole.length > WHOLE_DIGITS) return isNegative ? -Infinity : Infinity;
   const value = Number(whole + decimals) * POWERS[MOST_DECIMALS - decimals.length];
@@ -85,7 +89,7 @@ export function lengthOf(text, digits, zeros) {
  * A function that gives the length of a coordinate that stands in a line from one place to before another, as `lengthOf`
  * does, where it has few digits and no sign but `-`; else NaN.
  * @param {Digits | null} digits
- * @param {string | null} zeros
+ * @param {Zeros | null} zeros
  * @returns {(line: string, from: number, to: number) => number}
  */
 export function quickReader(digits, zeros) {
@@ -153,12 +157,21 @@ export function sizeOf(number, name, wanted) {
   return exact;
 }
 
-/** The unit that a name stands for. @param {string} name @returns {"mm" | "inch"} */
+/**
+ * The unit that a name stands for.
+ * @param {string} name
+ * @returns {"mm" | "inch"}
+ */
 export function unitOf(name) {
   return FACTORS[name.toLowerCase()][0];
 }
 
-/** A length in mm. @param {number} length in 10^-9 of its unit @param {string} unit @returns {number} mm, nearly */
+/**
+ * A length in mm.
+ * @param {number} length in 10^-9 of its unit
+ * @param {string} unit
+ * @returns {number} mm, nearly
+ */
 export function inMm(length, unit) {
   return unit === INCH ? length * 25.4 / ONE : length / ONE;
 }

@@ -24,12 +24,18 @@ export class Lines {
     return this.starts.length - 1;
   }
 
-  /** Where a line ends, counted from 0, in the text. @param {number} at */
+  /**
+   * Where a line ends, counted from 0, in the text.
+   * @param {number} at
+   */
   endOf(at) {
     return this.starts[at + 1] - 1;
   }
 
-  /** A line's code. @param {number} at the line, from 0 */
+  /**
+   * A line's code.
+   * @param {number} at the line, from 0
+   */
   code(at) {
     return this.text.slice(this.starts[at], this.endOf(at));
   }

@@ -9,14 +9,17 @@ const BOARD_MM = 1000;
 // Coordinates are hits, or the tool goes to a rout's start, or cuts one.
 const DRILLING = "drilling", RAISED = "raised", LOWERED = "lowered";
 
-/** A code: a letter and the number behind it. @typedef {[string, string]} Code */
+/**
+ * A code: a letter and the number behind it.
+ * @typedef {[string, string]} Code
+ */
 
 /** The machine: its tool, where it is, and what it drilled and routed. What it cannot do throws Unsaid. */
 export class Machine {
   /**
    * @param {"mm" | "inch"} unit
    * @param {import("./lengths.js").Digits | null} digits
-   * @param {string | null} zeros
+   * @param {import("./lengths.js").Zeros | null} zeros
    */
   constructor(unit, digits, zeros) {
     this.drilling = new Drilling(unit);
@@ -38,9 +41,12 @@ export class Machine {
     return this.height === LOWERED;
   }
 
-  /** Stops a code that may not stand while the tool is down. @param {string} code */
+  /**
+   * Stops a code that may not stand while the tool is down.
+   * @param {string} code
+   */
   raisedOnly(code) {
-    if (this.isLowered) throw new Unsaid(`${code} while the tool is down: the M16 before it is missing`);
+    if (this.isLowered) throw new Unsaid(`${code} while the tool is down: add the M16 that is missing before it`);
   }
 
   /**
@@ -60,21 +66,30 @@ export class Machine {
     return true;
   }
 
-  /** G05 or G81: what follows are hits. @param {Code[]} rest */
+  /**
+   * G05 or G81: what follows are hits.
+   * @param {Code[]} rest
+   */
   drill(rest) {
     this.height = DRILLING;
     if (rest.length) this.place(rest);
   }
 
-  /** G00: goes to a rout's start. @param {Code[]} rest */
+  /**
+   * G00: goes to a rout's start.
+   * @param {Code[]} rest
+   */
   approach(rest) {
     this.height = RAISED;
     if (rest.length) this.goTo(rest);
   }
 
-  /** G01: cuts to a point. @param {Code[]} rest */
+  /**
+   * G01: cuts to a point.
+   * @param {Code[]} rest
+   */
   cutTo(rest) {
-    if (!this.isLowered) throw new Unsaid("G01 while the tool is up: the M15 before it is missing");
+    if (!this.isLowered) throw new Unsaid("G01 while the tool is up: add the M15 that is missing before it");
     this.hasCut = true;
     if (rest.length) {
       this.goTo(rest);
@@ -84,8 +99,8 @@ export class Machine {
 
   /** M15: begins a rout. */
   lower() {
-    if (this.isLowered) throw new Unsaid("M15 while the tool is down");
-    if (this.height !== RAISED) throw new Unsaid("M15 with no G00 before it");
+    if (this.isLowered) throw new Unsaid("M15 while the tool is down: add the M16 that is missing before it");
+    if (this.height !== RAISED) throw new Unsaid("M15 with no G00 before it: add the G00 to where the rout starts");
     this.needTool();
     this.height = LOWERED;
     this.hasCut = false;
@@ -98,7 +113,10 @@ export class Machine {
     this.height = RAISED;
   }
 
-  /** A hit, a slot by G85, or where routing is modal a further cut. @param {Code[]} codes */
+  /**
+   * A hit, a slot by G85, or where routing is modal a further cut.
+   * @param {Code[]} codes
+   */
   place(codes) {
     const half = codes.findIndex(([letter, text]) => letter === "G" && text === "85");
     if (this.height === DRILLING && half < 0) {
@@ -106,6 +124,7 @@ export class Machine {
       this.hit(this.x, this.y);
     } else if (this.height === DRILLING) {
       this.goTo(codes.slice(0, half));
+      /** @type {[number, number]} */
       const start = [this.x, this.y];
       this.goTo(codes.slice(half + 1));
       this.needTool();
@@ -114,7 +133,8 @@ export class Machine {
     } else if (this.isLowered && this.hasCut && half < 0) {
       this.cutTo(codes);
     } else {
-      throw new Unsaid("a coordinate or a slot that the mode of routing does not cover: G05, G00 or G01 is missing");
+      throw new Unsaid("a coordinate or a slot that the mode of routing does not cover: add the G05, G00 or G01 that is "
+        + "missing before it");
     }
   }
 
@@ -131,7 +151,7 @@ export class Machine {
     if (codes.length === 0 || texts.size !== codes.length || !codes.every(isAxis)) {
       const shown = codes.map(([letter, text]) => letter + text).join("");
       const why = codes.map(([letter]) => whyNotLetter(letter)).find((found) => found);
-      throw new Unsaid(`${shown || "nothing"} is ${why ?? "no point of one X and one Y"}`);
+      throw new Unsaid(`${shown || "nothing"} is ${why ?? "no point: write one X and one Y"}`);
     }
     const x = texts.has("X") ? this.coordinate(texts.get("X")) : this.x;
     const y = texts.has("Y") ? this.coordinate(texts.get("Y")) : this.y;
@@ -139,7 +159,10 @@ export class Machine {
     this.y = y;
   }
 
-  /** The length of a number's text. @param {string} text */
+  /**
+   * The length of a number's text.
+   * @param {string} text
+   */
   length(text) {
     return lengthOf(text, this.digits, this.zeros);
   }
@@ -147,11 +170,11 @@ export class Machine {
   coordinate(text) {
     const { unit } = this.drilling, value = this.length(text);
     if (Math.abs(inMm(value, unit)) < BOARD_MM) return value;
-    throw new Unsaid(`a coordinate of ${decimalOf(text, this.digits, this.zeros)} ${unit} is 1 m or more from 0: unit, `
-      + "digits or zeros do not fit");
+    throw new Unsaid(`a coordinate of ${decimalOf(text, this.digits, this.zeros)} ${unit} is 1 m or more from 0: give `
+      + "the unit, the digits or the zeros by --unit, --digits or --zeros");
   }
 
   needTool() {
-    if (this.tool === null) throw new Unsaid("a hole before any tool is selected");
+    if (this.tool === null) throw new Unsaid("a hole before any tool is selected: add the T that is missing before it");
   }
 }

@@ -18,7 +18,7 @@ export class Reader {
   /**
    * @param {"mm" | "inch"} unit
    * @param {import("./lengths.js").Digits | null} digits
-   * @param {string | null} zeros
+   * @param {import("./lengths.js").Zeros | null} zeros
    * @param {Map<number, number>} given the diameters of tools by options, in 10^-9 units
    * @param {Map<number, import("./hints.js").ToldTool>} told the tools by comments and a report
    */
@@ -45,7 +45,10 @@ export class Reader {
     return this.machine.drilling;
   }
 
-  /** Reads all lines. @param {import("./lines.js").Lines} lines */
+  /**
+   * Reads all lines.
+   * @param {import("./lines.js").Lines} lines
+   */
   read(lines) {
     this.toolZero = numberForZero(lines);
     for (let at = 0; at < lines.count; at++) {
@@ -121,13 +124,14 @@ export class Reader {
     } else if (letter === "T") {
       this.nameTool(text, rest);
     } else if (letter === "G" || letter === "M") {
-      if (!/^\d+$/.test(text)) throw new Unsaid(`${letter}${text} is no code`);
+      if (!/^\d+$/.test(text)) throw new Unsaid(`${letter}${text} is no code: choose Excellon format 2 or XNC`);
       if (letter === "G") this.preparatory(Number(text), rest);
       else this.miscellaneous(Number(text), rest);
     } else if (letter === "X" || letter === "Y") {
       this.machine.place(codes);
     } else {
-      throw new Unsaid(`${letter}${text} is ${whyNotLetter(letter) ?? "no code that is known"}`);
+      const why = whyNotLetter(letter) ?? "no code that is known: choose Excellon format 2 or XNC";
+      throw new Unsaid(`${letter}${text} is ${why}`);
     }
   }
 
@@ -184,6 +188,7 @@ export class Reader {
   }
 
   // Declares a tool in the header, and selects one in the body, which may declare it first.
+  /** @param {string} text @param {import("./machine.js").Code[]} rest */
   nameTool(text, rest) {
     const own = toolNumber(text), number = own || this.toolZero;
     if (!own && number) this.change(`T${text} is written as T${number}: in XNC T0 selects no tool`);
@@ -192,7 +197,7 @@ export class Reader {
     for (; count < rest.length && (rest[count][0] === "C" || FEEDS.has(rest[count][0])); count++) sizes.set(...rest[count]);
     const places = rest.slice(count);
     if (sizes.size < count || places.some(([letter]) => letter === "C" || FEEDS.has(letter))) {
-      throw new Unsaid(`T${text}: parameters that are not known`);
+      throw new Unsaid(`T${text}: parameters that are not known: leave them out, but the diameter`);
     }
     if (sizes.size > (sizes.has("C") ? 1 : 0)) this.change("feeds, speeds and hit limits of tools are left out");
     if (!this.isInHeader) {
@@ -232,7 +237,11 @@ export class Reader {
   }
 }
 
-// A line's codes.
+/**
+ * A line's codes.
+ * @param {string} code
+ * @returns {import("./machine.js").Code[]}
+ */
 function cut(code) {
   if (!CODES.test(code) || /^[A-Z]{2}/.test(code)) {
     throw new Unsaid(`${code.slice(0, 40)} is ${whyNotWord(/^[A-Z]*/.exec(code)[0])}`);

@@ -17,7 +17,7 @@ export const FEEDS = new Set("FSBHZ");
  */
 export function toolNumber(text) {
   if (!/^\d+$/.test(text) || Number(text) > MOST_NUMBER) {
-    throw new Unsaid(`T${text} is no number of a tool from 1 to ${MOST_NUMBER}`);
+    throw new Unsaid(`T${text} is no number of a tool from 1 to ${MOST_NUMBER}: choose another`);
   }
   return Number(text);
 }
@@ -32,7 +32,9 @@ export function toolNumber(text) {
  */
 export function allowedDiameter(diameter, unit, shown) {
   const mm = inMm(diameter, unit);
-  if (!(mm >= LEAST_MM && mm <= MOST_MM)) throw new Unsaid(`${shown}: a diameter outside 1 nm to 200 mm`);
+  if (!(mm >= LEAST_MM && mm <= MOST_MM)) {
+    throw new Unsaid(`${shown}: a diameter outside 1 nm to 200 mm: give another by --tool`);
+  }
   return diameter;
 }
 
@@ -57,12 +59,19 @@ export function diameterOf(number, size, told, unit) {
   return { diameter: allowedDiameter(lengthOf(size, null, null), unit, shown), source: null };
 }
 
-/** A line that declares a tool. @param {number} number @param {number} diameter in 10^-9 units */
+/**
+ * A line that declares a tool.
+ * @param {number} number
+ * @param {number} diameter in 10^-9 units
+ */
 export function declarationText(number, diameter) {
   return `T${number}C${lengthText(diameter)}`;
 }
 
-/** The line of a unit. @param {"mm" | "inch"} unit */
+/**
+ * The line of a unit.
+ * @param {"mm" | "inch"} unit
+ */
 export function unitLine(unit) {
   return unit === MM ? "METRIC" : "INCH";
 }

@@ -40,6 +40,7 @@ export function offsetsThatFit(start, end, offsets, isClockwise, step) {
   const signsOf = (offset) => (offset === 0 ? [1] : [1, -1]);
   for (const a of signsOf(offsets[0])) {
     for (const b of signsOf(offsets[1])) {
+      /** @type {[number, number]} */
       const signed = [a * offsets[0], b * offsets[1]];
       const [first, last] = [start, end].map((place) => place.map((value, axis) => value - start[axis] - signed[axis]));
       if (sweepOf(first, last, isClockwise) <= QUARTER + ANGLE_SLACK) {

@@ -3,6 +3,9 @@
  *
  * @typedef {object} Options
  * @property {"mm" | "inch"} [unit]  the unit of a file that does not tell it
+ * @property {{whole: number, decimals: number}} [format]  the digits before and behind the point, of a file that does not
+ *   tell them before its first coordinate
+ * @property {"leading" | "trailing"} [zeros]  the zeros that such a file writes; without it the trailing ones
  * @property {"single" | "multi"} [arcs]  the arcs of a file with neither G74 nor G75
  * @property {boolean} [repeat]  whether coordinates without a code repeat D02 and D03 too
  * @property {boolean} [nearest]  whether what has no exact form is written by the nearest that has one
@@ -16,14 +19,13 @@
 
 import { Changes, Failure, Unsaid } from "../report.js";
 import { hasByteOrderMark, latin1 } from "../../bytes.js";
-import { isComment } from "./cut.js";
+import { CONTROLS, isComment } from "./cut.js";
 import { settleApertures } from "./definitions.js";
 import { rewriteExtended } from "./extended.js";
 import { passQuickWord } from "./quick_words.js";
 import { State } from "./state.js";
 import { rewriteWord } from "./words.js";
 
-const ODD = /[\x00-\x08\x0b\x0c\x0e-\x1f\x7f]/g;
 const LF = 10, CR = 13, SPACE = 32, TAB = 9;
 
 /**
@@ -74,7 +76,10 @@ function checkAgain(written, said) {
   }
 }
 
-/** Goes through a file. @returns {State} what it told, and what is written */
+/**
+ * Goes through a file.
+ * @returns {State} what it told, and what is written
+ */
 function rewritten(bytes, options, changes) {
   const state = new State(bytes, options, changes);
   const { cutter } = state;
@@ -104,13 +109,16 @@ function cleanGap(state) {
     if (byte !== LF && byte !== CR && byte !== SPACE && byte !== TAB) {
       state.line = cutter.line;
       state.change("control characters between commands are left out");
-      state.output.replace(cutter.gap, cutter.start, [cutter.gapText.replace(ODD, "")]);
+      state.output.replace(cutter.gap, cutter.start, [cutter.gapText.replace(CONTROLS, "")]);
       return;
     }
   }
 }
 
-/** Writes a command that may not stay as it stands. @returns {boolean} whether it ends the file */
+/**
+ * Writes a command that may not stay as it stands.
+ * @returns {boolean} whether it ends the file
+ */
 function rewriteCommand(state) {
   const { cutter } = state;
   const raw = cutter.text;
@@ -132,7 +140,7 @@ function rewriteCommand(state) {
 }
 
 function comment(state, raw) {
-  const clean = raw.replace(ODD, "");
+  const clean = raw.replace(CONTROLS, "");
   if (clean !== raw) {
     state.change("control characters in a comment are left out");
   }

@@ -32,7 +32,10 @@ export class Cutter {
     this.pieceAt = 0;
   }
 
-  /** Goes to the next command's start. @returns {boolean} whether one begins there */
+  /**
+   * Goes to the next command's start.
+   * @returns {boolean} whether one begins there
+   */
   passGap() {
     const { bytes } = this;
     let at = this.end;
@@ -47,7 +50,10 @@ export class Cutter {
     return at < bytes.length;
   }
 
-  /** Finds the end of the command that begins here. @returns {boolean} whether it has one */
+  /**
+   * Finds the end of the command that begins here.
+   * @returns {boolean} whether it has one
+   */
   passCommand() {
     const { bytes } = this;
     let at = this.start;
@@ -88,6 +94,9 @@ export class Cutter {
     return this.piece.slice(start - this.pieceAt, end - this.pieceAt);
   }
 }
+
+/** Control characters that are no blanks; a character of a text is a byte. */
+export const CONTROLS = /[^\t\n\r -~\x80-\xff]/g;
 
 /** @returns {boolean} whether a word is a comment */
 export const isComment = (text) => COMMENT.test(text);

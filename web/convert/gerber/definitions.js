@@ -1,26 +1,16 @@
 /** AM and AD: macros and apertures, defined once or again, and those that are written in another form. */
 
 import { Unsaid } from "../report.js";
-import { decimal, modulo, shown } from "../exact.js";
+import { decimal } from "../exact.js";
+import { ANEW, REGIONS } from "./advice.js";
 import { Aperture } from "./dictionary.js";
 import { NoValue, macroOf } from "./macros.js";
 import { partOf, partsOfTemplate } from "./parts.js";
 import { Placing, Rounding } from "./placing.js";
+import { isOneSided, refusal } from "./refused_apertures.js";
 import { macroTexts, placedParts } from "./shapes_written.js";
 import { missingUnit } from "./front.js";
 
-/** What may be rounded to be written. */
-export const NEAREST = "or give --nearest";
-export const TURN_ADVICE = "have such pads plotted as regions, or turn them to a quarter; in KiCad tick Disable aperture " +
-  `macros; ${NEAREST}`;
-const POLYGON_ADVICE = `choose round, square or long pads, or have them plotted as regions, ${NEAREST}`;
-const REFUSED = {
-  5: `primitive 5, a polygon (EAGLE writes octagonal pads so): ${POLYGON_ADVICE}`,
-  6: `primitive 6, a moire: have such targets drawn by lines and arcs, ${NEAREST}`,
-  7: `primitive 7, a thermal: have thermals drawn, or left out of a region, ${NEAREST}`,
-};
-/** Which of the values behind a code is the rotation. */
-const ROTATIONS = { 1: 4, 2: 6, 20: 6, 21: 5 };
 /** EAGLE's octagon, whose factor is itself rounded to five decimals. */
 const OCTAGON = /^5,1,8,0(\.0*)?,0(\.0*)?,1\.08239X\$1,22\.5$/i;
 const STANDARD = ["C", "R", "O", "P"];
@@ -64,7 +54,7 @@ export function defineAperture(state, packed) {
   const { dictionary } = state;
   const found = /^ADD(\d+)([^,]*)(?:,(.*))?$/i.exec(packed);
   if (found === null) {
-    throw new Unsaid(`%${packed.slice(0, 30)}*% defines no aperture: a number and a template are wanted`);
+    throw new Unsaid(`%${packed.slice(0, 30)}*% defines no aperture, which has a number and a template: ${ANEW}`);
   }
   const before = missingUnit(state);
   const [, digits, name, parameters] = found;
@@ -73,10 +63,11 @@ export function defineAperture(state, packed) {
   const macro = STANDARD.includes(template) ? null : dictionary.macros.get(template);
   const sizes = texts.map(decimal);
   const isKnown = !sizes.includes(null);
-  const unsaid = isKnown ? refusal(template, macro, sizes) : "";
+  const unsaid = refusal({ template, macro, sizes: isKnown ? sizes : null }, state.lengthUnit);
   const fileNumber = Number(digits);
-  const aperture = new Aperture({ number: fileNumber, template, macro, sizes: isKnown ? sizes : [], text: packed,
-    line: state.line, unsaid });
+  const isSquare = isKnown && isOneSided(template, sizes);
+  const aperture = new Aperture({ number: fileNumber, template, macro, text: packed, line: state.line, unsaid,
+    sizes: isSquare ? [sizes[0], sizes[0]] : isKnown ? sizes : [] });
   if (!isKnown) {
     aperture.key = packed;
   }
@@ -92,12 +83,13 @@ export function defineAperture(state, packed) {
   dictionary.apertures.set(fileNumber, aperture);
   state.refresh();
   before.push(...movedMacro(state, template, macro));
+  const number = old === null ? digits : aperture.number;
   if (unsaid !== "") {
     aperture.slot = { text: "" };
+    aperture.square = isSquare ? `%ADD${number}${template},${texts[0]}X${texts[0]}*%` : "";
     dictionary.waiting.push(aperture);
     return [...before, aperture.slot];
   }
-  const number = old === null ? digits : aperture.number;
   const rest = parameters === undefined ? "" : `,${texts.join("X")}`;
   const written = `ADD${number}${macro?.name ?? template}${rest}`;
   if (/[a-z]/.test(packed) && written !== packed && packed.toUpperCase() !== packed) {
@@ -127,7 +119,7 @@ function templateOf(state, packed, name) {
   }
   const later = dictionary.laterMacro(name) ?? dictionary.laterMacro(capitals);
   if (later === null) {
-    throw new Unsaid(`%${packed}*%: no macro of this name stands before or after it`);
+    throw new Unsaid(`%${packed}*%: no macro of this name stands before or after it: ${ANEW}`);
   }
   later.macro.isMoved = true;
   dictionary.macros.set(later.macro.name, later.macro);
@@ -144,39 +136,6 @@ function movedMacro(state, template, macro) {
   return [`%${macro.text}*%`];
 }
 
-/** Why camplot refuses an aperture, with what to do about it; nothing where it does not, or where it tells better. */
-function refusal(template, macro, sizes) {
-  if (template === "P") {
-    return `a polygon: ${POLYGON_ADVICE}`;
-  }
-  if (macro === null) {
-    return sizes.length > (template === "C" ? 2 : 3) ? `a rectangular hole: choose a round one, or none, ${NEAREST}` : "";
-  }
-  const part = macro.unreadable();
-  if (part !== null) {
-    return `camplot reads no ${part.slice(0, 40)}*, as its macro has it: have such pads plotted as regions`;
-  }
-  try {
-    return macro.primitives(sizes).map(refusalOf).find((text) => text !== "") ?? "";
-  } catch (error) {
-    if (error instanceof NoValue) {
-      return "";
-    }
-    throw error;
-  }
-}
-
-function refusalOf({ code, fields }) {
-  if (REFUSED[code] !== undefined) {
-    return REFUSED[code];
-  }
-  const turn = fields[code === "4" ? 2 * Number(fields[1]?.n ?? 0n) + 4 : ROTATIONS[code] ?? -1];
-  if (turn === undefined || modulo(turn, 90n).n === 0n) {
-    return "";
-  }
-  return `a rotation of ${shown(turn)} degrees: ${TURN_ADVICE}`;
-}
-
 /**
  * The parts of an aperture's flash.
  * @param {Aperture} aperture
@@ -188,7 +147,7 @@ export function partsOf({ template, macro, sizes, text }) {
     throw new Unsaid(`aperture ${text}, a block`);
   }
   if (macro === null) {
-    return partsOfTemplate(template, sizes);
+    return partsOfTemplate(/** @type {import("./parts.js").Template} */ (template), sizes);
   }
   try {
     return macro.primitives(sizes).map(partOf);
@@ -201,19 +160,27 @@ export function partsOf({ template, macro, sizes, text }) {
 export function settleApertures(state) {
   for (const aperture of state.dictionary.waiting) {
     const { text, line, unsaid, slot } = aperture;
-    const mayRound = (aperture.macro?.unreadable() ?? null) === null;
     const why = unsaid.split(":")[0].replace(/ \(.*/, "");
     if (!aperture.isUsed) {
       const reason = aperture.isReplaced ? "others are written for it" : `nothing is painted with it (${why})`;
       state.changes.add(`%${text.slice(0, 60)}*% is left out: ${reason}`, line);
-    } else if (mayRound && (state.options.nearest || OCTAGON.test(aperture.macro?.key ?? ""))) {
+    } else if (aperture.square !== "" && !aperture.isHopeless && state.options.nearest) {
+      slot.text = aperture.square;
+      state.changes.add(`%${text.slice(0, 60)}*% (${why}) is written as ${slot.text}, with equal sides`, line);
+      selectAgain(aperture);
+    } else if (!aperture.isHopeless && (state.options.nearest || OCTAGON.test(aperture.macro?.key ?? ""))) {
       slot.text = nearestText(state, aperture, why);
-      for (const { slot: place, text: word } of aperture.selections) {
-        place.text = word;
-      }
+      selectAgain(aperture);
     } else {
       state.refusals.push({ line, what: `%${text.slice(0, 60)}*%${aperture.macro === null ? "," : ":"} ${unsaid}` });
     }
+  }
+}
+
+/** Writes the selections of an aperture whose definition is written. */
+function selectAgain({ selections }) {
+  for (const { slot, text } of selections) {
+    slot.text = text;
   }
 }
 
@@ -229,7 +196,7 @@ function nearestText(state, aperture, why) {
     if (!(error instanceof Unsaid)) {
       throw error;
     }
-    state.refusals.push({ line: aperture.line, what: `%${aperture.text.slice(0, 60)}*%: ${error.message}` });
+    state.refusals.push({ line: aperture.line, what: `%${aperture.text.slice(0, 60)}*%: ${error.message}: ${REGIONS}` });
     return "";
   }
 }

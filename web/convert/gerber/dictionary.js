@@ -5,10 +5,13 @@
  * @typedef {{text: string, at?: number}} Slot  a place of the output whose text is settled at the end
  */
 
+import { NEAREST } from "./advice.js";
 import { commandsFrom } from "./cut.js";
 import { macroOf } from "./macros.js";
 
 const PREFIX = "Nearest";
+/** Which parameter is the first of a hole. */
+const HOLE_AT = { C: 1, R: 2, O: 2, P: 3 };
 const D_CAPITAL = 68, D_SMALL = 100, ZERO = 48, NINE = 57;
 const GREATEST_NUMBER = 2_147_483_647;
 
@@ -34,16 +37,20 @@ export class Aperture {
     this.unsaid = unsaid;
     /** Whether it is written as it stands, so that operations may use it as they stand. */
     this.isKept = unsaid === "";
+    /** Whether no option helps: what it is used for is refused with it. */
+    this.isHopeless = unsaid !== "" && !unsaid.includes(NEAREST);
     this.isUsed = false;
     /** Whether other apertures are written for some of what is painted with it. */
     this.isReplaced = false;
     /** @type {Slot | null} where its definition is written, once it is known that it is used */
     this.slot = null;
+    /** What is written of one that has one side alone; nothing of another. */
+    this.square = "";
     /** @type {{slot: Slot, text: string}[]} where it is selected */
     this.selections = [];
-    const hasHole = sizes.slice(template === "C" ? 1 : 2).some((size) => size.n !== 0n);
-    this.isSolidCircle = template === "C" && !hasHole;
-    this.isSolidRectangle = template === "R" && !hasHole;
+    this.hasHole = sizes.slice(HOLE_AT[template] ?? sizes.length).some((size) => size.n !== 0n);
+    this.isSolidCircle = template === "C" && !this.hasHole;
+    this.isSolidRectangle = template === "R" && !this.hasHole;
     /** What tells whether two definitions are the same. */
     const values = sizes.map(({ n, d }) => `${n}/${d}`).join("X");
     this.key = `${macro === null ? template : `${macro.name}*${macro.key}`},${values}`;

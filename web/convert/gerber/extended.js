@@ -1,15 +1,15 @@
 /** Extended commands of old files, and what is written of them. */
 
-import { Unsaid } from "../report.js";
+import { Failure, Unsaid } from "../report.js";
 import { decimal, equal, isZero, modulo, rational, subtract } from "../exact.js";
-import { commandsIn, isWordIn, packed } from "./cut.js";
-import { NEAREST, TURN_ADVICE, defineAperture, defineMacro } from "./definitions.js";
+import { ANEW, NEAREST, TURNS } from "./advice.js";
+import { CONTROLS, commandsIn, isWordIn, packed } from "./cut.js";
+import { defineAperture, defineMacro } from "./definitions.js";
 import { Aperture } from "./dictionary.js";
 import { formOf } from "./form.js";
 import { missingUnit } from "./front.js";
 import { rewriteWord } from "./words.js";
 
-const ODD = /[\x00-\x08\x0b\x0c\x0e-\x1f\x7f]/g;
 const KEPT = ["TF", "TA", "TO", "TD", "IN", "LN"];
 const READ = ["AB", "LM", "LP", "LS", "SR"];
 const REFUSED = {
@@ -24,7 +24,7 @@ const REFUSED = {
   IO: "an image that is moved: plot without offset",
   SF: "an image that is scaled: plot at scale 1",
   LS: `apertures that are scaled: plot at scale 1, ${NEAREST}`,
-  IC: "a code other than ASCII",
+  IC: "a code other than ASCII: plot in ASCII",
 };
 const HEADS = [...KEPT, ...READ, "AD", "AM", "FS", "LR", "MO", "PF", ...Object.keys(REFUSED)];
 /** What an image command says where it changes nothing, for A and B alike. */
@@ -67,7 +67,7 @@ function rewriteCommand(state, command) {
   const text = packed(command);
   const head = text.slice(0, 2).toUpperCase();
   if (!HEADS.includes(head)) {
-    throw new Unsaid(`%${text.slice(0, 20)}*% is no command that is known`);
+    throw new Unsaid(`%${text.slice(0, 20)}*% is no command that is known: ${ANEW}`);
   }
   if (KEPT.includes(head)) {
     return [`%${attribute(state, command)}*%`];
@@ -91,7 +91,7 @@ function keptSo(command, pieces) {
 }
 
 function attribute(state, command) {
-  const clean = command.replace(ODD, "");
+  const clean = command.replace(CONTROLS, "");
   const written = clean.slice(0, 2).toUpperCase() + clean.slice(2);
   if (written !== command) {
     state.change(`control characters or small letters in %${written.slice(0, 2)}..*% are left out or written as capitals`);
@@ -153,12 +153,14 @@ function isLeftOut(text, head) {
 }
 
 function format(state, command, text) {
-  const form = formOf(text);
-  if (state.form !== null && !state.form.equals(form)) {
-    throw new Unsaid(`%${text}*% is another format than before: these are two files in one`);
+  const form = formOf(text, state.givenForm);
+  if (state.givenForm !== null && !state.givenForm.equals(form)) {
+    throw new Failure(`${state.givenForm.options}: the file has %${text}*% on line ${state.line}`);
   }
-  state.form = form;
-  state.refresh();
+  if (state.form !== null && !state.form.equals(form)) {
+    throw new Unsaid(`%${text}*% is another format than before: cut the file in two there, since it is two in one`);
+  }
+  state.tellForm(form);
   if (text === form.target && form.isRead) {
     return `%${command}*%`;
   }
@@ -169,7 +171,7 @@ function format(state, command, text) {
 
 function unit(state, command, text) {
   if (text !== "MOMM" && text !== "MOIN") {
-    throw new Unsaid(`%${text}*% is no unit: MM or IN`);
+    throw new Unsaid(`%${text}*% is no unit: write MM or IN`);
   }
   state.tellUnit(text === "MOMM" ? "mm" : "inch");
   return `%${command}*%`;
@@ -177,7 +179,7 @@ function unit(state, command, text) {
 
 function mirror(state, command, text) {
   if (!/^LM(N|X|Y|XY)$/.test(text)) {
-    throw new Unsaid(`%${text}*% is no mirror`);
+    throw new Unsaid(`%${text}*% is no mirror: write N, X, Y or XY`);
   }
   state.mirror = state.writtenMirror = text.slice(2);
   state.refresh();
@@ -188,12 +190,12 @@ function mirror(state, command, text) {
 function turn(state, command, text) {
   const angle = decimal(text.slice(2) || "0");
   if (angle === null) {
-    throw new Unsaid(`%${text}*% is no rotation`);
+    throw new Unsaid(`%${text}*% is no rotation: write its degrees in digits`);
   }
   const whole = modulo(angle, 360n);
   const left = modulo(whole, 90n);
   if (!isZero(left) && !state.options.nearest) {
-    throw new Unsaid(`%${text}*%, a rotation that is no multiple of 90 degrees: ${TURN_ADVICE}`);
+    throw new Unsaid(`%${text}*%, a rotation that is no multiple of 90 degrees: ${TURNS}`);
   }
   const quarter = subtract(whole, left).n / 90n;
   state.quarters = state.writtenQuarters = Number(quarter);
@@ -208,7 +210,7 @@ function turn(state, command, text) {
 function scale(state, command, text) {
   const factor = decimal(text.slice(2) || "1");
   if (factor === null || factor.n <= 0n) {
-    throw new Unsaid(`%${text}*% is no scale`);
+    throw new Unsaid(`%${text}*% is no scale: write 1`);
   }
   const isOne = equal(factor, ONE);
   if (!isOne && !state.options.nearest) {

@@ -3,7 +3,12 @@
 import { Unsaid } from "../report.js";
 
 const FORMAT = /^FS([LTD])([AI])(?:N\d)?(?:G\d)?X(\d)(\d)Y(\d)(\d)(?:D\d)?(?:M\d)?$/;
+/** One that does not tell which zeros are omitted. */
+const WITHOUT_ZEROS = /^FSA(?:N\d)?(?:G\d)?X(\d)(\d)Y\1\2(?:D\d)?(?:M\d)?$/;
 const MOST_DIGITS = 15;
+
+/** What `--zeros` calls those that are written, by the letter of those that are left out. */
+const WRITTEN = { L: "trailing", T: "leading" };
 
 export class Form {
   /**
@@ -27,6 +32,13 @@ export class Form {
   get target() {
     const digits = `${this.targetWhole}${this.targetDecimals}`;
     return `FSLAX${digits}Y${digits}`;
+  }
+
+  /** @returns {string} the options that give this form, or its command where none do */
+  get options() {
+    const [x, y] = [0, 1].map((axis) => `${this.whole[axis]}.${this.decimals[axis]}`);
+    const zeros = WRITTEN[this.omits];
+    return x !== y || zeros === undefined ? "" : `--format ${x}${zeros === "trailing" ? "" : ` --zeros ${zeros}`}`;
   }
 
   equals(other) {
@@ -66,10 +78,10 @@ export class Form {
     const scaled = body.includes(".") ? pointed(body, this.targetDecimals)
       : this.digits(letter, text, body, whole, decimals) + "0".repeat(this.targetDecimals - decimals);
     if (scaled === null) {
-      throw new Unsaid(`${letter}${text} has more decimals than its format`);
+      throw new Unsaid(`${letter}${text} has more decimals than its format: choose a format of more decimals`);
     }
     if (scaled.replace(/^0+/, "").length > MOST_DIGITS) {
-      throw new Unsaid(`${letter}${text} has more than ${MOST_DIGITS} digits`);
+      throw new Unsaid(`${letter}${text} has more than ${MOST_DIGITS} digits: choose a format of fewer`);
     }
     const size = Number(scaled);
     return text.startsWith("-") && size !== 0 ? -size : size;
@@ -79,12 +91,13 @@ export class Form {
   digits(letter, text, body, whole, decimals) {
     if (this.omits === "T") {
       if (body.length > whole + decimals) {
-        throw new Unsaid(`${letter}${text} has more digits than ${whole}:${decimals}`);
+        throw new Unsaid(`${letter}${text} has more digits than ${whole}:${decimals}: choose the format that it has`);
       }
       return body.padEnd(whole + decimals, "0");
     }
     if (this.omits === "D" && body.length !== whole + decimals && Number(body) !== 0) {
-      throw new Unsaid(`${letter}${text} has neither a point nor all ${whole + decimals} digits`);
+      throw new Unsaid(`${letter}${text} has neither a point nor all ${whole + decimals} digits: choose the form that ` +
+        "leaves leading zeros out");
     }
     return body;
   }
@@ -98,15 +111,36 @@ function pointed(body, decimals) {
 }
 
 /**
+ * The form that options give.
+ * @param {{whole: number, decimals: number}} digits
+ * @param {"leading" | "trailing" | undefined} zeros  those that are written
+ * @returns {Form}
+ */
+export function formOfOptions({ whole, decimals }, zeros) {
+  return new Form(zeros === "leading" ? "T" : "L", [whole, whole], [decimals, decimals]);
+}
+
+/**
  * @param {string} command  an FS command, without skipped bytes
+ * @param {Form | null} [given]  the form that options give: it settles which zeros are omitted
  * @returns {Form}
  * @throws {Unsaid} where it names none that is known
  */
-export function formOf(command) {
+export function formOf(command, given = null) {
   const found = FORMAT.exec(command);
+  const digits = found === null ? WITHOUT_ZEROS.exec(command) : null;
+  if (digits !== null && given !== null) {
+    const [whole, decimals] = digits.slice(1).map(Number);
+    return new Form(given.omits, [whole, whole], [decimals, decimals]);
+  }
+  if (digits !== null) {
+    const option = `--format ${digits[1]}.${digits[2]}`;
+    throw new Unsaid(`%${command}*% does not tell which zeros are omitted: give ${option} where they are the leading ones, ` +
+      `and ${option} --zeros leading where they are the trailing ones`);
+  }
   if (found === null) {
-    throw new Unsaid(`%${command}*% is a format that is not known: wanted are the zeros that are omitted (L or T), A ` +
-      "for absolute, and the digits of X and Y");
+    throw new Unsaid(`%${command}*% is a format that is not known: choose leading or trailing zeros omitted (L, ` +
+      "T), absolute coordinates (A), and the digits of X and Y");
   }
   if (found[2] === "I") {
     throw new Unsaid(`%${command}*% means incremental coordinates: choose absolute ones`);

@@ -1,10 +1,11 @@
-/** What is written before the command that first needs it: a unit, and G75. */
+/** What is written before the command that first needs it: a format, a unit, and G75. */
 
-import { Unsaid } from "../report.js";
 import { commandsFrom } from "./cut.js";
+import { formOf, formOfOptions } from "./form.js";
 import { UNIT_COMMANDS } from "./state.js";
 
 const UNITS = /^(?:MO(MM|IN)$)|G(7[01])(?!\d)/;
+const ANY_FORM = formOfOptions({ whole: 6, decimals: 6 }, "trailing");
 const QUADRANTS = /G7[45](?!\d)/;
 const OFFSETS = /[IJ][-+.0-9]/;
 const SIGNED = /[IJ]-0*[1-9]/;
@@ -22,10 +23,10 @@ function toldUnit(state) {
 }
 
 /**
- * What is to be written before a length where no unit was told before it.
+ * What is to be written before a length where no unit was told before it. Where the unit cannot be known, that is told
+ * once, and all lengths are read as mm.
  * @param {import("./state.js").State} state
  * @returns {string[]} a command, or none
- * @throws {Unsaid} where the unit cannot be known
  */
 export function missingUnit(state) {
   if (state.unit !== null || state.isUnitMissing) {
@@ -40,8 +41,50 @@ export function missingUnit(state) {
     return [written(state, "inch", `as line ${told.line} gives it, too late for camplot`)];
   }
   state.isUnitMissing = true;
-  throw new Unsaid(told === null ? "a length before any unit: give --unit mm or --unit inch"
+  state.refuse(told === null ? "a length before any unit: give --unit mm or --unit inch"
     : `a length before the unit, which is mm by line ${told.line}: give --unit mm where that holds here too`);
+  return [];
+}
+
+/** The format that a file has from the command on that the cutter stands at; null where it has none. */
+function toldForm(state) {
+  const { cutter, bytes } = state;
+  for (const { text, line, isExtended } of commandsFrom(bytes, cutter.start, cutter.line, true)) {
+    const command = text.toUpperCase();
+    if (isExtended && command.startsWith("FS")) {
+      return { command, line, form: formOf(command) };
+    }
+  }
+  return null;
+}
+
+/**
+ * What is to be written before a coordinate where no format was told before it. Where no option gives one, that is told
+ * once, and coordinates are read in some form.
+ * @param {import("./state.js").State} state
+ * @returns {string[]} a command, or none
+ */
+export function missingForm(state) {
+  if (state.form !== null) {
+    return [];
+  }
+  if (state.givenForm === null) {
+    const told = toldForm(state);
+    state.refuse(`a coordinate before the format (%FS..*%)${formAdvice(told)}`);
+    state.tellForm(told?.form ?? ANY_FORM);
+    return [];
+  }
+  state.tellForm(state.givenForm);
+  state.change(`%${state.form.target}*% is written before it, as --format gives it`);
+  return [`%${state.form.target}*%`];
+}
+
+function formAdvice(told) {
+  const choose = "choose RS-274X, or give the digits before and after the point as --format 2.4, with --zeros leading " +
+    "where trailing zeros are left out";
+  return told === null ? `: ${choose}`
+    : `, which line ${told.line} has too late, as %${told.command}*%: ${told.form.options === "" ? "write it in front"
+      : `give ${told.form.options} where that holds here too`}`;
 }
 
 function written(state, unit, why) {

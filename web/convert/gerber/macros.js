@@ -2,7 +2,7 @@
  * Aperture macros: their texts, and what they make of the parameters of an AD, primitive by primitive.
  *
  * @typedef {import("../exact.js").Rational} Rational
- * @typedef {{code: string, fields: Rational[]}} Primitive  its code as it stands, and the values behind it
+ * @typedef {{code: string, fields: Rational[]}} Primitive  its code without leading zeros, and the values behind it
  */
 
 import { decimal, half, add, nearest, decimalText, multiply, rational } from "../exact.js";
@@ -11,7 +11,7 @@ import { NoValue, isExpression, valueOf } from "./expressions.js";
 const SKIPPED = /[ \t\r\n]/g;
 const VARIABLE = /^\$(\d+)=(.*)$/;
 /** Bytes that a comment of a macro may not hold. */
-const ODD = /[\x00-\x08\x0b\x0c\x0e-\x1f\x7f-\xff]/g;
+const ODD = /[^\t\n\r -~]/g;
 
 export class Macro {
   /**
@@ -25,6 +25,8 @@ export class Macro {
     this.text = text;
     /** What tells whether two macros are the same. */
     this.key = parts.join("*");
+    /** Whether it is named before it is defined, so that it is moved there; and whether it is written there. */
+    this.isMoved = this.isWritten = false;
   }
 
   /** @returns {string | null} the first part that is outside the grammar */
@@ -46,7 +48,7 @@ export class Macro {
         variables.set(Number(found[1]), valueOf(found[2], variables));
       } else {
         const [code, ...fields] = part.split(",");
-        primitives.push({ code, fields: fields.map((field) => valueOf(field, variables)) });
+        primitives.push({ code: code.replace(/^0+(?=\d)/, ""), fields: fields.map((field) => valueOf(field, variables)) });
       }
     }
     return primitives;
@@ -63,7 +65,8 @@ function isPart(part) {
   if (found !== null) {
     return Number(found[1]) >= 1 && Number(found[1]) <= 9999 && isExpression(found[2]);
   }
-  return part.split(",").every(isExpression);
+  const [code, ...fields] = part.split(",");
+  return /^\d+$/.test(code) && fields.every(isExpression);
 }
 
 /**

@@ -11,14 +11,17 @@
  * @typedef {{kind: "outline", on: boolean, points: Point[], turn: Rational}} Outline
  * @typedef {{kind: "polygon", on: boolean, count: number, diameter: Rational, at: Point, start: Rational,
  *   turn: Rational}} Polygon  a regular one, whose first corner lies in the direction of start
- * @typedef {{kind: "moire" | "thermal", parts: Part[]}} Composite  parts that take away from one another alone
- * @typedef {Disc | Bar | Rectangle | Outline | Polygon | Composite} Part
+ * @typedef {Disc | Bar | Rectangle | Outline | Polygon} Shape
+ * @typedef {{kind: "moire" | "thermal", parts: Shape[]}} Composite  shapes that take away from one another alone
+ * @typedef {Shape | Composite} Part
+ * @typedef {"C" | "R" | "O" | "P"} Template  of the standard: circle, rectangle, obround, polygon
  */
 
 import { Unsaid } from "../report.js";
 import { ZERO, add, compare, half, isZero, multiply, negate, rational, subtract } from "../exact.js";
 
 const TWO = rational(2n);
+/** @type {Point} */
 const NO_PLACE = [ZERO, ZERO];
 const MOST_RINGS = 1000n;
 const MOST_CORNERS = 5000n;
@@ -64,6 +67,7 @@ export function partOf({ code, fields }) {
   }
 }
 
+/** @param {string} code @param {Rational} exposure */
 function isOn(code, exposure) {
   if (exposure.d !== 1n || (exposure.n !== 0n && exposure.n !== 1n)) {
     throw new Unsaid(`primitive ${code} with an exposure that is neither 0 nor 1`);
@@ -71,6 +75,7 @@ function isOn(code, exposure) {
   return exposure.n === 1n;
 }
 
+/** @param {Rational[]} fields @returns {Outline} */
 function outlineOf(fields) {
   const [exposure, count, ...rest] = fields;
   if (count === undefined || count.d !== 1n || count.n < 1n || count.n > MOST_CORNERS) {
@@ -80,6 +85,7 @@ function outlineOf(fields) {
   if (rest.length !== needed && rest.length !== needed + 1) {
     throw new Unsaid(`primitive 4 with ${rest.length} numbers for ${count.n} points`);
   }
+  /** @type {Point[]} */
   const points = [];
   for (let place = 0; place < needed - 2; place += 2) {
     points.push([rest[place], rest[place + 1]]);
@@ -96,21 +102,27 @@ function outlineOf(fields) {
  * @param {Rational} turn  about (0, 0)
  * @returns {Polygon}
  */
-export function polygon(on, count, diameter, at, start, turn) {
+function polygon(on, count, diameter, at, start, turn) {
   if (count.d !== 1n || count.n < 3n || count.n > MOST_CORNERS) {
     throw new Unsaid("a polygon with a number of corners that is not from 3 to 5000");
   }
   return { kind: "polygon", on, count: Number(count.n), diameter, at, start, turn };
 }
 
+/** @type {(on: boolean, diameter: Rational, at: Point, turn: Rational) => Disc} */
 const disc = (on, diameter, at, turn) => ({ kind: "disc", on, diameter, at, turn });
 
-function rectangle(on, width, height, at, turn) {
-  return { kind: "rectangle", on, width, height, at, turn };
-}
+/** @type {(on: boolean, width: Rational, height: Rational, at: Point, turn: Rational) => Rectangle} */
+const rectangle = (on, width, height, at, turn) => ({ kind: "rectangle", on, width, height, at, turn });
 
-/** Rings, each a disc on and a smaller one off, and the two bars of a cross over them. */
+/**
+ * Rings, each a disc on and a smaller one off, and the two bars of a cross over them.
+ * @param {Rational[]} fields
+ * @param {Rational} turn
+ * @returns {Composite}
+ */
 function moire([x, y, outer, thickness, gap, most, crossWidth, crossLength], turn) {
+  /** @type {Shape[]} */
   const parts = [];
   const step = multiply(TWO, add(thickness, gap));
   let diameter = outer;
@@ -129,8 +141,14 @@ function moire([x, y, outer, thickness, gap, most, crossWidth, crossLength], tur
   return { kind: "moire", parts };
 }
 
-/** A ring with four gaps: a disc on, a smaller one off, and two bars off, longer than the ring is wide. */
+/**
+ * A ring with four gaps: a disc on, a smaller one off, and two bars off, longer than the ring is wide.
+ * @param {Rational[]} fields
+ * @param {Rational} turn
+ * @returns {Composite}
+ */
 function thermal([x, y, outer, inner, gap], turn) {
+  /** @type {Shape[]} */
   const parts = [disc(true, outer, [x, y], turn)];
   if (compare(inner, ZERO) > 0) {
     parts.push(disc(false, inner, [x, y], turn));
@@ -143,20 +161,27 @@ function thermal([x, y, outer, inner, gap], turn) {
   return { kind: "thermal", parts };
 }
 
-/** @returns {Part} the obround of these sides about (0, 0) */
+/**
+ * The obround of these sides about (0, 0).
+ * @param {Rational} width
+ * @param {Rational} height
+ * @returns {Bar}
+ */
 function obround(width, height) {
   const isWide = compare(width, height) >= 0;
   const reach = half(subtract(isWide ? width : height, isWide ? height : width));
+  /** @type {Point} */
   const to = isWide ? [reach, ZERO] : [ZERO, reach];
+  /** @type {Point} */
   const from = [negate(to[0]), negate(to[1])];
   return { kind: "capsule", on: true, width: isWide ? height : width, from, to, turn: ZERO };
 }
 
 /**
  * The parts of a flash of a template of the standard.
- * @param {"C" | "R" | "O" | "P"} template
+ * @param {Template} template
  * @param {Rational[]} sizes  the parameters of AD
- * @returns {Part[]}
+ * @returns {Shape[]}
  * @throws {Unsaid} where parameters are missing or too many
  */
 export function partsOfTemplate(template, sizes) {
@@ -165,16 +190,18 @@ export function partsOfTemplate(template, sizes) {
   if (sizes.length < own || sizes.length > holeAt + 2) {
     throw new Unsaid(`${template} with ${sizes.length} parameters`);
   }
-  const shape = {
+  /** @type {Record<Template, () => Shape>} */
+  const shapes = {
     C: () => disc(true, sizes[0], NO_PLACE, ZERO),
     R: () => rectangle(true, sizes[0], sizes[1], NO_PLACE, ZERO),
     O: () => obround(sizes[0], sizes[1]),
     P: () => polygon(true, sizes[1], sizes[0], NO_PLACE, sizes[2] ?? ZERO, ZERO),
-  }[template]();
-  return [shape, ...holeOf(sizes.slice(holeAt), template === "P" ? sizes[2] ?? ZERO : ZERO)];
+  };
+  return [shapes[template](), ...holeOf(sizes.slice(holeAt), template === "P" ? sizes[2] ?? ZERO : ZERO)];
 }
 
-/** The hole, turned as a polygon is, of which the standard says that it is the aperture's rotation. */
+/** The hole, turned as a polygon is, of which the standard says that it is the aperture's rotation.
+ * @param {Rational[]} sides @param {Rational} turn @returns {Shape[]} */
 function holeOf(sides, turn) {
   if (sides.length === 0 || sides.every(isZero)) {
     return [];

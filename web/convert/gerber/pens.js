@@ -4,6 +4,7 @@
  *
  * @typedef {import("./placing.js").Place} Place
  * @typedef {import("./placing.js").Placed} Placed
+ * @typedef {import("../exact.js").Rational} Rational
  */
 
 import { Unsaid } from "../report.js";
@@ -17,10 +18,10 @@ import { add, multiply, negate } from "../exact.js";
  * @throws {Unsaid} where it is no such pen
  */
 export function penOf(parts, placing) {
-  if (parts.length !== 1 || !parts[0].on) {
-    throw new Unsaid(parts.some((part) => part.on === false) ? "has a hole" : `is made of ${parts.length} shapes`);
-  }
   const [part] = parts;
+  if (parts.length !== 1 || "parts" in part || !part.on) {
+    throw new Unsaid(parts.some((shape) => "on" in shape && !shape.on) ? "has a hole" : `is made of ${parts.length} shapes`);
+  }
   if (part.kind === "outline" && !isConvex(part.points)) {
     throw new Unsaid("is not convex");
   }
@@ -30,16 +31,15 @@ export function penOf(parts, placing) {
       return { points: [placed.at], diameter: placed.diameter };
     case 4:
       return { points: placed.points, diameter: 0n };
-    default:
-      return part.kind === "capsule" ? { points: [placed.from, placed.to], diameter: placed.width }
-        : { points: cornersOf(part, placing), diameter: 0n };
+    case 20:
+      if (part.kind === "capsule") {
+        return { points: [placed.from, placed.to], diameter: placed.width };
+      }
   }
-}
-
-/** The corners of a bar or a rectangle that is turned by quarters. */
-function cornersOf(part, placing) {
-  const corners = part.kind === "bar" ? placing.cornersOfBar(part) : placing.cornersOfRectangle(part);
-  return placing.outline(true, corners, placing.turnOfPart(part.turn)).points;
+  // (any other shape is placed as one of these two)
+  const corners = part.kind === "bar" ? placing.cornersOfBar(part)
+    : placing.cornersOfRectangle(/** @type {import("./parts.js").Rectangle} */ (part));
+  return { points: placing.outline(true, corners, placing.turnOfPart(part.turn)).points, diameter: 0n };
 }
 
 /**
@@ -49,27 +49,36 @@ function cornersOf(part, placing) {
  * @returns {Placed[]}
  */
 export function hullOf({ points, diameter }, [dx, dy]) {
-  const corners = hull([...points, ...points.map(([x, y]) => [x + dx, y + dy])]);
+  const corners = hull([...points, ...points.map(([x, y]) => /** @type {Place} */ ([x + dx, y + dy]))]);
+  /** @type {Placed[]} */
   const core = corners.length > 2 ? [{ code: 4, on: true, points: corners }] : [];
   if (diameter === 0n) {
     return core;
   }
+  /** @type {Placed[]} */
   const sides = corners.map((from, place) => ({ code: 20, on: true, width: diameter, from,
     to: corners[(place + 1) % corners.length] }));
+  /** @type {Placed[]} */
   const ends = corners.map((at) => ({ code: 1, on: true, diameter, at }));
   return [...core, ...(corners.length > 2 ? sides : sides.slice(0, corners.length - 1)), ...ends];
 }
 
+/** @type {(o: Place, a: Place, b: Place) => bigint} */
 const cross = (o, a, b) => (a[0] - o[0]) * (b[1] - o[1]) - (a[1] - o[1]) * (b[0] - o[0]);
 
-/** The corners of the convex hull, counterclockwise, none of them on a side. */
+/**
+ * The corners of the convex hull, counterclockwise, none of them on a side.
+ * @param {Place[]} points
+ */
 function hull(points) {
+  /** @type {(a: Place, b: Place) => number} */
   const order = (a, b) => (a[0] === b[0] ? (a[1] < b[1] ? -1 : a[1] > b[1] ? 1 : 0) : a[0] < b[0] ? -1 : 1);
   const sorted = [...points].sort(order).filter((point, place, all) => place === 0 || order(point, all[place - 1]) !== 0);
   if (sorted.length < 3) {
     return sorted;
   }
-  const chain = (list) => {
+  const chain = (/** @type {Place[]} */ list) => {
+    /** @type {Place[]} */
     const corners = [];
     for (const point of list) {
       while (corners.length > 1 && cross(corners[corners.length - 2], corners[corners.length - 1], point) <= 0n) {
@@ -82,7 +91,10 @@ function hull(points) {
   return [...chain(sorted), ...chain(sorted.reverse())];
 }
 
-/** Whether a closed outline turns one way all along, and once around. */
+/**
+ * Whether a closed outline turns one way all along, and once around.
+ * @param {import("./parts.js").Point[]} points
+ */
 function isConvex(points) {
   const steps = points.map((point, place) => {
     const next = points[(place + 1) % points.length];
@@ -96,9 +108,13 @@ function isConvex(points) {
   return isOneWay && [0, 1].every((axis) => changesOf(steps.map((step) => sign(step[axis]))) <= 2);
 }
 
+/** @type {(value: Rational) => -1 | 0 | 1} */
 const sign = ({ n }) => (n > 0n ? 1 : n < 0n ? -1 : 0);
 
-/** How often a sign changes around a closed list. */
+/**
+ * How often a sign changes around a closed list.
+ * @param {number[]} signs
+ */
 function changesOf(signs) {
   const told = signs.filter((value) => value !== 0);
   return told.filter((value, place) => value !== told[(place + 1) % told.length]).length;

@@ -2,12 +2,13 @@
 
 import { Unsaid } from "../report.js";
 import { nearest, rational } from "../exact.js";
+import { ANEW, NEAREST } from "./advice.js";
 import { SIGNED, signedOffsets } from "./arcs.js";
-import { NEAREST } from "./definitions.js";
 import { forDraw, forFlash, forHull } from "./uses.js";
 
 const NUMBER = /^[+-]?(\d+\.?\d*|\.\d+)$/;
 const REPEATED = "write the code that is meant, or give --repeat where the one before is";
+const FIRST = "before any of these: write the code that is meant, or give --repeat, which takes them as a move";
 /** How far, in steps, an arc of radius 0 may end from its start where --nearest lets it be a line. */
 const CLOSE_STEPS = 3;
 
@@ -28,26 +29,26 @@ class Operation {
     this.state = state;
     this.mode = mode;
     /** The numbers as they are written, and by value, by their letters. */
+    /** @type {Record<string, string>} */
     this.texts = {};
+    /** @type {Record<string, number>} */
     this.values = {};
     for (const [letter, text] of places) {
       this.read(letter, text);
     }
     this.code = given || this.repeated();
     this.isCodeGiven = given !== 0;
+    /** @type {[number, number]} */
     this.end = [this.values.X ?? state.x, this.values.Y ?? state.y];
   }
 
   read(letter, text) {
     const { state } = this;
     if (this.values[letter] !== undefined) {
-      throw new Unsaid("a coordinate stands twice");
-    }
-    if (state.form === null) {
-      throw new Unsaid("a coordinate before the format (%FS..*%): choose RS-274X, or write the format in front");
+      throw new Unsaid(`a coordinate stands twice: ${ANEW}`);
     }
     if (!NUMBER.test(text)) {
-      throw new Unsaid(`${letter}${text} is no number`);
+      throw new Unsaid(`${letter}${text} is no number: ${ANEW}`);
     }
     const value = state.form.steps(letter, text);
     this.values[letter] = value;
@@ -61,14 +62,16 @@ class Operation {
   /** The code of an operation without one, which camplot takes for D01 alone. */
   repeated() {
     const { state } = this;
-    if (state.lastCode !== 1 && (state.lastCode === 0 || !state.options.repeat)) {
-      const before = state.lastCode === 0 ? "no operation" : `D0${state.lastCode}`;
-      throw new Unsaid(`coordinates without D01, D02 or D03 after ${before}: ${REPEATED}`);
+    if (state.lastCode === 1) {
+      return 1;
     }
-    if (state.lastCode !== 1) {
-      state.change(`D0${state.lastCode} is written again, where it was left out`);
+    if (!state.options.repeat) {
+      throw new Unsaid(state.lastCode === 0 ? `coordinates without D01, D02 or D03 ${FIRST}`
+        : `coordinates without D01, D02 or D03 after D0${state.lastCode}: ${REPEATED}`);
     }
-    return state.lastCode;
+    state.change(state.lastCode === 0 ? "D02 is written where the first coordinates have no code: a plotter begins with its " +
+      "pen up" : `D0${state.lastCode} is written again, where it was left out`);
+    return state.lastCode || 2;
   }
 
   written() {
@@ -190,11 +193,13 @@ class Operation {
   /** A draw as the flash of the hull that it covers, and a move to its end. */
   hull() {
     const { state, end } = this;
+    /** @type {[number, number]} */
     const start = [state.x, state.y];
-    const way = [0, 1].map((axis) => this.nm(end[axis]) - this.nm(start[axis]));
+    /** @type {import("./placing.js").Place} */
+    const way = [this.nm(end[0]) - this.nm(start[0]), this.nm(end[1]) - this.nm(start[1])];
     const { number, before } = forHull(state, way);
     const pieces = [...before, ...settingsOf(state, "N", 0), ...this.selection(number)];
-    const place = ([x, y], code) => {
+    const place = (/** @type {[number, number]} */ [x, y], /** @type {2 | 3} */ code) => {
       state.said.add(code, 1, code === 3 ? number : 0, x, y, 0, 0);
       return `X${x}Y${y}D0${code}*`;
     };
@@ -212,7 +217,10 @@ class Operation {
     return this.mode;
   }
 
-  /** A coordinate as camplot reads it, in nm. */
+  /**
+   * A coordinate as camplot reads it, in nm.
+   * @param {number} steps
+   */
   nm(steps) {
     const { form, lengthUnit } = this.state;
     const size = lengthUnit === "mm" ? 1_000_000n : 25_400_000n;

@@ -3,8 +3,10 @@
  * centre at the nearest place, ties away from zero, so at most 0.71 nm from where it should be.
  *
  * @typedef {import("../exact.js").Rational} Rational
- * @typedef {import("./parts.js").Part} Part
+ * @typedef {import("./parts.js").Shape} Shape
+ * @typedef {import("./parts.js").Point} Point
  * @typedef {[bigint, bigint]} Place  whole nm
+ * @typedef {[bigint, bigint]} Real  a place in nm, as reals in fixed point
  * @typedef {{code: 1, on: boolean, diameter: bigint, at: Place}
  *   | {code: 20, on: boolean, width: bigint, from: Place, to: Place}
  *   | {code: 21, on: boolean, width: bigint, height: bigint, at: Place}
@@ -40,7 +42,7 @@ export class Rounding {
 export class Placing {
   /**
    * @param {"mm" | "inch"} unit
-   * @param {{turn?: Rational, scale?: Rational, mirror?: string}} [settings]  the mirror is N, X (x is negated), Y or XY
+   * @param {{turn?: Rational, scale?: Rational, mirror?: string}} settings  the mirror is N, X (x is negated), Y or XY
    * @param {Rounding} [rounding]
    */
   constructor(unit, { turn = ZERO, scale = rational(1n), mirror = "N" } = {}, rounding = new Rounding()) {
@@ -50,29 +52,44 @@ export class Placing {
     this.rounding = rounding;
   }
 
-  /** The angle by which a part of this turn lies turned in the end. */
+  /**
+   * The angle by which a shape of this turn lies turned in the end.
+   * @param {Rational} turn
+   */
   turnOfPart(turn) {
     const isReversed = this.mirror === "X" || this.mirror === "Y";
     return modulo(add(this.turn, isReversed ? negate(turn) : turn), 360n);
   }
 
+  /** @param {Rational} length */
   length(length) {
     return nearest(multiply(length, this.factor));
   }
 
-  /** A place of the part, mirrored, as reals in nm. */
+  /**
+   * A place of the shape, mirrored.
+   * @param {Point} point
+   * @returns {Real}
+   */
   real([x, y]) {
+    /** @type {(value: Rational, isNegated: boolean) => bigint} */
     const real = (value, isNegated) => fixed(multiply(isNegated ? negate(value) : value, this.factor));
     return [real(x, this.mirror.includes("X")), real(y, this.mirror.includes("Y"))];
   }
 
+  /** @param {Real} place @param {Rational} turn @returns {Real} */
   turned([x, y], turn) {
     const { cos, sin } = turnOf(turn);
     return [(x * cos - y * sin) >> BITS, (x * sin + y * cos) >> BITS];
   }
 
-  /** The nearest place; what it is the place of is counted where it had to be rounded. */
+  /**
+   * The nearest place; what it is the place of is counted where it had to be rounded.
+   * @param {Real} place
+   * @param {"corners" | "centres"} counted
+   */
   rounded([x, y], counted) {
+    /** @type {Place} */
     const place = [roundReal(x), roundReal(y)];
     const off = Math.hypot(approximately(x - (place[0] << BITS)), approximately(y - (place[1] << BITS)));
     if (off > 1e-9) {
@@ -82,14 +99,12 @@ export class Placing {
     return place;
   }
 
+  /** @param {Point} at @param {Rational} turn */
   centre(at, turn) {
     return this.rounded(this.turned(this.real(at), turn), "centres");
   }
 
-  /**
-   * @param {Part} part  but a moire or a thermal
-   * @returns {Placed[]}
-   */
+  /** @param {Shape} part @returns {Placed[]} */
   placed(part) {
     const turn = this.turnOfPart(part.turn);
     const isQuarter = turn.d === 1n && turn.n % QUARTER === 0n;
@@ -109,34 +124,48 @@ export class Placing {
     }
   }
 
+  /** @param {boolean} on @param {Real[]} corners @param {Rational} turn @returns {Placed & {code: 4}} */
   outline(on, corners, turn) {
     return { code: 4, on, points: corners.map((corner) => this.rounded(this.turned(corner, turn), "corners")) };
   }
 
+  /** @param {import("./parts.js").Bar} part @param {Rational} turn @returns {Placed & {code: 20}} */
   bar({ on, width, from, to }, turn) {
     return { code: 20, on, width: this.length(width), from: this.centre(from, turn), to: this.centre(to, turn) };
   }
 
-  /** Discs at both ends, and between their centres as they were rounded a bar that touches them. */
+  /**
+   * Discs at both ends, and between their centres as they were rounded a bar that touches them.
+   * @param {import("./parts.js").Bar} part
+   * @param {Rational} turn
+   * @returns {Placed[]}
+   */
   capsule(part, turn) {
     const bar = this.bar(part, turn);
+    /** @type {Placed[]} */
     const ends = [bar.from, bar.to].map((at) => ({ code: 1, on: part.on, diameter: bar.width, at }));
     return [bar, ...ends];
   }
 
+  /** @param {import("./parts.js").Rectangle} part @param {Rational} turn @returns {Placed & {code: 21}} */
   rectangle({ on, width, height, at }, turn) {
     const sides = [this.length(width), this.length(height)];
     const [across, up] = turn.n % (2n * QUARTER) === 0n ? sides : [sides[1], sides[0]];
     return { code: 21, on, width: across, height: up, at: this.centre(at, turn) };
   }
 
+  /** @param {import("./parts.js").Rectangle} part @returns {Real[]} */
   cornersOfRectangle({ width, height, at }) {
     const [x, y] = this.real(at);
     const [a, b] = [width, height].map((side) => fixed(half(multiply(side, this.factor))));
     return [[x - a, y - b], [x + a, y - b], [x + a, y + b], [x - a, y + b]];
   }
 
-  /** Half the width to both sides of each end; of a bar of no length, which covers nothing, its ends. */
+  /**
+   * Half the width to both sides of each end; of a bar of no length, which covers nothing, its ends.
+   * @param {import("./parts.js").Bar} part
+   * @returns {Real[]}
+   */
   cornersOfBar({ width, from, to }) {
     const [start, end] = [this.real(from), this.real(to)];
     const [dx, dy] = [0, 1].map((axis) => add(to[axis], negate(from[axis])));
@@ -147,16 +176,19 @@ export class Placing {
     const reach = half(multiply(width, this.factor));
     const sides = [dy, dx].map((side) => (fixed(multiply(side, reach)) << BITS) / length);
     const across = [this.mirror.includes("X") ? sides[0] : -sides[0], this.mirror.includes("Y") ? -sides[1] : sides[1]];
+    /** @type {(end: Real, sign: bigint) => Real} */
     const beside = ([x, y], sign) => [x + sign * across[0], y + sign * across[1]];
     return [beside(start, 1n), beside(end, 1n), beside(end, -1n), beside(start, -1n)];
   }
 
+  /** @param {import("./parts.js").Polygon} part @param {Rational} turn */
   cornersOfPolygon({ count, diameter, at, start }, turn) {
     const [x, y] = this.turned(this.real(at), turn);
     const radius = half(multiply(diameter, this.factor));
     const mirrored = { N: start, X: add(HALF_CIRCLE, negate(start)), Y: negate(start), XY: add(HALF_CIRCLE, start) };
     const first = add(turn, mirrored[this.mirror]);
     const step = rational(FULL_CIRCLE.n, BigInt(count));
+    /** @type {Place[]} */
     const corners = [];
     for (let place = 0n; place < count; place += 1n) {
       const { cos, sin } = turnOf(add(first, multiply(step, rational(place))));

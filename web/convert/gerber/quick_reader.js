@@ -36,7 +36,10 @@ export const word = {
 let at = 0;
 let digits = 0;
 
-/** Reads digits. @returns {number} how many; 0 where there are more than 15 */
+/**
+ * Reads digits.
+ * @returns {number} how many; 0 where there are more than 15
+ */
 function readDigits(bytes) {
   const first = at;
   digits = 0;

@@ -1,6 +1,10 @@
 /**
  * Nearly all words of nearly all files: the choice of an aperture and an operation with codes in any order, read byte by
  * byte, and kept or written anew without a text for each. What is more than that is left to `words.js`.
+ *
+ * With it `tools/to_gerber`, without loading what it made, takes a seventh to a tenth of the time that it takes without it
+ * for 10^5 flashes and draws, and a thirteenth to a sixteenth for 10^6: 1.3 s in place of 20 s where nothing is changed, and
+ * 3.3 s in place of 51 s where each coordinate is (node 20).
  */
 
 import { SIGNED, offsetsThatFit } from "./arcs.js";
@@ -90,6 +94,7 @@ function operate(state) {
 
 /** Gives the offsets of an arc of one quadrant their signs; false where `words.js` has to tell why it cannot. */
 function sign(state, mode) {
+  /** @type {[number, number]} */
   const end = [word.places[0] !== 0 ? word.values[0] : state.x, word.places[1] !== 0 ? word.values[1] : state.y];
   const step = POWERS[state.form.targetDecimals - Math.min(...state.form.decimals)];
   const signed = offsetsThatFit([state.x, state.y], end, [word.values[2], word.values[3]], mode === 2, step);

@@ -4,12 +4,15 @@
  * @typedef {import("./parts.js").Part} Part
  * @typedef {import("./placing.js").Placed} Placed
  * @typedef {import("./placing.js").Placing} Placing
+ * @typedef {[left: bigint, low: bigint, right: bigint, high: bigint]} Box
  */
 
 import { Unsaid } from "../report.js";
 import { decimalText } from "../exact.js";
 
 const MM_DECIMALS = 6;
+/** The greatest number of an aperture or a macro, in nm. */
+export const MOST_NM = 200_000_000n;
 const INCH_DECIMALS = 9;
 
 /**
@@ -41,7 +44,7 @@ export function placedParts(parts, placing) {
   let all = [];
   let hasComposite = false;
   for (const part of parts) {
-    if (part.parts === undefined) {
+    if (!("parts" in part)) {
       all.push(...placing.placed(part));
       continue;
     }
@@ -58,8 +61,24 @@ export function placedParts(parts, placing) {
   return all;
 }
 
-/** The least box of a primitive: left, low, right, high. */
+/** Whether a number of a primitive is past what a macro may have. */
+function isTooLarge(/** @type {Placed} */ { code, on, ...rest }) {
+  return Object.values(rest).flat(2).some((length) => length > MOST_NM || length < -MOST_NM);
+}
+
+/** @param {Placed} placed */
+function sizesOf(placed) {
+  if (placed.code === 4) return [];
+  return placed.code === 1 ? [placed.diameter] : placed.code === 20 ? [placed.width] : [placed.width, placed.height];
+}
+
+/**
+ * The least box of a primitive.
+ * @param {Placed} placed
+ * @returns {Box}
+ */
 function boxOf(placed) {
+  /** @type {(place: import("./placing.js").Place, a: bigint, b: bigint) => Box} */
   const around = ([x, y], a, b) => [x - a, y - b, x + a, y + b];
   switch (placed.code) {
     case 1:
@@ -73,11 +92,16 @@ function boxOf(placed) {
   }
 }
 
+/** @param {Box[]} boxes @returns {Box} */
 function box(boxes) {
-  return boxes.reduce((a, b) => [0, 1, 2, 3].map((side) => (side < 2) === (a[side] < b[side]) ? a[side] : b[side]));
+  /** @type {(a: bigint, b: bigint) => bigint} */
+  const least = (a, b) => a < b ? a : b, most = (a, b) => a < b ? b : a;
+  return boxes.reduce((a, b) => [least(a[0], b[0]), least(a[1], b[1]), most(a[2], b[2]), most(a[3], b[3])]);
 }
 
+/** @type {(placed: Placed[]) => Box} */
 const joined = (placed) => box(placed.map(boxOf));
+/** @type {(a: Box, b: Box) => boolean} */
 const meet = (a, b) => a[0] <= b[2] && b[0] <= a[2] && a[1] <= b[3] && b[1] <= a[3];
 
 /**
@@ -87,9 +111,16 @@ const meet = (a, b) => a[0] <= b[2] && b[0] <= a[2] && a[1] <= b[3] && b[1] <= a
  * @param {Placed[]} placed
  * @param {"mm" | "inch"} unit
  * @returns {string[]} two commands
+ * @throws {Unsaid} where it is larger than a macro may be
  */
 export function macroTexts(number, name, placed, unit) {
-  const length = (value) => lengthText(value, unit);
+  if (placed.some(isTooLarge)) {
+    throw new Unsaid("a shape that reaches past 200 mm, as no macro of camplot does");
+  }
+  if (placed.some((shape) => sizesOf(shape).some((size) => size < 0n))) {
+    throw new Unsaid("a size below 0");
+  }
+  const length = (/** @type {bigint} */ value) => lengthText(value, unit);
   const lines = placed.map((shape) => {
     const on = shape.on ? 1 : 0;
     switch (shape.code) {

@@ -5,10 +5,11 @@
  * @typedef {import("../exact.js").Rational} Rational
  */
 
-import { Changes, Failure, Unsaid } from "../report.js";
+import { Failure, Unsaid } from "../report.js";
 import { ZERO, equal, isZero, rational } from "../exact.js";
 import { Cutter } from "./cut.js";
 import { Dictionary } from "./dictionary.js";
+import { formOfOptions } from "./form.js";
 import { Operations } from "./operations.js";
 import { Output } from "./output.js";
 
@@ -19,7 +20,7 @@ export class State {
   /**
    * @param {Uint8Array} bytes
    * @param {import("./convert.js").Options} options
-   * @param {Changes} changes
+   * @param {import("../report.js").Changes} changes
    */
   constructor(bytes, options, changes) {
     this.bytes = bytes;
@@ -34,6 +35,8 @@ export class State {
     this.line = 1;
     /** @type {import("./form.js").Form | null} */
     this.form = null;
+    /** The format that the options give, whether or not the file has one. */
+    this.givenForm = options.format ? formOfOptions(options.format, options.zeros) : null;
     /** @type {"mm" | "inch" | null} */
     this.unit = null;
     this.isUnitMissing = false;
@@ -81,13 +84,12 @@ export class State {
   refresh() {
     const { aperture } = this;
     this.readsPlaces = this.form !== null && this.form.isRead && this.unit !== null;
-    const isWritten = this.selected === 0 || this.writtenAperture === (aperture?.number ?? this.selected);
-    const isPlain = isWritten && this.isUpright && this.mirror === this.writtenMirror &&
-      this.quarters === this.writtenQuarters && !this.isOutdated;
-    this.plainFlash = isPlain && (aperture === null || aperture.isKept);
-    this.plainDraw = this.plainFlash && (aperture === null || aperture.isSolidCircle || aperture.isSolidRectangle);
+    const isPlain = aperture !== null && this.writtenAperture === aperture.number && this.isUpright &&
+      this.mirror === this.writtenMirror && this.quarters === this.writtenQuarters && !this.isOutdated;
+    this.plainFlash = isPlain && aperture.isKept;
+    this.plainDraw = this.plainFlash && (aperture.isSolidCircle || aperture.isSolidRectangle);
     this.readyFlash = -1;
-    this.plainArc = this.plainFlash && (aperture === null || aperture.isSolidCircle);
+    this.plainArc = this.plainFlash && aperture.isSolidCircle;
   }
 
   /** Whether the number that is selected was defined another way since. */
@@ -98,7 +100,7 @@ export class State {
   /** Selects an aperture by a word that stays; false where it cannot. */
   selectPlain(number) {
     const aperture = this.dictionary.of(number);
-    if (aperture !== null && (aperture.number !== number || !aperture.isKept)) {
+    if (aperture === null || aperture.number !== number || !aperture.isKept) {
       return false;
     }
     this.selected = this.writtenAperture = number;
@@ -112,6 +114,17 @@ export class State {
     this.changes.add(what, this.line, rounded);
   }
 
+  /** @param {string} what  cannot be written, and what to do about it */
+  refuse(what) {
+    this.refusals.push({ line: this.line, what });
+  }
+
+  /** @param {import("./form.js").Form} form  as a command or an option tells it */
+  tellForm(form) {
+    this.form = form;
+    this.refresh();
+  }
+
   /** @param {"mm" | "inch"} unit  as a command tells it */
   tellUnit(unit) {
     const { options } = this;
@@ -119,7 +132,7 @@ export class State {
       throw new Failure(`--unit ${options.unit}: the file has ${unit} on line ${this.line}`);
     }
     if (this.unit !== null && unit !== this.unit) {
-      throw new Unsaid("another unit than before");
+      throw new Unsaid("another unit than before: cut the file in two there, since it is two in one");
     }
     this.unit = unit;
     this.refresh();

@@ -1,19 +1,19 @@
 /** Flashes and draws with the aperture that is selected, and those that are made for them: turned, scaled, as hulls. */
 
 import { Unsaid } from "../report.js";
-import { add, equal, isZero, multiply, negate, rational, shown } from "../exact.js";
-import { NEAREST, partsOf } from "./definitions.js";
+import { add, equal, isZero, negate, rational, shown } from "../exact.js";
+import { ANEW, NEAREST, PENS, REGIONS } from "./advice.js";
+import { partsOf } from "./definitions.js";
 import { hullOf, penOf } from "./pens.js";
 import { Placing, Rounding } from "./placing.js";
-import { lengthText, macroTexts, placedParts } from "./shapes_written.js";
+import { MOST_NM, lengthText, macroTexts, placedParts } from "./shapes_written.js";
 
-const PEN_ADVICE = "have areas filled with a round pen, or by regions";
-const NAMES = { C: "a circle with a hole", R: "a rectangle", O: "an obround", P: "a polygon", AB: "a block" };
+const NAMES = { C: "a circle", R: "a rectangle", O: "an obround", P: "a polygon", AB: "a block" };
 const ONE = rational(1n);
 
 /** @returns {string} what an aperture is, for messages */
-function nameOf({ template, macro }) {
-  return macro === null ? NAMES[template] : `the macro ${template}`;
+function nameOf({ template, macro, hasHole }) {
+  return macro === null ? `${NAMES[template]}${hasHole ? " with a hole" : ""}` : `the macro ${template}`;
 }
 
 /**
@@ -24,10 +24,7 @@ function nameOf({ template, macro }) {
 export function forFlash(state) {
   const { aperture } = state;
   checkCurrent(state);
-  if (aperture === null) {
-    return { number: state.selected, before: [] };
-  }
-  return state.isUpright || aperture.isSolidCircle && isOne(state.scale) ? own(aperture) : turned(state, aperture);
+  return aperture.isHopeless || state.isUpright || aperture.isSolidCircle && isOne(state.scale) ? own(aperture) : turned(state, aperture);
 }
 
 /**
@@ -39,8 +36,8 @@ export function forFlash(state) {
 export function forDraw(state, isArc) {
   const { aperture } = state;
   checkCurrent(state);
-  if (aperture === null) {
-    return { number: state.selected, before: [] };
+  if (aperture.isHopeless) {
+    return own(aperture);
   }
   if (aperture.isSolidCircle) {
     return isOne(state.scale) ? own(aperture) : turned(state, aperture);
@@ -48,21 +45,25 @@ export function forDraw(state, isArc) {
   if (aperture.isSolidRectangle && !isArc && isZero(state.turnLeft)) {
     return isOne(state.scale) ? own(aperture) : turned(state, aperture);
   }
-  const round = roundPen(state, aperture);
+  const round = roundPen(state, aperture) ?? solidPen(state, aperture, isArc);
   if (round !== null) {
     return round;
   }
   if (isArc) {
-    throw new Unsaid(`an arc with aperture ${state.selected}, ${nameOf(aperture)}, which is no solid circle: ${PEN_ADVICE}`);
+    const advice = aperture.template === "C" ? `${PENS}, ${NEAREST}` : PENS;
+    throw new Unsaid(`an arc with aperture ${state.selected}, ${nameOf(aperture)}, which is no solid circle: ${advice}`);
   }
   if (!state.options.nearest) {
     throw new Unsaid(`a draw with aperture ${state.selected}, ${nameOf(aperture)}, which is no solid circle or ` +
-      `rectangle: ${PEN_ADVICE}, ${NEAREST}`);
+      `rectangle: ${PENS}, ${NEAREST}`);
   }
   return null;
 }
 
 function checkCurrent(state) {
+  if (state.aperture === null) {
+    throw new Unsaid(`a draw or a flash with no aperture selected: ${ANEW}`);
+  }
   if (state.isOutdated) {
     throw new Unsaid(`aperture ${state.selected} was defined again since it was selected: select it again where the new ` +
       "one is meant");
@@ -100,11 +101,21 @@ function turned(state, aperture) {
   const turn = mirror === "X" || mirror === "Y" ? negate(turnLeft) : turnLeft;
   return made(state, `${keyOf(aperture)} ${fraction(turn)} ${fraction(scale)}`, (number) => {
     const rounding = new Rounding();
-    const texts = scaledTemplate(state, aperture, number) ?? macroTexts(number, state.dictionary.nameFor(number),
-      placedParts(partsOf(aperture), new Placing(lengthUnit, { turn, scale }, rounding)), lengthUnit);
+    const placing = new Placing(lengthUnit, { turn, scale }, rounding);
+    const texts = scaledTemplate(state, aperture, number) ?? advised(`aperture ${state.selected}`, REGIONS, () =>
+      macroTexts(number, state.dictionary.nameFor(number), placedParts(partsOf(aperture), placing), lengthUnit));
     state.change(`aperture ${state.selected} ${settingsText(state)} is written as aperture ${number}`, rounding.told());
     return texts;
   });
+}
+
+/** What `make` gives; where it cannot, that is told with what it is and what to do about it. */
+function advised(what, advice, make) {
+  try {
+    return make();
+  } catch (error) {
+    throw error instanceof Unsaid ? new Unsaid(`${what}: ${error.message}: ${advice}`) : error;
+  }
 }
 
 function settingsText({ turnLeft, quarters, scale }) {
@@ -122,8 +133,28 @@ function scaledTemplate({ turnLeft, scale, lengthUnit }, { template, sizes }, nu
   if (isTurned || most === undefined || sizes.length > most) {
     return null;
   }
-  const placing = new Placing(lengthUnit, { scale });
-  return [`%ADD${number}${template},${sizes.map((size) => lengthText(placing.length(size), lengthUnit)).join("X")}*%`];
+  const lengths = scaledLengths(sizes, scale, lengthUnit);
+  return lengths && [`%ADD${number}${template},${lengths.join("X")}*%`];
+}
+
+/** Sizes of a template that are scaled, as they are written; null where one is outside of what camplot reads. */
+function scaledLengths(sizes, scale, unit) {
+  const placing = new Placing(unit, { scale });
+  const lengths = sizes.map((size) => placing.length(size));
+  return lengths.some((length) => length < 1n || length > MOST_NM) ? null : lengths.map((length) => lengthText(length, unit));
+}
+
+/** Of a circle or a rectangle with a hole, the same without it, where the nearest may be written and camplot draws so. */
+function solidPen(state, aperture, isArc) {
+  const { template, sizes } = aperture;
+  const own = { C: 1, R: 2 }[template];
+  const isDrawn = own === 1 || own === 2 && !isArc && isZero(state.turnLeft);
+  const lengths = isDrawn && state.options.nearest ? scaledLengths(sizes.slice(0, own), state.scale, state.lengthUnit) : null;
+  return lengths && made(state, `solid ${keyOf(aperture)} ${fraction(state.scale)}`, (number) => {
+    state.change(`a draw with aperture ${state.selected}, ${nameOf(aperture)}, is written with aperture ${number}, the ` +
+      "same without the hole");
+    return [`%ADD${number}${template},${lengths.join("X")}*%`];
+  });
 }
 
 /** Where a macro is one disc about (0, 0), the circle that it is, which draws the same. */
@@ -144,11 +175,17 @@ function roundPen(state, aperture) {
   if (parts.length !== 1 || part.kind !== "disc" || !part.on || !part.at.every(isZero)) {
     return null;
   }
-  return made(state, `circle ${keyOf(aperture)} ${fraction(state.scale)}`, (number) => {
+  const lengths = scaledLengths([part.diameter], state.scale, state.lengthUnit);
+  return lengths && made(state, `circle ${keyOf(aperture)} ${fraction(state.scale)}`, (number) => {
     state.change(`a draw with aperture ${state.selected}, a macro of one disc, is written with the circle ${number}`);
-    const diameter = new Placing(state.lengthUnit, { scale: state.scale }).length(part.diameter);
-    return [`%ADD${number}C,${lengthText(diameter, state.lengthUnit)}*%`];
+    return [`%ADD${number}C,${lengths[0]}*%`];
   });
+}
+
+/** The parts of a pen: of a template the shape without its hole. */
+function partsOfPen(aperture) {
+  const parts = partsOf(aperture);
+  return aperture.macro === null ? parts.slice(0, 1) : parts;
 }
 
 /**
@@ -165,14 +202,15 @@ export function forHull(state, way) {
   const rounding = new Rounding();
   let pen;
   try {
-    pen = penOf(partsOf(aperture), new Placing(lengthUnit, { turn, scale, mirror }, rounding));
+    pen = penOf(partsOfPen(aperture), new Placing(lengthUnit, { turn, scale, mirror }, rounding));
   } catch (error) {
-    throw error instanceof Unsaid ? new Unsaid(`${what}, which ${error.message}: ${PEN_ADVICE}`) : error;
+    throw error instanceof Unsaid ? new Unsaid(`${what}, which ${error.message}: ${PENS}`) : error;
   }
-  state.change(`${what}, is written as a flash of the hull that it covers`, rounding.told());
+  state.change(`${what}, is written as a flash of the hull that it covers${aperture.hasHole ? ", without the hole" : ""}`,
+    rounding.told());
   return made(state, `${key} ${way}`, (number) => {
     const name = state.dictionary.nameFor(number);
-    return macroTexts(number, name, hullOf(pen, way), lengthUnit);
+    return advised(what, "have it drawn in shorter pieces", () => macroTexts(number, name, hullOf(pen, way), lengthUnit));
   });
 }
 

@@ -6,8 +6,9 @@
  */
 
 import { Unsaid } from "../report.js";
+import { ANEW } from "./advice.js";
 import { packed } from "./cut.js";
-import { missingQuadrants, missingUnit } from "./front.js";
+import { missingForm, missingQuadrants, missingUnit } from "./front.js";
 import { writeOperation } from "./placed_words.js";
 
 const CODE = /([A-Z])([+-]?[0-9.]*)/g;
@@ -22,7 +23,7 @@ export function rewriteWord(state, raw) {
   const capitals = text.toUpperCase();
   const codes = [...capitals.matchAll(CODE)].map(([, letter, number]) => [letter, number]);
   if (codes.map(([letter, number]) => letter + number).join("") !== capitals) {
-    throw new Unsaid(`${text.slice(0, 40)}* is no command that is known`);
+    throw new Unsaid(`${text.slice(0, 40)}* is no command that is known: ${ANEW}`);
   }
   if (capitals !== text) {
     state.change("small letters are written as capitals");
@@ -72,11 +73,13 @@ class Word {
     const operations = numbers.D.filter((number) => number < 10);
     this.check(apertures, operations, numbers.M, places);
     const hasOperation = places.length > 0 || operations.length > 0;
+    // No extended command stands in a region.
+    const isFirst = places.length > 0 || numbers.G.includes(36);
+    const front = isFirst ? [...missingForm(this.state), ...missingUnit(this.state)] : [];
     const { words, mode } = this.general(numbers.G, hasOperation);
     const standsAlone = this.codes.length === 2 && numbers.G[0] === 54;
-    const pieces = [...words.map((word) => `${word}*`), ...this.selection(apertures, standsAlone)];
+    const pieces = [...front, ...words.map((word) => `${word}*`), ...this.selection(apertures, standsAlone)];
     if (hasOperation) {
-      pieces.push(...(places.length > 0 ? missingUnit(this.state) : []));
       pieces.push(...writeOperation(this.state, places, operations[0] ?? 0, mode));
     }
     pieces.push(...this.end(numbers.M));
@@ -85,7 +88,7 @@ class Word {
   }
 
   unknown(letter, text) {
-    throw new Unsaid(`${letter}${text} is no code that is known`);
+    throw new Unsaid(`${letter}${text} is no code that is known: ${ANEW}`);
   }
 
   codeNumber(letter, text) {
@@ -95,11 +98,11 @@ class Word {
   check(apertures, operations, ends, places) {
     const isMany = operations.length > 1 || apertures.length > 1 || ends.length > 1;
     if (isMany || operations.some((number) => number < 1 || number > 3)) {
-      throw new Unsaid(`${this.shown}* has codes that are not known together`);
+      throw new Unsaid(`${this.shown}* has codes that are not known together: ${ANEW}`);
     }
     const [letter, text] = this.codes[this.codes.length - 1] ?? ["", ""];
     if (apertures.length > 0 && places.length > 0 && operations.length === 0 && letter === "D" && Number(text) > 9) {
-      throw new Unsaid(`${this.shown}* has coordinates before the choice of an aperture`);
+      throw new Unsaid(`${this.shown}* has coordinates before the choice of an aperture: write the choice before them`);
     }
   }
 
@@ -149,13 +152,16 @@ class Word {
       return [];
     }
     const aperture = state.dictionary.of(apertures[0]);
-    const number = aperture?.number ?? apertures[0];
+    if (aperture === null) {
+      throw new Unsaid(`aperture ${apertures[0]} is selected, and not defined before it: ${ANEW}, which has the apertures`);
+    }
+    const { number } = aperture;
     state.selected = apertures[0];
     state.aperture = aperture;
     state.writtenAperture = number;
     state.refresh();
     const word = `${standsAlone ? "G54" : ""}D${number}*`;
-    if (aperture === null || aperture.isKept) {
+    if (aperture.isKept) {
       return [word];
     }
     const slot = { text: "" };

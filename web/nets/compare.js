@@ -1,0 +1,244 @@
+// What differs between the copper of a board and the points of its nets: opens, shorts, points without copper, copper
+// without a point.
+
+import { nearestParts, overlapOf } from "./nearest.js";
+import { placed } from "./points.js";
+import { Ways } from "./ways.js";
+
+/** Of copper with points of many nets, how many of them get a place where they touch. */
+const MOST_WAYS = 12;
+
+/**
+ * A place on the board.
+ * @typedef {{layer: number, x: number, y: number}} Place layers by their places in the stack, lengths in nm
+ *
+ * A part of a net that is in several.
+ * @typedef {{copper: number, points: import("./points.js").NetPoint[]}} Part `copper` is the number of the copper net
+ *
+ * What keeps a part from another: no hole at a point on both, a distance on one layer, or layers that lie over each other.
+ * @typedef {object} Gap
+ * @property {number} part which of the parts, and which other it is nearest to
+ * @property {number} other
+ * @property {"hole" | "copper" | "layers"} kind
+ * @property {Place} from
+ * @property {Place} to
+ * @property {number} distance in nm, of the centres of two pixels; 0 where the parts lie over each other
+ * @property {Place | null} over where the parts lie over each other on two layers, else null
+ *
+ * @typedef {{kind: "open", net: string, parts: Part[], gaps: Gap[]}} Open
+ * @typedef {{kind: "short", nets: {net: string, points: import("./points.js").NetPoint[]}[],
+ *   touching: {nets: [string, string], place: Place, width: number}[]}} Short
+ * @typedef {{kind: "bare", point: import("./points.js").NetPoint}} Bare a point without copper
+ * @typedef {{kind: "loose", copper: number, place: Place, area: number}} Loose copper without a point, and its mm²
+ */
+
+/** What is compared: nets of copper, their grid, and points. */
+class Comparison {
+  constructor(nets, grid, points) {
+    this.nets = nets;
+    this.grid = grid;
+    this.placed = points.map((point) => placed(nets, grid, point));
+    // Points by their net's name, each with the copper that it is on; a point without a net has a name of its own.
+    this.byName = new Map();
+    this.byCopper = new Map();
+    for (const { point, on } of this.placed) {
+      if (!on.length) continue;
+      const name = nameOf(point);
+      for (const copper of new Set(on.map(({ net }) => net))) {
+        add(this.byName, name, copper, point);
+        add(this.byCopper, copper, name, point);
+      }
+    }
+    this.stand = new Map(this.placed.map((found) => [found.point, found]));
+  }
+
+  place({ layer, column, row }) {
+    return { layer, ...this.grid.placeOf(column, row) };
+  }
+
+  opens() {
+    /** @type {Open[]} */
+    const opens = [];
+    for (const [net, coppers] of this.byName) {
+      if (coppers.size < 2) continue;
+      const parts = [...coppers].map(([copper, points]) => ({ copper, points }))
+        .sort((one, other) => other.points.length - one.points.length || one.copper - other.copper);
+      opens.push({ kind: "open", net, parts, gaps: this.gapsOf(parts) });
+    }
+    return opens;
+  }
+
+  /**
+   * Each part but the first, and what keeps it from another.
+   * @param {Part[]} parts
+   * @returns {Gap[]}
+   */
+  gapsOf(parts) {
+    const nearest = nearestParts(this.nets, parts.map(({ copper }) => copper));
+    const joined = new Set([0]), gaps = [];
+    for (let part = 1; part < parts.length; part++) {
+      if (joined.has(part)) continue;
+      joined.add(part);
+      gaps.push(this.holeGap(parts, part) ?? this.copperGap(parts, part, nearest.get(parts[part].copper)));
+    }
+    return gaps.filter((gap) => gap !== null);
+  }
+
+  /**
+   * A point that a hole should join on two layers.
+   * @param {Part[]} parts
+   * @param {number} part
+   * @returns {Gap | null}
+   */
+  holeGap(parts, part) {
+    const { copper, points } = parts[part];
+    for (const point of points.filter(({ isThrough }) => isThrough)) {
+      const { on } = this.stand.get(point);
+      const here = on.find(({ net }) => net === copper), there = on.find(({ net }) => net !== copper);
+      if (!there) continue;
+      const other = parts.findIndex((found) => found.copper === there.net);
+      return { part, other, kind: "hole", from: this.place(here), to: this.place(there), distance: 0, over: null };
+    }
+    return null;
+  }
+
+  /**
+   * @param {Part[]} parts
+   * @param {number} part
+   * @param {import("./nearest.js").Nearest | undefined} nearest
+   * @returns {Gap | null}
+   */
+  copperGap(parts, part, nearest) {
+    const { copper } = parts[part];
+    const near = nearest && parts.findIndex((found) => found.copper === nearest.net);
+    const others = parts.map((_, at) => at).filter((at) => at !== part);
+    let over = null, other = near ?? null;
+    for (const at of nearest ? [near] : others) {
+      const found = overlapOf(this.nets, copper, parts[at].copper);
+      if (!found || (over && over.side >= found.side)) continue;
+      over = found;
+      other = at;
+    }
+    const [column, row] = over?.at ?? [];
+    const overPlace = over && this.place({ layer: over.layers[0], column, row });
+    if (nearest) {
+      const { layer, from, to, distance } = nearest;
+      return { part, other, kind: "copper", from: this.place({ layer, column: from[0], row: from[1] }),
+        to: this.place({ layer, column: to[0], row: to[1] }), distance: distance * this.grid.pitch, over: overPlace };
+    }
+    if (!over) return null;
+    return { part, other, kind: "layers", from: overPlace, to: { ...overPlace, layer: over.layers[1] }, distance: 0,
+      over: overPlace };
+  }
+
+  shorts() {
+    /** @type {Short[]} */
+    const shorts = [];
+    for (const [copper, names] of this.byCopper) {
+      // Two pads without a net on one piece are none.
+      const own = [...names].filter(([, points]) => points[0].net !== null);
+      const isShort = own.length > 1 || (own.length === 1 && names.size > 1);
+      if (!isShort) continue;
+      const nets = [...names].map(([net, points]) => ({ net, points }));
+      shorts.push({ kind: "short", nets, touching: this.touching(copper, nets) });
+    }
+    return shorts;
+  }
+
+  /**
+   * Where each net touches those before it.
+   * @param {number} copper
+   * @param {Short["nets"]} nets
+   */
+  touching(copper, nets) {
+    const ways = new Ways(this.nets, copper);
+    /** @type {Short["touching"]} */
+    const found = [];
+    /** @type {Map<number, import("./ways.js").Stretch> | null} */
+    let covered = null;
+    /** @type {string[]} */
+    let before = [];
+    for (const { net, points } of nets.slice(0, MOST_WAYS)) {
+      const stretches = points.flatMap((point) => this.stand.get(point).on.filter((on) => on.net === copper))
+        .map(({ layer, column, row }) => ways.stretchAt(layer, column, row));
+      const tree = ways.tree(stretches);
+      const place = covered && ways.narrowest(covered, tree);
+      if (place) {
+        found.push({ nets: [nearestName(before), net], place: this.place(place), width: place.width * this.grid.pitch });
+      }
+      covered = merged(covered, tree);
+      before = [...before, net];
+    }
+    return found;
+  }
+
+  /** @returns {Bare[]} */
+  bare() {
+    return this.placed.filter(({ on }) => !on.length).map(({ point }) => ({ kind: "bare", point }));
+  }
+
+  /** @returns {Loose[]} */
+  loose() {
+    const { areas } = this.nets.tallies(), firsts = new Map(), size = (this.grid.pitch / 1e6) ** 2;
+    this.nets.visit((net) => !this.byCopper.has(net), (layer, row, start, end, net) => {
+      if (!firsts.has(net)) firsts.set(net, { layer, row, column: (start + end - 1) >> 1 });
+    }, 0, this.nets.copper.length - 1);
+    return [...firsts].map(([copper, first]) => ({ kind: "loose", copper, place: this.place(first),
+      area: areas.reduce((sum, ofLayer) => sum + ofLayer[copper], 0) * size }));
+  }
+}
+
+function nearestName(names) {
+  return names.length === 1 ? names[0] : names.join(", ");
+}
+
+function nameOf({ net, name, source }) {
+  return net ?? `N/C ${name} (${source})`;
+}
+
+function add(map, key, inner, point) {
+  if (!map.has(key)) map.set(key, new Map());
+  const lists = map.get(key);
+  if (!lists.has(inner)) lists.set(inner, []);
+  lists.get(inner).push(point);
+}
+
+function merged(one, other) {
+  if (!one) return other;
+  for (const [run, { low, high }] of other) {
+    const known = one.get(run);
+    one.set(run, known ? { low: Math.min(known.low, low), high: Math.max(known.high, high) } : { low, high });
+  }
+  return one;
+}
+
+/**
+ * The names of the points on some nets of copper, without a comparison.
+ * @param {import("./nets.js").Nets} nets
+ * @param {import("./grid.js").Grid} grid
+ * @param {import("./points.js").NetPoint[]} points
+ * @param {Set<number>} wanted the nets
+ * @returns {Map<number, string[]>}
+ */
+export function namesOf(nets, grid, points, wanted) {
+  const names = new Map([...wanted].map((net) => [net, new Set()]));
+  for (const point of points) {
+    if (point.net === null) continue;
+    for (const { net } of placed(nets, grid, point).on) names.get(net)?.add(point.net);
+  }
+  return new Map([...names].map(([net, found]) => [net, [...found]]));
+}
+
+/**
+ * Compares the nets of copper with points.
+ * @param {import("./nets.js").Nets} nets
+ * @param {import("./grid.js").Grid} grid
+ * @param {import("./points.js").NetPoint[]} points
+ * @returns {{opens: Open[], shorts: Short[], bare: Bare[], loose: Loose[], names: Map<number, string[]>}} `names` has those
+ *   of the points on each net of copper
+ */
+export function compareNets(nets, grid, points) {
+  const comparison = new Comparison(nets, grid, points);
+  const names = new Map([...comparison.byCopper].map(([copper, found]) => [copper, [...found.keys()]]));
+  return { opens: comparison.opens(), shorts: comparison.shorts(), bare: comparison.bare(), loose: comparison.loose(), names };
+}

@@ -1,0 +1,75 @@
+// The gestures that arrange what is picked, and that pick what is like it: their keys, their buttons, and the dialogue of an
+// array.
+
+import { button, element, field } from "./dom.js";
+import { lengthIn, lengthText, wholeOf } from "./units.js";
+import { act, actions, keyWords } from "./actions.js";
+
+/** @type {<V extends "turn" | "align">(verb: V, more: Page.Verbs[V]) => Page.Gesture} */
+const edit = (verb, more) => /** @type {Page.Edit} */ ({ kind: "edit", verb, ...more });
+
+// Each gesture by its name: the words on its button, its label and key, and what it is.
+/** @type {[id: string, words: string, label: string, key: string, gesture: Page.Gesture][]} */
+const GESTURES = [
+  ["turn-left", "↺", "Turn a quarter counterclockwise", "r", edit("turn", { turn: "r90" })],
+  ["turn-right", "↻", "Turn a quarter clockwise", "Shift+r", edit("turn", { turn: "r270" })],
+  ["mirror", "⇄", "Mirror left and right", "y", edit("turn", { turn: "m0" })],
+  ["flip", "⇅", "Mirror top and bottom", "Shift+y", edit("turn", { turn: "m180" })],
+  ["align-left", "left", "Align the left edges", "Ctrl+ArrowLeft", edit("align", { to: "left" })],
+  ["align-right", "right", "Align the right edges", "Ctrl+ArrowRight", edit("align", { to: "right" })],
+  ["align-top", "top", "Align the upper edges", "Ctrl+ArrowUp", edit("align", { to: "top" })],
+  ["align-bottom", "bottom", "Align the lower edges", "Ctrl+ArrowDown", edit("align", { to: "bottom" })],
+  ["align-upright", "│", "Align the middles on an upright line", "i", edit("align", { to: "upright" })],
+  ["align-level", "─", "Align the middles on a level line", "Shift+i", edit("align", { to: "level" })],
+  ["like-entry", "aperture or tool", "Pick all of the same aperture or tool", "j", { kind: "pickLike", by: "entry" }],
+  ["like-kind", "kind", "Pick all of the same kind", "Shift+j", { kind: "pickLike", by: "kind" }],
+];
+
+/** @param {Page.Runner} machine */
+const askForArray = (machine) => machine.send({ kind: "ask",
+  question: { kind: "array", of: machine.state.picked.map(({ id }) => id) } });
+
+/** @param {Page.Parts} page */
+export function nameArranging({ machine }) {
+  for (const [id, , label, key, gesture] of GESTURES) act(id, "Arrange", label, [key], () => machine.gesture(gesture));
+  act("array", "Arrange", "Copies in columns and rows", ["k"], () => askForArray(machine));
+}
+
+/** @param {string} id @param {string} words */
+function buttonOf(id, words) {
+  const { label, keys: [key], run } = actions.find((action) => action.id === id);
+  return button(words, run, { "data-act": id, "aria-label": label, title: `${label} (${keyWords(key)})`,
+    "aria-keyshortcuts": key.replace("Ctrl", "Control") });
+}
+
+/** @param {string} label @param {HTMLElement[]} buttons */
+const row = (label, ...buttons) => element("div", { className: "row", "data-row": label }, element("span", {}, label),
+  element("div", { className: "buttons" }, ...buttons));
+
+/** @param {string} does */
+const buttonsOf = (does) => GESTURES.filter(([, , , , gesture]) => (gesture.kind === "edit" ? gesture.verb : gesture.kind) === does)
+  .map(([id, words]) => buttonOf(id, words));
+
+// The rows of buttons below what is picked.
+/** @param {Page.State} state */
+export function arrangingRows({ picked }) {
+  return [row("turn", ...buttonsOf("turn"), buttonOf("array", "array ..")),
+    ...picked.length > 1 ? [row("align", ...buttonsOf("align"))] : [], row("all of this", ...buttonsOf("pickLike"))];
+}
+
+// The dialogue of an array: how many columns and rows, and how far one is from the next.
+/** @param {Page.State} state @returns {Page.Dialogue} */
+export function arrayQuestion({ picked, unit }) {
+  const input = (value, label, properties = {}) => element("input", { type: "text", value, id: `array-${label}`, spellcheck: false,
+    ...properties });
+  const whole = { inputMode: "numeric" }, columns = input("2", "columns", whole), rows = input("1", "rows", whole);
+  const dx = input(lengthText(1e6, unit), "dx"), dy = input(lengthText(1e6, unit), "dy");
+  return {
+    title: "Copies in columns and rows",
+    parts: [element("p", {}, picked.length ? "What is picked is the first of them. The copies come behind the last item of "
+      + "its layer." : "Nothing is picked to copy."),
+    field("columns", columns), field(`to the right, ${unit}`, dx), field("rows", rows), field(`up, ${unit}`, dy)],
+    choices: [["Copy", "yes"], ["Cancel", "no"]],
+    answer: () => ({ columns: wholeOf(columns.value), rows: wholeOf(rows.value), dx: lengthIn(dx.value, unit), dy: lengthIn(dy.value, unit) }),
+  };
+}

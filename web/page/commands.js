@@ -1,0 +1,164 @@
+// The actions of the page by their names and keys.
+
+import { act, showKeys } from "./actions.js";
+import { activeBy } from "./layer_panel.js";
+import { byId } from "./dom.js";
+import { changeLook, changeUnit } from "./looks.js";
+import { drawingTools } from "./drawing_tools.js";
+import { pileOf } from "./pointer.js";
+import { raise } from "./layer_settings.js";
+import { askForScript } from "./saving.js";
+import { nameArranging } from "./arranging.js";
+import { nameLooking } from "./looking.js";
+
+// What a key does to what is picked, and else to the view.
+/** @param {Page.Parts} page @param {number} x @param {number} y */
+const step = ({ machine, view }, x, y) => (event) => {
+  const { grid, picked, work, queue } = machine.state, length = grid * (event.shiftKey ? 10 : 1), way = view.wayOf(x, -y);
+  if (picked.length || work || queue.length) {
+    return machine.gesture({ kind: "edit", verb: "move", dx: way.x * length, dy: way.y * length });
+  }
+  const pixels = 80 * view.density;
+  return view.pan(-x * pixels, y * pixels);
+};
+
+/** @param {Page.Parts} page */
+function nameFiles({ machine, boards }) {
+  const state = () => machine.state;
+  /** @param {"plot" | "give" | "anew"} kind */
+  const ask = (kind) => () => machine.send({ kind: "ask", question: { kind } });
+  act("open", "Files", "Open files", ["Ctrl+o"], () => byId("files").click());
+  act("open-folder", "Files", "Open a folder", ["Ctrl+Shift+o"], () => byId("folder").click());
+  act("save", "Files", "Save all layers", ["Ctrl+s"], () => machine.gesture({ kind: "save" }));
+  act("save-layer", "Files", "Save this layer", ["Ctrl+Shift+s"], () => machine.gesture({ kind: "save", name: state().active }));
+  act("save-whole", "Files", "Save all layers with attributes", [], () => machine.gesture({ kind: "save", isWhole: true }));
+  act("save-layer-whole", "Files", "Save this layer with attributes", [],
+    () => machine.gesture({ kind: "save", name: state().active, isWhole: true }));
+  act("plot", "Files", "Save a plot", ["Ctrl+p"], () => state().layers.length ? ask("plot")()
+    : machine.send({ kind: "say", text: "No layer is open.", isFault: true }));
+  act("give", "Files", "Save a picture in colours", ["Shift+p"], ask("give"));
+  act("save-script", "Files", "Save the script with its files", ["Ctrl+e"], () => askForScript(machine));
+  act("close-layer", "Files", "Close the chosen layer", [], () => machine.gesture({ kind: "close", name: state().active }));
+  act("new-board", "Files", "Another board, in a tab of its own", [], () => boards.add());
+  act("close-board", "Files", "Close the board", [], () => machine.gesture({ kind: "closeAll" }));
+  act("anew", "Files", "Start over", [], ask("anew"));
+}
+
+/** @param {Page.Parts} page */
+function nameEdits(page) {
+  const { machine } = page, edit = (verb, more = {}) => () => machine.gesture({ kind: "edit", verb, ...more });
+  act("undo", "Edit", "Undo", ["Ctrl+z"], edit("undo"));
+  act("redo", "Edit", "Redo", ["Ctrl+y", "Ctrl+Shift+z"], edit("redo"));
+  act("delete", "Edit", "Delete what is picked", ["Delete", "Backspace"], edit("delete"));
+  act("copy", "Edit", "Copy", ["Ctrl+c"], () => machine.gesture({ kind: "copy" }));
+  act("paste", "Edit", "Paste into the chosen layer", ["Ctrl+v"], () => {
+    const far = 10 * machine.state.grid;
+    return machine.gesture({ kind: "edit", verb: "paste", dx: far, dy: far });
+  });
+  act("pick-all", "Edit", "Pick all items of the chosen layer", ["Ctrl+a"],
+    () => machine.gesture({ kind: "picks", all: machine.state.active }));
+  act("dark", "Edit", "Make dark", ["d"], edit("polarity", { value: "dark" }));
+  act("clear", "Edit", "Make clear", ["x"], edit("polarity", { value: "clear" }));
+  act("earlier", "Edit", "One place earlier in the list", ["["], edit("reorder", { by: -1 }));
+  act("later", "Edit", "One place later in the list", ["]"], edit("reorder", { by: 1 }));
+  for (const [key, x, y, words] of /** @type {const} */ ([["ArrowLeft", -1, 0, "left"], ["ArrowRight", 1, 0, "right"],
+    ["ArrowUp", 0, 1, "up"], ["ArrowDown", 0, -1, "down"]])) {
+    act(`step-${words}`, "Edit", `Move ${words} what is picked, with Shift ten steps; else the view`,
+      [key, `Shift+${key}`], step(page, x, y));
+  }
+}
+
+/** @param {Page.Parts} page */
+function nameTools({ machine, view, pointer, marks, panels }) {
+  /** @param {string} name */
+  const tool = (name) => () => machine.send({ kind: "tool", name });
+  act("pick", "Tools", "Pick and move", ["v"], tool("pick"));
+  act("pan", "Tools", "Move the view", ["h"], tool("pan"));
+  act("measure", "Tools", "Measure", ["m"], tool("measure"));
+  act("net", "Tools", "Net: light what hangs together", ["n"], tool("net"));
+  for (const [name, key] of [["flash", "1"], ["draw", "2"], ["arc", "3"], ["region", "4"], ["hit", "5"], ["rout", "6"]]) {
+    act(name, "Tools", drawingTools[name].label, [key], tool(name));
+  }
+  act("end", "Tools", "End a region or a rout", ["Enter"], () => machine.send({ kind: "endMaking" }));
+  act("escape", "Tools", "Let go", ["Escape"], () => {
+    if (panels.close()) return;
+    marks.measured = null;
+    machine.send({ kind: "escape" });
+    marks.draw();
+  });
+  act("pick-under", "Tools", "Pick under the pointer, again for the item below", [" "], () => {
+    const at = pointer.last ?? { x: view.canvas.width / 2, y: view.canvas.height / 2 };
+    return machine.gesture({ kind: "pickAt", ...pointer.under(at), reach: 8 * view.density * view.pitch, isAdded: false,
+      pile: pileOf(machine.state) });
+  });
+}
+
+/** @param {Page.Parts} page */
+function copyPoint({ machine, pointer }) {
+  if (!pointer.last) return;
+  const { x, y } = pointer.under(pointer.last);
+  navigator.clipboard?.writeText(`${x} ${y}`).catch(() => {});
+  machine.send({ kind: "say", text: `${x} ${y}` });
+}
+
+// What is looked at: a point, a link to the view, from above or from below.
+/** @param {Page.Parts} page */
+function nameGoing({ machine, view, going, keepLooks }) {
+  act("go", "View", "Go to a point", ["g"], () => machine.send({ kind: "ask", question: { kind: "go" } }));
+  act("link", "View", "Copy a link to this view", [], () => going.copyLink());
+  view.onMirror = () => {
+    for (const [id, isSo] of [["below", view.isMirrored], ["quarter", view.quarters > 0]]) {
+      document.querySelector(`[data-act=${id}]`).setAttribute("aria-pressed", String(isSo));
+    }
+  };
+  act("below", "View", "From below, or from above", ["Shift+b"], () => {
+    view.mirror(!view.isMirrored);
+    keepLooks();
+  });
+}
+
+/** @param {Page.Parts} page */
+function nameViews(page) {
+  const { machine, view } = page;
+  /** @param {Page.Event} event */
+  const send = (event) => () => machine.send(event);
+  /** @param {number} factor */
+  const zoomBy = (factor) => () => view.zoom(factor, view.canvas.width / 2, view.canvas.height / 2);
+  act("fit", "View", "Show the whole board", ["0"], () => machine.gesture({ kind: "fit" }));
+  act("fit-picked", "View", "Show what is picked", ["f"], send({ kind: "showPicked" }));
+  act("zoom-in", "View", "Closer", ["+", "="], zoomBy(1.5));
+  act("zoom-out", "View", "Farther", ["-"], zoomBy(1 / 1.5));
+  act("only", "View", "Show the chosen layer alone, or those before", ["o"],
+    () => machine.send({ kind: "only", name: machine.state.active }));
+  act("toggle", "View", "Show or hide the chosen layer", ["t"], send({ kind: "toggle" }));
+  act("all", "View", "Show all layers", ["a"], send({ kind: "show", name: null, isShown: true }));
+  act("none", "View", "Hide all layers", [], send({ kind: "show", name: null, isShown: false }));
+  act("layer-up", "View", "Choose the layer above", ["PageUp"], () => activeBy(machine, 1));
+  act("layer-down", "View", "Choose the layer below", ["PageDown"], () => activeBy(machine, -1));
+  act("raise", "View", "The chosen layer up in the pile", ["Shift+PageUp"], () => raise(machine, 1));
+  act("lower", "View", "The chosen layer down in the pile", ["Shift+PageDown"], () => raise(machine, -1));
+  act("compare", "View", "Compare with before the last step, or go back", ["b"],
+    () => machine.gesture({ kind: "compare", back: 1 }));
+  act("copy-point", "View", "Copy the point under the pointer, in nm", ["c"], () => copyPoint(page));
+  act("unit", "View", "The next unit: mm, inch, mil", ["u"], () => changeUnit(machine));
+  act("look", "View", "Dark or light", ["l"], () => {
+    changeLook(view);
+    page.keepLooks();
+  });
+}
+
+/** @param {Page.Parts} page */
+export function nameActions(page) {
+  nameFiles(page);
+  nameEdits(page);
+  nameArranging(page);
+  nameTools(page);
+  nameViews(page);
+  nameGoing(page);
+  nameLooking(page);
+  act("line", "Help", "Type a line of the script", [":"], () => {
+    page.panels.unfold("foot");
+    byId("line").focus();
+  });
+  act("keys", "Help", "All keys", ["?", "F1"], showKeys);
+}

@@ -1,0 +1,46 @@
+// Conversions of refused files, in a worker of their own, so that the page never waits for them. The worker is started when
+// something is to be converted, and ended where it is at work and nobody waits for it any more.
+
+import { Link } from "./station.js";
+import { byId } from "./dom.js";
+
+export class Converter {
+  constructor() {
+    /** @type {Link | null} */
+    this.link = null;
+    this.count = 0;
+  }
+
+  // What `kind` of web/page/converting_worker.js answers to a message; it fails where the worker ends before.
+  /** @template T @param {string} kind @param {object} message @returns {Promise<T>} */
+  async call(kind, message) {
+    this.link ??= this.start();
+    const { link } = this;
+    this.count++;
+    try {
+      return await link.call(kind, message);
+    } finally {
+      if (this.link === link) this.count--;
+    }
+  }
+
+  // The same, in place of what is still under way.
+  /** @template T @param {string} kind @param {object} message @returns {Promise<T>} */
+  instead(kind, message) {
+    this.stop();
+    return this.call(kind, message);
+  }
+
+  start() {
+    this.count = 0;
+    const link = new Link(byId("converting-worker").textContent, () => {}, () => {
+      if (this.link === link) this.link = null;
+    });
+    return link;
+  }
+
+  // What is under way is converted no further.
+  stop() {
+    if (this.count) this.link?.end("stopped");
+  }
+}

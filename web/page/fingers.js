@@ -1,0 +1,66 @@
+// Fingers on the board by their numbers: two of them pinch, and one that stays where it was put is held.
+
+// As long as a finger has to rest for the menu of a phone: a tap is over before.
+const HELD_MS = 500;
+
+export class Fingers {
+  // `held` is told when the only finger is held.
+  /** @param {Page.View} view @param {() => void} held */
+  constructor(view, held) {
+    this.view = view;
+    this.held = held;
+    /** @type {Map<number, Page.Point>} */
+    this.places = new Map();
+    /** @type {{ point: Page.Point, pitch: number, span: number } | null} */
+    this.pinch = null;
+    this.timer = 0;
+  }
+
+  get count() {
+    return this.places.size;
+  }
+
+  /** @param {number} id @param {Page.Point} at */
+  put(id, at) {
+    this.rest();
+    this.places.set(id, at);
+    if (this.count === 1) this.timer = setTimeout(this.held, HELD_MS);
+    this.pinch = this.count === 2 ? this.begin() : null;
+  }
+
+  // The only finger is held no longer.
+  rest() {
+    clearTimeout(this.timer);
+  }
+
+  // The point of the board between two fingers stays between them.
+  begin() {
+    const { x, y, span } = this.between();
+    return { point: this.view.pointAt(x, y), pitch: this.view.pitch, span };
+  }
+
+  between() {
+    const [one, other] = this.places.values();
+    return { x: (one.x + other.x) / 2, y: (one.y + other.y) / 2, span: Math.max(1, Math.hypot(one.x - other.x, one.y - other.y)) };
+  }
+
+  // Whether the fingers pinch, of which one was moved.
+  /** @param {number} id @param {Page.Point} at */
+  move(id, at) {
+    if (!this.places.has(id)) return false;
+    this.places.set(id, at);
+    if (!this.pinch) return false;
+    const { x, y, span } = this.between(), { point, pitch } = this.pinch;
+    this.view.hold(point, x, y, pitch * this.pinch.span / span);
+    return true;
+  }
+
+  // Where the only finger is that stays when one is lifted; null where none or several do.
+  /** @param {number} id */
+  lift(id) {
+    this.rest();
+    const isFinger = this.places.delete(id);
+    this.pinch = this.count === 2 ? this.begin() : null;
+    return isFinger && this.count === 1 ? [...this.places.values()][0] : null;
+  }
+}

@@ -1,0 +1,222 @@
+// Events that ask nothing of the station: how layers look, the tool and what is drawn by it, what is asked and answered.
+
+import { Making, drawingTools } from "../drawing_tools.js";
+import { BLANK, change, conclude } from "./opening.js";
+import { askAbout, askWhenTried, askedFiles } from "./asking.js";
+import { joined } from "../items.js";
+import { withMoved, withShown } from "./functions.js";
+import { layerOf, shownLayers } from "./state.js";
+
+/** @param {Page.Turn} turn @param {string | null} name @param {Partial<Page.Layer>} changes */
+const layerLook = (turn, name, changes) =>
+  turn.set({ layers: turn.state.layers.map((layer) => name === null || layer.name === name ? { ...layer, ...changes } : layer) });
+
+/** @param {Page.Turn} turn @param {string} name @param {Partial<Page.Picture>} changes */
+const pictureLook = (turn, name, changes) =>
+  turn.set({ opened: turn.state.opened.map((picture) => picture.name === name ? { ...picture, ...changes } : picture) });
+
+// One layer alone, or again those that were shown before.
+/** @param {Page.Turn} turn @param {Page.Immediate["only"]} event */
+function only(turn, { name }) {
+  const { layers, shownBefore } = turn.state, isAlone = layers.every((layer) => layer.isShown === (layer.name === name));
+  if (!isAlone) turn.set({ shownBefore: new Set(shownLayers(turn.state).map((layer) => layer.name)) });
+  turn.set({ layers: layers.map((layer) => ({ ...layer,
+    isShown: isAlone ? shownBefore?.has(layer.name) ?? true : layer.name === name })) });
+}
+
+// The tool of a state, with the settings of new items.
+/** @param {Page.State} state */
+export const makingOf = ({ tool, making, entry, polarity, turn, direction, grid }) => drawingTools[tool]
+  ? new Making(tool, { entry: entry ?? 0, polarity, turn, direction, grid }, making ?? {}) : null;
+
+// What a point, or the end where `last` is null, made of what was being drawn. Another layer may be the active one when the
+// turn of the insertion comes, with other apertures: then its words are made again.
+/** @param {Page.Turn} turn @param {Making} made @param {string | null} words @param {Page.Again["last"]} last */
+function hold(turn, made, words, last) {
+  const { making, tool, active } = turn.state;
+  turn.set({ making: { points: made.points, centre: made.centre } });
+  if (words) turn.last({ kind: "edit", verb: "insert", words, active, again: { tool, settings: made.settings, making, last } });
+}
+
+// (one that snapped to an item stays where it is, and goes to no grid)
+/** @param {Page.Turn} turn @param {Page.Immediate["point"]} event */
+function point(turn, { x, y, isCentre, isSnapped }) {
+  const made = makingOf(turn.state), at = { x, y, isSnapped };
+  if (made) hold(turn, made, made.add(at, isCentre), { ...at, isCentre });
+}
+
+/** @param {Page.Turn} turn */
+function endMaking(turn) {
+  const made = makingOf(turn.state);
+  if (!made) return;
+  const words = made.end();
+  if (words) hold(turn, made, words, null);
+  else if (made.points.length) turn.say("It has too few points.", true);
+}
+
+/** @param {Page.Turn} turn @param {Page.Immediate["tool"]} event */
+function chooseTool(turn, { name }) {
+  turn.set({ tool: name, making: null });
+  if (drawingTools[name]?.hint) turn.say(drawingTools[name].hint);
+}
+
+// First what is being drawn is let go, then what a table lights, then the tool, then what is picked.
+/** @param {Page.Turn} turn */
+function escape(turn) {
+  const { comparison, making, tables, tool, picked, work } = turn.state;
+  if (work?.isGroup && work.stage === "lines") return turn.send({ to: "worker", number: 0, kind: "stop" });
+  if (comparison) return turn.set({ comparison: null });
+  if (making?.points.length) return turn.set({ making: null });
+  if (tables.lit) return turn.set({ tables: { ...tables, lit: null } });
+  if (tool !== "pick") return chooseTool(turn, { name: "pick" });
+  if (picked.length) turn.last({ kind: "picks", places: [] });
+  return undefined;
+}
+
+/** @param {Page.Turn} turn */
+function showPicked(turn) {
+  const box = joined(turn.state.picked.map((item) => item.box));
+  if (box) turn.send({ to: "page", kind: "fit", box, room: 0.3 });
+}
+
+// A layer that differs is shown, where it differs.
+/** @param {Page.Turn} turn @param {Page.Immediate["lead"]} event */
+function lead(turn, { name, box }) {
+  if (layerOf(turn.state, name)) layerLook(turn, name, { isShown: true });
+  if (box) turn.send({ to: "page", kind: "fit", box, room: 0.3 });
+}
+
+/** @param {Page.Turn} turn @param {Page.Immediate["tried"]} event */
+function tried(turn, { refused, isAble, why, asks = [] }) {
+  const entry = turn.state.refused.find(({ id }) => id === refused), opening = turn.state.openings[entry?.opening];
+  if (!entry) return;
+  const offer = isAble === null ? null : { isAble, why, asks }, now = { ...entry, isTried: true, offer, isPending: isAble === true };
+  turn.set({ refused: turn.state.refused.map((other) => other === entry ? now : other) });
+  if (opening) change(turn, entry.opening, { trying: opening.trying - 1 });
+  askWhenTried(turn, entry.opening);
+  turn.last({ kind: "keep" });
+  conclude(turn, entry.opening);
+}
+
+// Asks about refused files that a person chose, but for those that are asked about.
+/** @param {Page.Turn} turn @param {Page.Refused[]} entries */
+function offer(turn, entries) {
+  const asked = askedFiles(turn.state), others = entries.filter(({ id }) => !asked.has(id));
+  if (!others.length) return;
+  askAbout(turn, others, others[0].opening);
+  turn.last({ kind: "keep" });
+}
+
+// Loads what refused files were converted to: [{ id, bytes }] by the numbers of the refused.
+/** @param {Page.Turn} turn @param {number} opening @param {{ id: number, bytes: Uint8Array }[]} made */
+function openConverted(turn, opening, made) {
+  const files = { ...turn.state.files }, { openings, refused } = turn.state;
+  /** @type {Page.Gesture[]} */
+  const loads = [];
+  for (const { id, bytes } of made) {
+    const entry = refused.find((other) => other.id === id), file = `given ${turn.number()}`;
+    if (!entry) continue;
+    files[file] = { name: entry.layer.fileName, bytes };
+    loads.push({ kind: "load", opening, file, layer: entry.layer, refused: id, isNew: true });
+  }
+  if (!loads.length) return turn.last({ kind: "keep" });
+  turn.set({ files, openings: openings[opening] ? openings : { ...openings, [opening]: { ...BLANK, isDone: true } } });
+  return turn.first(...loads, { kind: "opened", opening });
+}
+
+// What the answer to a question that no gesture waits for brings about.
+/** @type {{ [K in keyof Page.Questions]?: (turn: Page.Turn, question: Page.QuestionOf<K>, reply: Page.Replied) => unknown }} */
+const answers = {
+  convert: (turn, { refused, opening }, { value, bytes }) =>
+    openConverted(turn, opening, value === "yes" && bytes ? [{ id: refused, bytes }] : []),
+  convertAll: (turn, { refused, opening }, { value, made = [] }) =>
+    openConverted(turn, opening, value === "yes" ? made.filter(({ id }) => refused.includes(id)) : []),
+  plot(turn, question, { value, names, pitch, form, why }) {
+    if (value !== "yes") return;
+    if (why) turn.say(why, true);
+    else turn.last({ kind: "plot", names, pitch, form });
+  },
+  array(turn, { of }, { value, columns, rows, dx, dy }) {
+    if (value === "yes") turn.last({ kind: "edit", verb: "array", columns, rows, dx, dy, of });
+  },
+  go(turn, question, { value, place }) {
+    if (value === "link") turn.send({ to: "page", kind: "copy link" });
+    else if (value === "yes" && place) turn.send({ to: "page", kind: "go", place });
+  },
+  give(turn, question, { value, form, pitch, why }) {
+    if (value !== "yes") return;
+    if (why) turn.say(why, true);
+    else turn.last({ kind: "give", form, pitch });
+  },
+  anew(turn, question, { value }) {
+    if (value !== "yes") return;
+    turn.set({ isLeaving: true });
+    turn.send({ to: "page", kind: "anew" });
+  },
+};
+
+/** @type {Page.Handlers<Page.Immediate>} */
+const events = {
+  started: (turn) => turn.set({ station: { isOpen: true, why: null } }),
+  show: (turn, { name, isShown }) => layerLook(turn, name, { isShown }),
+  toggle: (turn) => {
+    const layer = layerOf(turn.state, turn.state.active);
+    if (layer) layerLook(turn, layer.name, { isShown: !layer.isShown });
+  },
+  only,
+  layer: (turn, { name, changes }) => layerLook(turn, name, changes),
+  // Where a line can say what a layer shows, it does.
+  function: (turn, { name, shows }) => {
+    if (layerOf(turn.state, name)?.kind === "gerber") turn.last({ kind: "edit", verb: "function", name, shows });
+    else turn.set({ layers: withShown(turn.state.layers, name, shows) });
+  },
+  raise: (turn, { name, by }) => turn.set({ layers: withMoved(turn.state.layers, name, by) }),
+  picture: (turn, { name, changes }) => pictureLook(turn, name, changes),
+  close: (turn, { name }) => {
+    turn.set({ opened: turn.state.opened.filter((picture) => picture.name !== name) });
+    turn.send({ to: "worker", number: 0, kind: "picture", name, picture: null });
+    turn.last({ kind: "keep" });
+  },
+  setting: (turn, { changes }) => turn.set(changes),
+  tool: chooseTool,
+  point,
+  endMaking,
+  escape,
+  showPicked,
+  lead,
+  leave: (turn) => turn.set({ comparison: null }),
+  say: (turn, { text, isFault }) => turn.say(text, isFault),
+  ask: (turn, { question }) => turn.question(question),
+  offer: (turn, { refused }) => {
+    const entry = turn.state.refused.find(({ id }) => id === refused);
+    if (entry?.offer) offer(turn, [entry]);
+  },
+  offerAll: (turn, { refused }) => offer(turn, turn.state.refused.filter((entry) => refused.includes(entry.id) && entry.offer)),
+  tried,
+  lost: (turn, { why, isOpen = turn.state.kept.isOpen }) =>
+    turn.set({ kept: { ...turn.state.kept, why, isOpen, isLost: true } }),
+  keepAgain: (turn) => {
+    const { kept } = turn.state;
+    if (kept.isOpen) turn.last(kept.isLost ? { kind: "keep", isAnew: true } : { kind: "keep" });
+  },
+  openAgain: (turn) => turn.send({ to: "page", kind: "start" }),
+  restarted: (turn) => {
+    turn.set({ station: { isOpen: true, why: null }, faults: [] });
+    turn.first({ kind: "replay", isAgain: true });
+    for (const { name, file, window } of turn.state.opened) {
+      if (turn.state.files[file]) turn.send({ to: "page", kind: "put picture", name, file, window });
+    }
+  },
+  fault: (turn, { why }) => turn.set({ faults: [...turn.state.faults.slice(-4), why] }),
+  dismiss: (turn) => turn.set({ faults: [], spoiled: [] }),
+  stop: (turn) => turn.send({ to: "worker", number: 0, kind: "stop" }),
+};
+
+export const immediate = {
+  events,
+  /** @type {(turn: Page.Turn, question: Page.Question, reply: Page.Replied) => unknown} */
+  replied: (turn, question, reply) => {
+    const take = /** @type {(turn: Page.Turn, question: Page.Question, reply: Page.Replied) => unknown} */ (answers[question.kind]);
+    return take?.(turn, question, reply);
+  },
+};

@@ -1,0 +1,73 @@
+// What is handed to the browser to be kept, and what is known of whether it is.
+
+import { askedFiles } from "./asking.js";
+
+// What is still to be done when the page is opened again: files on their way into the station, those that were refused,
+// with the questions about them, and the pictures beside the layers.
+/** @param {Page.State} state @returns {Page.Waiting} */
+function waitingOf({ queue, work, refused, opened, questions, next }) {
+  const isUnderWay = work && !["settling", "kept"].includes(work.stage);
+  const waiting = [...isUnderWay ? [work.gesture] : [], ...queue]
+    .filter(({ kind, isGiven }) => isGiven || ["load", "picture", "opened"].includes(kind));
+  const asked = askedFiles({ questions });
+  return {
+    gestures: waiting.map(({ id, ...gesture }) => gesture), next,
+    refused: refused.map((entry) => ({ ...entry, isAsked: asked.get(entry.id) ?? entry.isPending === true })),
+    pictures: opened.filter(({ isInside }) => !isInside).map(({ file, label, of, window, colour, opacity, isShown }) =>
+      ({ file, label, of, window, colour, opacity, isShown })),
+  };
+}
+
+// How the page looks, as it is kept beside the lines.
+/** @param {Page.State} state */
+export const looksOfState = ({ grid, unit, active, polarity, turn, direction, layers }) => ({
+  grid, unit, active, polarity, turn, direction,
+  layers: layers.map(({ name, kind, label, colour, opacity, isShown, height, file, origin, shows, by }) =>
+    ({ name, kind, label, colour, opacity, isShown, height, file, origin, shows, by })),
+});
+
+/** @param {Page.Keeping} kept */
+const isWritten = ({ isOpen, isLost }) => isOpen && !isLost;
+
+// Hands over the entries of a gesture, files, and what waits: all in one write, together with what could not be kept
+// before. Answers whether that is under way.
+/** @param {Page.Turn} turn @param {{ entries?: Page.Told[], files?: string[], isWaiting?: boolean }} what */
+export function keep(turn, { entries = [], files = [], isWaiting = false }) {
+  const { kept, work } = turn.state;
+  if (!isWritten(kept)) return false;
+  if (kept.isAnew) {
+    keepAnew(turn, entries);
+    return true;
+  }
+  const all = { records: entries.length ? [...kept.records, entries] : kept.records, files: [...kept.files, ...files],
+    isWaiting: kept.isWaiting || isWaiting };
+  turn.set({ kept: { ...kept, ...all } });
+  if (!all.records.length && !all.files.length && !all.isWaiting) return false;
+  const { state } = turn;
+  turn.send({ to: "kept", kind: "keep", number: work.number, from: kept.count, records: all.records,
+    files: all.files.map((id) => [id, state.files[id]?.bytes]), waiting: all.isWaiting ? waitingOf(state) : null });
+  return true;
+}
+
+// Hands over all that there is, in place of what is kept; once more where that was not kept.
+/** @param {Page.Turn} turn @param {Page.Told[]} entries */
+export function keepAnew(turn, entries = []) {
+  const { state } = turn, all = [...state.told, ...entries];
+  turn.set({ kept: { ...state.kept, records: all.length ? [all] : [], files: [], count: 0, isWaiting: true, isAnew: true } });
+  turn.send({ to: "kept", kind: "anew", number: state.work.number, records: turn.state.kept.records,
+    files: Object.entries(state.files).map(([id, { bytes }]) => [id, bytes]), waiting: waitingOf(state) });
+}
+
+// The answers: all that was handed over is kept, or nothing of it.
+/** @param {Page.Turn} turn */
+export function written(turn) {
+  const { kept } = turn.state;
+  turn.set({ kept: { ...kept, count: kept.count + kept.records.length, records: [], files: [],
+    isWaiting: false, isAnew: false, why: null, isLost: false } });
+}
+
+/** @param {Page.Turn} turn @param {Page.Written} answer */
+export function unwritten(turn, { why, isLost = false }) {
+  const { kept } = turn.state;
+  turn.set({ kept: { ...kept, why, isLost: kept.isLost || isLost } });
+}

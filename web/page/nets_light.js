@@ -1,0 +1,75 @@
+// The net that is lit: all copper that hangs together in its layers' colours, over a board that is dimmed; and a ring where
+// an edit joined or cut.
+
+import { layerOf } from "./machine/state.js";
+
+// The radius of a ring in pixels of the page: wider than a pad at most zooms, so that it stands around it.
+const RING = 14;
+
+export class NetsLight {
+  /** @param {Page.View} view @param {Page.Runner} machine */
+  constructor(view, machine) {
+    this.view = view;
+    this.machine = machine;
+    this.canvas = view.canvas;
+    this.context = view.context;
+  }
+
+  draw() {
+    this.view.paint();
+  }
+
+  // Over the pictures of the view.
+  paint() {
+    const { nets } = this.machine.state;
+    if (nets.lit) this.drawLit(nets.lit, nets.about);
+    for (const { place } of nets.change?.places ?? []) this.ring(place);
+  }
+
+  /** @param {Page.LitNet} lit @param {Page.About} about */
+  drawLit({ runs }, { window, shown }) {
+    const { context, canvas } = this, style = getComputedStyle(canvas);
+    context.globalAlpha = 0.82;
+    context.fillStyle = style.getPropertyValue("--board");
+    context.fillRect(0, 0, canvas.width, canvas.height);
+    context.globalAlpha = 1;
+    this.view.fromAbove();
+    // The bottom first, so that the top lies over it, and holes over all.
+    const order = [...shown.keys()].sort((one, other) => this.height(shown[one]) - this.height(shown[other]));
+    for (const at of order) {
+      const layer = layerOf(this.machine.state, shown[at]);
+      context.fillStyle = layer?.colour ?? "#ffffff";
+      this.fill(runs[at], window);
+    }
+    context.setTransform(1, 0, 0, 1, 0, 0);
+  }
+
+  /** @param {string} name */
+  height(name) {
+    return layerOf(this.machine.state, name)?.height ?? 0;
+  }
+
+  // Each run as a bar of whole pixels, so that none is lost between two rows of the canvas.
+  /** @param {Uint32Array} runs @param {Page.About["window"]} window */
+  fill(runs, { x, y, pitch, height }) {
+    const { context, view } = this, { left, top } = view, size = view.pitch;
+    for (let at = 0; at < runs.length; at += 3) {
+      const above = (top - (y + (height - runs[at]) * pitch)) / size, from = (x + runs[at + 1] * pitch - left) / size;
+      const low = Math.max(Math.floor(above) + 1, Math.ceil(above + pitch / size));
+      const right = Math.max(Math.floor(from) + 1, Math.ceil((x + runs[at + 2] * pitch - left) / size));
+      if (low < 0 || above > view.height || right < 0 || from > view.width) continue;
+      context.fillRect(Math.floor(from), Math.floor(above), right - Math.floor(from), low - Math.floor(above));
+    }
+  }
+
+  /** @param {Page.NetPlace | null} place */
+  ring(place) {
+    if (!place) return;
+    const { context, view } = this, { x, y } = view.placeOf(place.x, place.y);
+    context.strokeStyle = getComputedStyle(this.canvas).getPropertyValue("--ink-new");
+    context.lineWidth = 2 * view.density;
+    context.beginPath();
+    context.arc(x, y, RING * view.density, 0, 2 * Math.PI);
+    context.stroke();
+  }
+}

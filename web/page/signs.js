@@ -1,0 +1,165 @@
+// Signs over the board: what a point snaps to, handles of what is picked, the origin of lengths, the gap between two picks, the items
+// that a table lights, and the item that a menu is about to pick.
+
+import { LINE, shapeOf, stroke } from "./outlines.js";
+import { gapLine } from "./gap_panel.js";
+import { handlesOf } from "./handles.js";
+
+const NOWHERE = { x: 0, y: 0 };
+// Pixels of the page: signs are told apart by their shapes, and a handle is gripped as easily as a corner of a window.
+const SIGN = 7, HANDLE = 4, ORIGIN = 12;
+// How much of the board is dimmed while a table lights items, so that it can still be seen below them; and so many handles are
+// shown at once, at most: more would cover the item.
+const DIMMED = 0.6, MOST = 400;
+
+export class Signs {
+  /** @param {Page.View} view @param {Page.Runner} machine */
+  constructor(view, machine) {
+    this.view = view;
+    this.machine = machine;
+    this.context = view.context;
+    // What the pointer's point snaps to; the handles of what is picked, as points in nm; the item that a handle makes of it, and the
+    // one of the menu that has the focus, { words, name, box }; and the gap, { from, to }, as points.
+    /** @type {Page.Snap | null} */
+    this.snap = null;
+    /** @type {Page.Pair[]} */
+    this.handles = [];
+    /** @type {Page.Previewed | null} */
+    this.reshaped = null;
+    /** @type {Page.Previewed | null} */
+    this.listed = null;
+    /** @type {Page.Gap | null} */
+    this.gap = null;
+    /** @type {{ items: Page.Lit["items"], shapes: Page.Outline[] } | null} */
+    this.paths = null;
+    machine.panel(({ picked, tool }) => [picked, tool], ({ picked, tool }) => {
+      this.handles = tool === "pick" && picked.length === 1 ? handlesOf(picked[0].words) : [];
+    });
+    machine.panel(({ picked, entries, gap }) => [picked, entries, gap], (state) => {
+      this.gap = gapLine(state);
+      view.paint();
+    });
+    machine.panel(({ tables, origin }) => [tables, origin], () => view.paint());
+  }
+
+  // The handles that are seen, { number, x, y } in pixels of the canvas; none where they are too many.
+  seenHandles() {
+    const { view, handles } = this, { left, top, pitch, width, height } = view, right = left + width * pitch, low = top - height * pitch;
+    const found = [];
+    for (let number = 0; number < handles.length && found.length <= MOST; number++) {
+      const [x, y] = handles[number];
+      if (x >= left && x <= right && y >= low && y <= top) found.push({ number, ...view.placeOf(x, y) });
+    }
+    return found.length > MOST ? [] : found;
+  }
+
+  // The number of the handle at a place of the canvas, within so many pixels; null where none is.
+  /** @param {Page.Point} at @param {number} reach */
+  handleAt({ x, y }, reach) {
+    const near = this.seenHandles().map((handle) => ({ ...handle, distance: Math.hypot(handle.x - x, handle.y - y) }));
+    return near.filter(({ distance }) => distance <= reach).sort((one, other) => one.distance - other.distance)[0]?.number ?? null;
+  }
+
+  // Below the outlines of what is picked.
+  /** @param {Page.Ink} colour */
+  paintBelow(colour) {
+    const { lit } = this.machine.state.tables, { context, view } = this;
+    if (lit?.items) {
+      context.setTransform(1, 0, 0, 1, 0, 0);
+      context.globalAlpha = DIMMED;
+      context.fillStyle = getComputedStyle(view.canvas).getPropertyValue("--board");
+      context.fillRect(0, 0, view.canvas.width, view.canvas.height);
+      context.globalAlpha = 1;
+      view.fromAbove();
+      for (const shape of this.pathsOf(lit)) stroke(context, view, shape, NOWHERE, colour("--ink-new"), LINE * view.density);
+    }
+    for (const item of [this.listed, this.reshaped]) {
+      if (!item) continue;
+      const shape = shapeOf(item.words, item.box ?? null, this.machine.state.entries[item.name]);
+      stroke(context, view, shape, NOWHERE, colour("--ink-new"), 2 * LINE * view.density);
+    }
+  }
+
+  // The outlines of all lit items as one path for each width, made once.
+  /** @param {Page.Lit} lit */
+  pathsOf({ name, items }) {
+    if (this.paths?.items === items) return this.paths.shapes;
+    const { entries, tables } = this.machine.state, known = tables.found[name]?.entries ?? entries[name], shapes = new Map();
+    for (const { words, box } of items) {
+      const { path, width } = shapeOf(words, box, known);
+      if (!shapes.has(width)) shapes.set(width, { path: new Path2D(), width });
+      shapes.get(width).path.addPath(path);
+    }
+    this.paths = { items, shapes: [...shapes.values()] };
+    return this.paths.shapes;
+  }
+
+  // Over the outlines, in pixels of the canvas.
+  /** @param {Page.Marks} marks */
+  paint(marks) {
+    const { machine, view, context } = this, { origin } = machine.state, { density } = view;
+    context.strokeStyle = marks.colour("--ink-new");
+    context.lineWidth = 1.5 * density;
+    if (origin) this.cross(view.placeOf(origin.x, origin.y), ORIGIN * density);
+    if (this.gap) {
+      const [from, to] = [this.gap.from, this.gap.to].map(([x, y]) => view.placeOf(x, y));
+      this.lines([[from, to]]);
+    }
+    for (const at of this.seenHandles()) this.handle(marks, at, HANDLE * density);
+    if (this.snap) this.snapSign(marks);
+  }
+
+  /** @param {[from: Page.Point, to: Page.Point][]} pairs */
+  lines(pairs) {
+    const { context } = this;
+    context.beginPath();
+    for (const [from, to] of pairs) {
+      context.moveTo(from.x, from.y);
+      context.lineTo(to.x, to.y);
+    }
+    context.stroke();
+  }
+
+  /** @param {Page.Point} at @param {number} size */
+  cross({ x, y }, size) {
+    this.lines([[{ x: x - size, y }, { x: x + size, y }], [{ x, y: y - size }, { x, y: y + size }]]);
+    this.ring({ x, y }, size / 2);
+  }
+
+  /** @param {Page.Point} at @param {number} size */
+  ring({ x, y }, size) {
+    this.context.beginPath();
+    this.context.arc(x, y, size, 0, 2 * Math.PI);
+    this.context.stroke();
+  }
+
+  /** @param {Page.Point} at @param {number} size */
+  square({ x, y }, size) {
+    this.context.strokeRect(x - size, y - size, 2 * size, 2 * size);
+  }
+
+  /** @param {Page.Marks} marks @param {Page.Point} at @param {number} size */
+  handle(marks, at, size) {
+    const { context } = this;
+    context.fillStyle = marks.colour("--panel");
+    context.fillRect(at.x - size, at.y - size, 2 * size, 2 * size);
+    context.strokeStyle = marks.colour("--ink-picked");
+    this.square(at, size);
+  }
+
+  // A sign of its own for each kind, with its word.
+  /** @param {Page.Marks} marks */
+  snapSign(marks) {
+    const { view, context, snap: { x, y, kind } } = this, { density } = view, at = view.placeOf(x, y), size = SIGN * density;
+    context.strokeStyle = marks.colour("--ink-new");
+    context.lineWidth = 2 * density;
+    if (kind === "centre") this.ring(at, size);
+    else if (kind === "end") this.square(at, size);
+    else if (kind === "corner") this.lines([[{ x: at.x - size, y: at.y - size }, { x: at.x - size, y: at.y + size }],
+      [{ x: at.x - size, y: at.y + size }, { x: at.x + size, y: at.y + size }]]);
+    const half = size * 0.6;
+    this.lines([[{ x: at.x - half, y: at.y - half }, { x: at.x + half, y: at.y + half }],
+      [{ x: at.x - half, y: at.y + half }, { x: at.x + half, y: at.y - half }]]);
+    marks.label(kind, at.x + 1.6 * size, at.y + 2.6 * size);
+  }
+}

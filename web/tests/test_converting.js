@@ -1,0 +1,53 @@
+// Refused files on the page: what they are converted to, and what a person has to choose.
+
+import assert from "node:assert/strict";
+import { readFileSync } from "node:fs";
+import { join } from "node:path";
+import { suite, test } from "../../tools/tests/harness.js";
+import { REPOSITORY } from "./support.js";
+import { convertedOf, waysOf } from "../page/converting.js";
+
+const CASES = join(REPOSITORY, "tools", "cases", "to_gerber");
+const file = (name) => readFileSync(join(CASES, name, "file.gbr"));
+const written = (name) => readFileSync(join(CASES, name, "new.gbr"), "latin1");
+const text = (bytes) => Buffer.from(bytes).toString("latin1");
+
+suite("ways to convert", () => {
+  test("arcs with neither G74 nor G75 are of one quadrant, or of any angle", () => {
+    const bytes = file("arcs_of_one_quadrant");
+    assert.deepEqual(convertedOf("gerber", bytes).asks.map(({ name }) => name), ["arcs"]);
+    const ways = waysOf("gerber", bytes);
+    assert.deepEqual(ways.map(({ choices, words }) => [choices, words]),
+      [[{ arcs: "single" }, ["arcs: of one quadrant, without signs"]], [{ arcs: "multi" }, ["arcs: of any angle, with signs"]]]);
+    assert.equal(text(ways[0].converted.bytes), written("arcs_of_one_quadrant"));
+    assert.deepEqual(waysOf("gerber", file("arcs_of_any_angle")).map(({ choices }) => choices), [{ arcs: "multi" }]);
+  });
+
+  test("points alone repeat flashes and moves", () => {
+    const [way, ...others] = waysOf("gerber", file("repeated_flashes"));
+    assert.deepEqual([way.choices, others], [{ repeat: true }, []]);
+    assert.equal(text(way.converted.bytes), written("repeated_flashes"));
+  });
+
+  test("what one choice uncovers is asked for too", () => {
+    const bytes = Buffer.from("%FSLAX24Y24*%\n%ADD10P,0.05X6*%\n%ADD11C,0.05*%\nD10*\nX0Y0D03*\nX10*\nD11*\nG02X20Y10I10J0D01*\nM02*\n");
+    assert.deepEqual(waysOf("gerber", bytes).map(({ choices }) => choices), ["mm", "inch"].flatMap((unit) =>
+      ["single", "multi"].map((arcs) => ({ nearest: true, unit, arcs, repeat: true }))));
+  });
+
+  test("a format is typed", () => {
+    const bytes = file("no_format");
+    assert.deepEqual(waysOf("gerber", bytes), []);
+    const { refusals, asks } = convertedOf("gerber", bytes);
+    assert.deepEqual(asks.map(({ name }) => name), ["format", "zeros"]);
+    assert.match(refusals[0], /a coordinate before the format/);
+    assert.ok(!refusals[0].includes("--"));
+    assert.equal(text(convertedOf("gerber", bytes, { format: "2.4" }).bytes), written("no_format"));
+    assert.equal(text(convertedOf("gerber", file("late_format"), { format: "3:3", zeros: "leading" }).bytes), written("late_format"));
+    assert.deepEqual(convertedOf("gerber", bytes, { format: "x" }).refusals, ["the format: two digits are wanted, as 2.4"]);
+  });
+
+  test("a file that is read as it stands has none", () => {
+    assert.equal(convertedOf("gerber", Buffer.from(written("no_format"))), null);
+  });
+});
