@@ -8,7 +8,7 @@ _camplot() {
       ;;
   esac
   case $word in
-    -*) mapfile -t COMPREPLY < <(compgen -W '- --depth --explain --help --version' -- "$word") ;;
+    -*) mapfile -t COMPREPLY < <(compgen -W '- --depth --explain --help --progress --version' -- "$word") ;;
     *) mapfile -t COMPREPLY < <(compgen -f -- "$word") ;;
   esac
 }
@@ -19,4 +19,4 @@ _camplot_board() {
   local word=${COMP_WORDS[COMP_CWORD]}
   mapfile -t COMPREPLY < <(compgen -f -- "$word")
 }
-complete -o filenames -F _camplot_board camplot-board camplot-items camplot-to-gerber camplot-to-xnc
+complete -o filenames -F _camplot_board camplot-board camplot-fit camplot-items camplot-nets camplot-to-gerber camplot-to-xnc

@@ -6,13 +6,13 @@
 
     with camplot.Station() as station:
         station.load_gerber("top", Path("top.gbr").read_bytes())
-        station.set_window(0, 0, 25_400, 4_000, 3_000)
-        place = station.item_at("top", 1_000_000, 1_000_000)
+        station.set_window(119_000_000, -103_000_000, 25_000, 1_280, 960)
+        Path("top.pbm").write_bytes(station.plot("top").pbm)
+        place = station.item_at("top", 140_500_000, -93_950_000)
         if place is not None:
             station.move("top", place, 500_000, 0)
-        picture = station.plot("top")
-        Path("top.pbm").write_bytes(picture.pbm)
-        station.undo()
+            Path("moved.pbm").write_bytes(station.plot("top").pbm)
+            station.undo()
 
 Lengths are in nm. An item's place counts from 0. A refused call raises `Refused`, which has the number, its name and
 what to do about it; the station is then as it was.
@@ -24,7 +24,7 @@ from camplot.pictures import Picture, Tile
 from camplot.station import Group, Station
 from camplot.values import Aperture, Attribute, Block, Box, Entry, History, Layer, Tool, Window
 
-__version__ = "1.0.0"
+__version__ = "1.1.0"
 __all__ = [
     "Aperture",
     "Arc",

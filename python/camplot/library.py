@@ -31,6 +31,7 @@ _FUNCTIONS: dict[str, tuple[Any, list[Any]]] = {
     "camplot_reply": (_SIZE, [HANDLE, _BYTES, _SIZE]),
     "camplot_file": (_SIZE, [HANDLE, _BYTES, _SIZE]),
     "camplot_tile": (_CODE, [HANDLE, _CODE, _CODE, ctypes.POINTER(ctypes.c_uint64)]),
+    "camplot_version": (_SIZE, [_BYTES, _SIZE]),
 }
 
 
@@ -40,8 +41,10 @@ def places() -> list[Path]:
     program = here.parents[1] / "crates" / "camplot"
     # where ./demo leaves it, if the package stands in the repository
     built = [program / "out" / NAME] if program.is_dir() else []
-    # below the prefix of an installation
-    prefix = [folder / "lib" / NAME for folder in here.parents if (folder / "lib" / NAME).is_file()]
+    # in P/lib, if the package stands in P/lib/python3/dist-packages or its like (a folder that anyone may write, such as /tmp,
+    # can stand above a package, and what lies there is not loaded)
+    lib = here.parents[2] if len(here.parents) > 2 else here
+    prefix = [lib / NAME] if lib.name == "lib" else []
     usual = [Path(folder) / NAME for folder in FOLDERS]
     return list(dict.fromkeys([here / NAME, *built, *prefix, *usual]))
 
@@ -78,3 +81,10 @@ def load(path: str | os.PathLike[str] | None = None) -> ctypes.CDLL:
         looked = ", ".join(str(place) for place in places())
         why = f"{NAME} is in none of {looked}, and the system's loader knows no {SONAME}"
         raise LibraryNotFound(f"{why}: run ./demo, or set {VARIABLE} to its path") from None
+
+
+def version(library: ctypes.CDLL) -> str:
+    """The version of a library, such as 1.1.0."""
+    room = ctypes.create_string_buffer(library.camplot_version(None, 0))
+    library.camplot_version(room, len(room))
+    return room.raw.decode()

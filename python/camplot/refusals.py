@@ -1,4 +1,4 @@
-"""What docs/refusals.md says of each number. Written by write_refusals.py."""
+"""What docs/refusals.md says of each number. Written by .ci/refusals --write."""
 
 # The name of each number, and what to do.
 REFUSALS: dict[int, tuple[str, str]] = {
@@ -23,25 +23,28 @@ REFUSALS: dict[int, tuple[str, str]] = {
         'gets its own %; several codes in one word (G01G75*, G54D10X0Y0D03*), Y before X, small letters, line'
         ' numbers (N10); %ICAS*%, as in files of OrCAD and VeriBest, which declares that the file is in '
         'ASCII, and %PF..*%: left out; with --repeat, a coordinate without D01, D02 or D03 (X1Y1*) after a '
-        'D02 or a D03, as old plotters took it. The standard lets it repeat only a D01: check in a picture '
-        'whether that is what was meant. It cannot help with these: %KO, %IF and others that the standard '
-        'dropped: let the CAD program draw what they stand for. A % that is missing shows at the command '
-        'after it. In AD, no name, or a parameter that is no number (C,1mm); in AM, a name that begins with a'
-        ' digit or holds a comma.',
+        'D02 or a D03, as old plotters took it; the first of a file is then a move. The standard lets it '
+        'repeat only a D01: check in a picture whether that is what was meant. It cannot help with these: '
+        '%KO, %IF and others that the standard dropped: let the CAD program draw what they stand for. A % '
+        'that is missing shows at the command after it. In AD, no name, or a parameter that is no number '
+        '(C,1mm); in AM, a name that begins with a digit or holds a comma.',
     ),
     4: (
         'bad number',
         'A number does not fit its grammar, or its range. A coordinate is an optional sign and 1 to 15 '
         'digits, without a point. Sizes, steps and angles may have a point, and are below 1,000,000. '
         'Apertures have numbers from 10 to 2,147,483,647, written in digits alone: in ADD-10C,1 the number is'
-        ' missing. C takes at least one parameter, R and O at least two. A repeat has 1 to 999,999,999 '
-        'columns and rows.',
+        ' missing. C takes at least one parameter, R and O at least two; of R or O with one tools/to_gerber '
+        '--nearest makes both sides equal, and leaves one that nothing uses out. A repeat has 1 to '
+        '999,999,999 columns and rows.',
     ),
     5: (
         'no format',
         'A coordinate stands before %FS..*%. A file without one is plotter data of the old standard RS-274-D,'
         ' whose apertures stand in a list of their own (it may report 9 first): choose RS-274X, extended '
-        "Gerber or X2. If only the line is lost, the board's fabrication notes have its digits.",
+        "Gerber or X2. If only the line is lost, the board's fabrication notes have its digits: "
+        'tools/to_gerber --format 2.4 writes it, with --zeros leading if trailing zeros are left out. If it '
+        'stands after a coordinate, the tool names the options that mean the same.',
     ),
     6: (
         'no unit',
@@ -61,7 +64,8 @@ REFUSALS: dict[int, tuple[str, str]] = {
         ' %MOIN*%. So leave out leading zeros, and not trailing ones (FST), and choose absolute coordinates, '
         'not incremental ones (FSLI). tools/to_gerber converts files with trailing zeros left out, with '
         "points (FSD), with other digits in X than in Y, and with the N2 of OrCAD's %FSLAN2X34Y34*%, which "
-        'announces line numbers, to a form that is read, each coordinate exactly.',
+        'announces line numbers, to a form that is read, each coordinate exactly. If it does not tell which '
+        'zeros are left out (%FSAX24Y24*%), --format 2.4 and --zeros do.',
     ),
     9: (
         'unknown aperture',
@@ -108,8 +112,8 @@ REFUSALS: dict[int, tuple[str, str]] = {
         'wrong aperture',
         'A straight draw with anything but a circle or a rectangle without a hole, or an arc with anything '
         'but a circle without a hole. Fill areas by regions, and draw arcs with a round pen. tools/to_gerber '
-        'uses the circle in place of a macro of one disc; with --nearest it flashes what a straight draw with'
-        ' an obround, a polygon or a convex macro covers.',
+        'uses the circle in place of a macro of one disc; with --nearest it drops the hole of a pen, and '
+        'flashes what a straight draw with an obround, a polygon or a convex macro covers.',
     ),
     17: (
         'arc mode',
@@ -380,9 +384,10 @@ DRILL: dict[int, str] = {
         'A number does not fit its grammar, or its range. A coordinate is an optional sign and 1 to 15 '
         'digits, without a point. Sizes, steps and angles may have a point, and are below 1,000,000. '
         'Apertures have numbers from 10 to 2,147,483,647, written in digits alone: in ADD-10C,1 the number is'
-        ' missing. C takes at least one parameter, R and O at least two. A repeat has 1 to 999,999,999 '
-        "columns and rows. In a drill file also: a tool's number 0 or past 9,999 in the header, or past it in"
-        ' the body.'
+        ' missing. C takes at least one parameter, R and O at least two; of R or O with one tools/to_gerber '
+        '--nearest makes both sides equal, and leaves one that nothing uses out. A repeat has 1 to '
+        "999,999,999 columns and rows. In a drill file also: a tool's number 0 or past 9,999 in the header, "
+        'or past it in the body.'
     ),
     6: (
         'A tool, or the % that ends the header, before METRIC or INCH.'

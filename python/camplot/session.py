@@ -24,7 +24,8 @@ class Session:
         # (ctypes would cut a greater number)
         code = library.camplot_open(depth, byref(self._handle)) if 0 <= depth <= LARGEST else _OUT_OF_LIMITS
         if code:
-            raise Refused(code, call=f"Station({depth})")
+            advice = "The depth is from 1 to 1000." if code == _OUT_OF_LIMITS else None
+            raise Refused(code, call=f"Station({depth})", advice=advice)
 
     def _ready(self) -> Any:
         """The handle, of a station that this thread may call."""

@@ -3,11 +3,11 @@
 from __future__ import annotations
 
 import os
-import re
 from types import TracebackType
 from typing import NoReturn
 
 from camplot import values
+from camplot.arguments import Line, line_of
 from camplot.errors import Error, Refused
 from camplot.items import Item
 from camplot.library import load
@@ -18,14 +18,6 @@ from camplot.values import Attribute, Box, Entry, History, Layer, Window
 _NO_LAYER = 60
 _BAD_LINE = 80
 _ACCEPTED = 0
-
-
-def _line(*words: object) -> str:
-    """A line of words. A text that is empty or has blanks would be no word of it, or two: it is refused as a bad line."""
-    line = " ".join(map(str, words))
-    if any(isinstance(word, str) and re.search(r"^$|[ \t]", word) for word in words):
-        raise Refused(_BAD_LINE, call=line[:80])
-    return line
 
 
 def _bytes(line: str | bytes) -> bytes:
@@ -95,6 +87,8 @@ class Station:
         data = file if file is None or isinstance(file, bytes) else bytes(memoryview(file))
         code = self._session.apply(words, data)
         reply = self._session.reply.split()
+        if code == _BAD_LINE and isinstance(line, Line):
+            raise line.refused()
         if code != _ACCEPTED:
             at = int(reply[2]) if len(reply) > 2 else None
             raise Refused(code, at, words[:80].decode(errors="replace"))
@@ -104,6 +98,8 @@ class Station:
         """Asks a question of docs/questions.md. Answers its text."""
         words = _bytes(question)
         code = self._session.ask(words)
+        if code == _BAD_LINE and isinstance(question, Line):
+            raise question.refused()
         if code != _ACCEPTED:
             raise Refused(code, call=words[:80].decode(errors="replace"))
         return self._session.file.decode(errors="surrogateescape")
@@ -112,31 +108,31 @@ class Station:
 
     def load_gerber(self, name: str, data: bytes | bytearray | memoryview) -> int:
         """Reads the bytes of a Gerber file as a new layer. Answers how many items it has."""
-        return self.apply(_line("load", name, "gerber", "file"), data)[0]
+        return self.apply(line_of("load {name} gerber file", name=name), data)[0]
 
     def load_drill(self, name: str, data: bytes | bytearray | memoryview) -> int:
         """Reads the bytes of a drill file (XNC) as a new layer. Answers how many items it has."""
-        return self.apply(_line("load", name, "drill", "file"), data)[0]
+        return self.apply(line_of("load {name} drill file", name=name), data)[0]
 
     def text(self, name: str) -> bytes:
         """The canonical text of a layer, Gerber or XNC."""
-        self.apply(_line("write", name, "file"))
+        self.apply(line_of("write {name} file", name=name))
         return self._session.file
 
     # ---- pictures
 
     def set_window(self, x: int, y: int, pitch: int, width: int, height: int) -> Window:
         """Sets what plots show: the lower left corner and the pitch in nm, the sides in pixels."""
-        self.apply(_line("window", x, y, pitch, width, height))
+        self.apply(line_of("window {x} {y} {pitch} {width} {height}", x=x, y=y, pitch=pitch, width=width, height=height))
         return Window(x, y, pitch, width, height)
 
     def redraw(self, at_most: int) -> int:
         """Draws at most so many dirty tiles, by layer and then by number. Answers how many it drew."""
-        return self.apply(_line("redraw", at_most))[0]
+        return self.apply(line_of("redraw {at_most}", at_most=at_most))[0]
 
     def plot(self, name: str) -> Picture:
         """Draws the dirty tiles of a layer. Answers its picture in the window."""
-        self.apply(_line("plot", name, "file"))
+        self.apply(line_of("plot {name} file", name=name))
         return Picture.from_pbm(self._session.file)
 
     def tile(self, name: str, number: int) -> Tile | None:
@@ -156,43 +152,47 @@ class Station:
 
     def insert(self, name: str, place: int, item: Item | str) -> None:
         """Inserts an item at a place, which is at most one past the last. It may be in the words of a script line."""
-        self.apply(f"{_line('insert', name, place)} {item.words if isinstance(item, Item) else item}")
+        self.apply(line_of("insert {name} {place}", item.words if isinstance(item, Item) else item, name=name, place=place))
 
     def delete(self, name: str, place: int) -> None:
         """Deletes an item."""
-        self.apply(_line("delete", name, place))
+        self.apply(line_of("delete {name} {place}", name=name, place=place))
 
     def move(self, name: str, place: int, dx: int, dy: int) -> None:
         """Moves an item, by nm."""
-        self.apply(_line("move", name, place, dx, dy))
+        self.apply(line_of("move {name} {place} {dx} {dy}", name=name, place=place, dx=dx, dy=dy))
 
     def reorder(self, name: str, place: int, to: int) -> None:
         """Takes an item out, and sets it at a place of the list without it."""
-        self.apply(_line("reorder", name, place, to))
+        self.apply(line_of("reorder {name} {place} {to}", name=name, place=place, to=to))
 
     def set_aperture(self, name: str, place: int, number: int) -> None:
         """Gives an item another aperture, by its number."""
-        self.apply(_line("aperture", name, place, number))
+        self.apply(line_of("aperture {name} {place} {number}", name=name, place=place, number=number))
 
     def set_polarity(self, name: str, place: int, dark: bool) -> None:
         """Makes an item dark or clear."""
-        self.apply(_line("polarity", name, place, "dark" if dark else "clear"))
+        polarity = "dark" if dark else "clear"
+        self.apply(line_of(f"polarity {{name}} {{place}} {polarity}", name=name, place=place))
 
     def set_tool(self, name: str, place: int, tool: int) -> None:
         """Gives an item of a drill layer another tool, by its number."""
-        self.apply(_line("tool", name, place, tool))
+        self.apply(line_of("tool {name} {place} {tool}", name=name, place=place, tool=tool))
 
     def set_diameter(self, name: str, tool: int, diameter: int) -> None:
         """Gives a tool another diameter, in nm."""
-        self.apply(_line("diameter", name, tool, diameter))
+        self.apply(line_of("diameter {name} {tool} {diameter}", name=name, tool=tool, diameter=diameter))
 
     def set_attribute(self, name: str, key: str, *fields: str) -> None:
         """Sets a file attribute to its fields, or to none: `set_attribute("top", ".FileFunction", "Copper", "L1", "Top")`."""
-        self.apply(_line("setattr", name, key, *([",".join(fields)] if fields else [])))
+        if not fields:
+            self.apply(line_of("setattr {name} {key}", name=name, key=key))
+            return
+        self.apply(line_of("setattr {name} {key} {fields}", name=name, key=key, fields=",".join(fields)))
 
     def drop_attribute(self, name: str, key: str) -> None:
         """Drops a file attribute."""
-        self.apply(_line("dropattr", name, key))
+        self.apply(line_of("dropattr {name} {key}", name=name, key=key))
 
     def group(self) -> Group:
         """A group of edits, for a `with` statement: they are taken back as one."""
@@ -220,13 +220,16 @@ class Station:
         return found
 
     def item_at(self, name: str, x: int, y: int, before: int | None = None) -> int | None:
-        """The place of the topmost item at a point, of those before a place if one is given; None if there is none. Asked
-        again with `before` set to the answer, it gives the item below."""
-        found = self.ask(_line("at", name, x, y, *([] if before is None else [before])))
+        """The place of the topmost item at a point, of those before a place if one is given; None if there is none, and
+        off the board. Asked again with `before` set to the answer, it gives the item below."""
+        asked = line_of("at {name} {x} {y}", name=name, x=x, y=y)
+        if before is not None:
+            asked = line_of("at {name} {x} {y} {before}", name=name, x=x, y=y, before=before)
+        found = self.ask(asked)
         return int(found) if found else None
 
     def items_at(self, name: str, x: int, y: int) -> list[int]:
-        """The places of all items at a point, the topmost first."""
+        """The places of all items at a point of the board, the topmost first."""
         found: list[int] = []
         place = self.item_at(name, x, y)
         while place is not None:
@@ -235,32 +238,36 @@ class Station:
         return found
 
     def items_in(self, name: str, x0: int, y0: int, x1: int, y1: int) -> list[int]:
-        """The places of the items whose boxes lie in the box between two points."""
-        return [int(line) for line in self.ask(_line("in", name, x0, y0, x1, y1)).splitlines()]
+        """The places of the items that lie in the box between two points: those whose boxes do, and arcs of which the
+        box of the stroke does."""
+        question = line_of("in {name} {x0} {y0} {x1} {y1}", name=name, x0=x0, y0=y0, x1=x1, y1=y1)
+        return [int(line) for line in self.ask(question).splitlines()]
 
     def item(self, name: str, place: int) -> Item:
         """The item at a place."""
-        return values.items_of(self.ask(_line("item", name, place)))[0]
+        return values.items_of(self.ask(line_of("item {name} {place}", name=name, place=place)))[0]
 
     def items(self, name: str, start: int = 0, count: int = LARGEST) -> list[Item]:
-        """The items from a place on, `count` at most."""
-        return values.items_of(self.ask(_line("items", name, start, count)))
+        """The items from a place on, `count` at most; none if the place is right after the last."""
+        return values.items_of(self.ask(line_of("items {name} {start} {count}", name=name, start=start, count=count)))
 
     def box(self, name: str, place: int | None = None) -> Box | None:
         """The box of a layer, or of the item at a place; None if it paints nothing."""
-        return values.box_of(self.ask(_line("box", name, *([] if place is None else [place]))))
+        if place is None:
+            return values.box_of(self.ask(line_of("box {name}", name=name)))
+        return values.box_of(self.ask(line_of("box {name} {place}", name=name, place=place)))
 
     def entry(self, name: str, place: int) -> Entry:
         """The aperture, block or tool at a place of their order."""
-        return values.entries_of(self.ask(_line("entry", name, place)))[0]
+        return values.entries_of(self.ask(line_of("entry {name} {place}", name=name, place=place)))[0]
 
     def entries(self, name: str) -> list[Entry]:
         """The apertures and blocks, or the tools, in order."""
-        return values.entries_of(self.ask(_line("entries", name)))
+        return values.entries_of(self.ask(line_of("entries {name}", name=name)))
 
     def attributes(self, name: str) -> list[Attribute]:
         """The file attributes, in order. A line end in a field, which no standard field has, begins another attribute."""
-        return [values.attribute_of(line) for line in self.ask(_line("attributes", name)).split("\n")[:-1]]
+        return [values.attribute_of(line) for line in self.ask(line_of("attributes {name}", name=name)).split("\n")[:-1]]
 
     def history(self) -> History:
         """How many edits and groups can be taken back and made again."""

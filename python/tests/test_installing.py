@@ -24,6 +24,12 @@ needs_pip = unittest.skipUnless(importlib.util.find_spec("pip"), "there is no pi
 TELL = "import camplot; s = camplot.Station(); print(s.apply('list')); print(s._session._library._name); print(camplot.__file__)"
 
 
+def is_installed() -> bool:
+    """Whether this system has the library itself; its loader is asked by a process that has loaded none."""
+    asked = subprocess.run([sys.executable, "-c", f"import ctypes; ctypes.CDLL('{library.SONAME}')"], capture_output=True)
+    return asked.returncode == 0 or any(Path(it, library.NAME).exists() for it in library.FOLDERS)
+
+
 class InFolder(unittest.TestCase):
     def setUp(self) -> None:
         held = tempfile.TemporaryDirectory()
@@ -64,11 +70,12 @@ class Missing(InFolder):
         with self.assertRaisesRegex(camplot.LibraryNotFound, "is not the library of this version"):
             library.load(old)
 
-    @unittest.skipIf(any(Path(it, library.NAME).exists() for it in library.FOLDERS), "a library is installed on this system")
+    @unittest.skipIf(is_installed(), "a library is installed on this system")
     def test_none_anywhere(self) -> None:
-        # (what lies in the folder where a program runs is not loaded)
-        (self.folder / library.SONAME).write_text("another's")
-        (self.folder / library.NAME).write_text("another's")
+        # (what lies in the folder where a program runs is not loaded, nor what lies in lib of any folder above the package)
+        (self.folder / "lib").mkdir()
+        for name in (library.SONAME, library.NAME, f"lib/{library.NAME}"):
+            (self.folder / name).write_text("another's")
         said = self.told(self.package("a"))
         self.assertRegex(said[-1], f"LibraryNotFound: {library.NAME} is in none of .*: run ./demo, or set CAMPLOT_LIBRARY")
 
@@ -104,7 +111,7 @@ class Found(InFolder):
         shutil.copy(self.built, out / library.NAME)
         self.assertEqual(self.told(there)[1], str((out / library.NAME).resolve()))
 
-    @unittest.skipIf(any(Path(it, library.NAME).exists() for it in library.FOLDERS), "a library is installed on this system")
+    @unittest.skipIf(is_installed(), "a library is installed on this system")
     def test_by_the_loader_of_the_system(self) -> None:
         shutil.copy(self.built, self.folder / library.SONAME)
         said = self.told(self.package("a"), LD_LIBRARY_PATH=str(self.folder))
@@ -142,10 +149,14 @@ class Wheels(InFolder):
         spec.loader.exec_module(backend)
         self.assertEqual((backend.NAME, backend.VERSION), ("camplot", camplot.__version__))
 
+    @needs_library
+    def test_the_library_has_it_too(self) -> None:
+        self.assertEqual(library.version(library.load()), camplot.__version__)
+
     @needs_pip
     def test_a_wheel_without_the_library(self) -> None:
         self.pip("wheel", "-w", str(self.folder), str(self.sources))
-        names = self.is_recorded(self.folder / "camplot-1.0.0-py3-none-any.whl")
+        names = self.is_recorded(self.folder / f"camplot-{camplot.__version__}-py3-none-any.whl")
         self.assertIn("camplot/py.typed", names)
         self.assertEqual({it.name for it in (PYTHON / "camplot").glob("*.py")}, {Path(it).name for it in names if it.endswith(".py")})
 
@@ -159,7 +170,7 @@ class Wheels(InFolder):
         self.pip("install", "--no-user", str(self.sources), python=python)
         (package,) = there.glob("lib/python*/site-packages/camplot")
         self.assertEqual(self.told(self.folder, python)[:2], ["(0, 0, 0)", str((package / library.NAME).resolve())])
-        (wheel,) = there.glob("lib/python*/site-packages/camplot-1.0.0.dist-info/WHEEL")
+        (wheel,) = there.glob(f"lib/python*/site-packages/camplot-{camplot.__version__}.dist-info/WHEEL")
         self.assertIn(f"Root-Is-Purelib: false\nTag: py3-none-{re.sub('[-.]', '_', sysconfig.get_platform())}\n", wheel.read_text())
         self.pip("uninstall", "-y", "camplot", python=python)
         self.assertEqual(list(there.glob("lib/python*/site-packages/camplot*")), [])

@@ -4,8 +4,6 @@ from __future__ import annotations
 
 import pickle
 import re
-import subprocess
-import sys
 import unittest
 from collections.abc import Iterator
 from pathlib import Path
@@ -20,7 +18,7 @@ NOT_HERE = {30, 51, 75, 90, 91}
 # Cases of files that the program cannot write: the package writes none.
 WRITING = {"checks_before_files", "failed_plot_keeps_its_tiles"}
 # Files beside a script that these cases do not have.
-OTHERS = ("make", "zeros", "memory", "stdin", "stdout_to", "copies", "complaint")
+OTHERS = ("make", "zeros", "memory", "stdin", "feed", "stdout_to", "copies", "complaint")
 LONGEST = 1_000_000
 
 
@@ -49,9 +47,6 @@ class Carried(unittest.TestCase):
         self.assertEqual((fault.number, fault.at, fault.call), (13, 224, "load top gerber file"))
 
     def test_the_table_is_that_of_the_page(self) -> None:
-        writer = TOP / "python" / "write_refusals.py"
-        written = subprocess.run([sys.executable, str(writer), "--check"])
-        self.assertEqual(written.returncode, 0, "run python/write_refusals.py")
         page = (TOP / "docs" / "refusals.md").read_text("utf-8")
         self.assertEqual(set(REFUSALS), {int(it) for it in re.findall(r"(?:\*\*|^\| )(\d+)(?=, | \| )", page, re.M)})
         for number, (name, advice) in REFUSALS.items():

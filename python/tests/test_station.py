@@ -64,6 +64,9 @@ class Questions(WithStation):
         self.assertEqual(self.station.items_in("top", 4_800_000, -200_000, 5_200_000, 200_000), [2])
         self.assertEqual(self.station.items_in("top", 5_200_000, 200_000, 4_800_000, -200_000), [2])
         self.assertEqual(self.station.items_in("top", -90_000_000, 0, -80_000_000, 1), [])
+        # a quarter of a circle by a pen of 0.5 mm, in the box of what it paints, which does not hold the circle
+        self.assertEqual(self.station.items_in("top", 2_750_000, 750_000, 5_250_000, 3_250_000), [4])
+        self.assertEqual(self.station.items_in("top", 2_750_000, 750_000, 5_250_000, 3_249_999), [])
 
     def test_boxes(self) -> None:
         self.assertEqual(self.station.box("top", 0), (750_000, 1_750_000, 1_250_000, 2_250_000))
@@ -219,6 +222,32 @@ class Edits(WithStation):
         self.refused(80, self.station.redraw, -1)
         self.refused(80, self.station.move, "top", 0, 2**32, 0)
 
+    def test_the_argument_that_is_wrong_is_named(self) -> None:
+        station, count, nm = self.station, "a whole number from 0 to 4294967295", "a whole number of nm, at most 4000000000"
+        turns = "r0, r90, r180, r270, m0, m90, m180 or m270"
+        point = camplot.Point(0, 0)
+        for wanted, call, *given in (
+            (f"place is {count}, and -1 is not.", station.move, "top", -1, 0, 0),
+            (f"dx is {nm}, and 0.5 is not.", station.move, "top", 0, 0.5, 0),
+            (f"dy is {nm}, and 5000000000 is not.", station.move, "top", 0, 0, 5 * 10**9),
+            ("name is 1 to 32 letters, digits, _, - and ., and 'top 0' is not.", station.move, "top 0", 0, 0, 0),
+            (f"place is {count}, and None is not.", station.item, "top", None),
+            ("name is 1 to 32 letters, digits, _, - and ., and '' is not.", station.item, "", 0),
+            (f"place is {count}, and 1.0 is not.", station.insert, "top", 1.0, "flash 10 0 0 r0 dark"),
+            (f"The x of flash is {nm}, and '0.5' is not.", station.insert, "top", 0, "flash 10 0.5 0 r0 dark"),
+            (f"The turn of flash is {turns}, and 'r45' is not.", station.insert, "top", 0, camplot.Flash(10, point, camplot.Turn(45))),
+            ("The polarity of flash is missing.", station.insert, "top", 0, "flash 10 0 0 r0"),
+            ("An item is flash, draw, arc, region, hit, rout, and 'flesh' is not.", station.insert, "top", 0, "flesh 10"),
+            ("These are not the words of rout: 'rout 1 0 0 5'.", station.insert, "holes", 0, "rout 1 0 0 5"),
+            (f"at_most is {count}, and -1 is not.", station.redraw, -1),
+            (f"width is {count}, and 0.5 is not.", station.set_window, 0, 0, 1000, 0.5, 64),
+            (f"before is {count}, and -1 is not.", station.item_at, "top", 0, 0, -1),
+            ("key is 1 to 255 bytes of ASCII but blanks, comma, % and *, and 'a*' is not.", station.set_attribute, "top", "a*"),
+            ("fields is 1 to 4096 bytes of ASCII but blanks, % and *, and 'a b' is not.", station.set_attribute, "top", "a", "a b"),
+        ):
+            with self.subTest(wanted):
+                self.assertEqual(self.refused(80, call, *given).advice, wanted)
+
 
 @needs_library
 class Lives(unittest.TestCase):
@@ -238,6 +267,7 @@ class Lives(unittest.TestCase):
             with self.assertRaises(camplot.Refused) as caught:
                 camplot.Station(depth)
             self.assertEqual(caught.exception.number, 50)
+            self.assertEqual(caught.exception.advice, "The depth is from 1 to 1000.")
         with camplot.Station(1) as station:
             station.load_gerber("top", ONE_FLASH)
             station.move("top", 0, 1, 0)

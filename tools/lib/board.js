@@ -1,42 +1,46 @@
 // tools/board: a board as pictures, and in a page.
 
-import { closeSync, existsSync, openSync, readFileSync, readSync, readdirSync, statSync } from "node:fs";
+import { existsSync, readFileSync, readdirSync, statSync } from "node:fs";
 import { basename, dirname, join } from "node:path";
 import { latin1, latin1Bytes, utf8 } from "../../web/bytes.js";
-import { DRILL, GERBER, HEAD } from "../../web/file_kinds.js";
+import { DRILL, GERBER } from "../../web/file_kinds.js";
 import { recogniseFiles } from "../../web/layers.js";
 import { explain } from "../../web/refusals.js";
 import { scriptLines } from "../../web/replies.js";
 import { describeWindow, windowAround } from "../../web/windows.js";
 import { Board } from "./boards.js";
 import { Call, DONE, Failure, REFUSED, perform, say } from "./command.js";
-import { builtPage, writePage } from "./pages.js";
+import { headOf } from "./files.js";
+import { writePage } from "./pages.js";
+import { neededModule } from "./module.js";
+import { PROGRAM, builtPage, called, documentAt, remedy } from "./places.js";
 import { Room } from "./rooms.js";
-import { PROGRAM, checkProgram, meanings } from "./station.js";
+import { checkProgram, meanings } from "./station.js";
 
 const MOST_DPI = 25_400_000;
 
+const TOOL = called("board");
 const COMMAND = {
-  tool: "tools/board",
+  tool: TOOL,
   about: `Plots a board: all its layers in one window, as PBM pictures, and writes the editor in a page with the board in it.
 
-  tools/board FOLDER                   the layers among the files of a folder, plotted into FOLDER/board
-  tools/board top.gbr holes.drl        these files, whatever their names are, plotted into \`board\` next to the first
-  tools/board FOLDER --dpi 2540        with pixels of 10 µm; 1000 an inch, of 25.4 µm, by default
-  tools/board FOLDER --edits FILE      then runs the lines of FILE: edits, which the page runs too, and further plots,
-                                       which the page shows
+  ${TOOL} FOLDER                   the layers among the files of a folder, plotted into FOLDER/board
+  ${TOOL} top.gbr holes.drl        these files, whatever their names are, plotted into \`board\` next to the first
+  ${TOOL} FOLDER --dpi 2540        with pixels of 10 µm; 1000 an inch, of 25.4 µm, by default
+  ${TOOL} FOLDER --edits FILE      then runs the lines of FILE: edits, which the page runs too, and further plots,
+                                   which the page shows
 
 It recognises what a file shows by its attribute %TF.FileFunction%, else by the names that KiCad, Altium, EAGLE, Fritzing
 and pcb-rnd give. One window lies around the outline, or around all layers if no outline loads.
 
 It writes into the folder of --out:
-  index.html   the page: open it in a browser; it needs no server and no network. It is camplot.html, which ./demo or
-               web/build makes and ./install installs, with the layers' files inside; without it there is no page
+  index.html   the page: open it in a browser; it needs no server and no network. It is camplot.html with the layers'
+               files inside; if there is none, there is no page
   NAME.pbm     a picture for each layer
   script       what camplot ran there, with plain names; run it again by \`camplot script\` in that folder
   replies      each of its lines after its reply
   files/       the layers' files under plain names
-  texts/       the layers' canonical texts, for tools/items
+  texts/       the layers' canonical texts, for ${called("items")}
 
 It prints the result of each layer. If that folder has anything that it did not write itself, or that was changed since,
 it stops, unless --replace is given. The exit status is 0; 1 if a layer or a line was refused; 2 if nothing could be
@@ -47,24 +51,10 @@ done.`,
     { name: "--out", value: "DIR", help: "the folder for its files" },
     { name: "--edits", value: "FILE", help: "lines of a script that run after the plots" },
     { name: "--replace", help: "replace files of the same names in the folder" },
-    { name: "--page", value: "HTML", help: "the page without a board (by default camplot.html of ./demo or web/build)" },
+    { name: "--page", value: "HTML", help: "the page without a board (by default camplot.html)" },
     { name: "--camplot", value: "PROGRAM", otherwise: PROGRAM, help: `the program (${PROGRAM})` },
   ],
 };
-
-function headOf(path) {
-  const head = new Uint8Array(HEAD), file = openSync(path, "r");
-  try {
-    let length = 0, count = 0;
-    do {
-      count = readSync(file, head, length, HEAD - length, null);
-      length += count;
-    } while (count > 0 && length < HEAD);
-    return head.subarray(0, length);
-  } finally {
-    closeSync(file);
-  }
-}
 
 function boardFile(path, name) {
   return { path, name, bytes: headOf(path) };
@@ -78,8 +68,11 @@ function filesOf(folder) {
     .map(({ name, path }) => boardFile(path, utf8(name)));
 }
 
-// The files to look at, whether they were named one by one, and the folder where the pictures go.
-function inputs(paths) {
+/**
+ * The files to look at, whether they were named one by one, and the folder where the pictures go.
+ * @param {string[]} paths
+ */
+export function inputs(paths) {
   for (const path of paths) if (!existsSync(path)) throw new Failure(`${path} does not exist`);
   const isFolder = (path) => statSync(path).isDirectory();
   if (paths.length === 1 && isFolder(paths[0])) {
@@ -99,7 +92,7 @@ const MENDERS = {
 
 function menderOf(board, layer) {
   const { tool, refusals } = MENDERS[layer.kind], reply = board.loads.get(layer.name);
-  return !reply.isAccepted && refusals.includes(reply.refusal) ? `tools/${tool}` : null;
+  return !reply.isAccepted && refusals.includes(reply.refusal) ? called(tool) : null;
 }
 
 function tellLayers(board) {
@@ -110,7 +103,7 @@ function tellLayers(board) {
     const mender = menderOf(board, layer);
     if (mender) say(`${blank}  it may load after ${mender}`);
   }
-  if (board.isAnyRefused()) say("docs/refusals.md explains what to do about each refusal, in the CAD program too");
+  if (board.isAnyRefused()) say(`${documentAt("refusals.md")} explains what to do about each refusal, in the CAD program too`);
 }
 
 function tellLines(board) {
@@ -123,8 +116,8 @@ function tellLines(board) {
 // Writes the page, if there is one to fill.
 function tellPage(board, operands, page) {
   if (page === null) {
-    say("there is no page, since camplot.html is not built: ./demo builds it if node is installed, and so does web/build "
-      + "after the C library is proved; --page names another");
+    const made = "./demo builds it if node is installed, and so does web/build after the C library is proved";
+    say(`there is no page, since there is no camplot.html: ${remedy(made)}; --page names another`);
     return;
   }
   const path = board.room.path("index.html");
@@ -155,6 +148,7 @@ function run(options) {
   if (!layers.length) throw new Failure(`no layer is recognised among ${files.length} files of ${options.operands[0]}`);
   const edits = options.edits === null ? [] : scriptLines(latin1(readFileSync(options.edits)));
   checkProgram(options.camplot);
+  neededModule();
   if (options.page !== null && !existsSync(options.page)) throw new Failure(`${options.page} does not exist`);
   options.page ??= builtPage();
   const room = new Room(options.out ?? folder, options.replace);
@@ -165,7 +159,10 @@ function run(options) {
   }
 }
 
-/** Runs the command with the words of a call. @param {string[]} words */
+/**
+ * Runs the command with the words of a call.
+ * @param {string[]} words
+ */
 export function main(words) {
   return perform(COMMAND, run, words);
 }

@@ -3,23 +3,27 @@
 import { readFileSync, writeFileSync } from "node:fs";
 import { basename, join, resolve } from "node:path";
 import { latin1Bytes, utf8 } from "../../web/bytes.js";
-import { NotCanonical, readCanonical } from "../../web/canonical/read.js";
-import { countOf } from "../../web/canonical/text.js";
-import { Failure } from "../../web/convert/report.js";
+import { counted } from "../../web/nets/words.js";
 import { BY_ATTRIBUTE, nameParts } from "../../web/layers.js";
 import { isPbm } from "../../web/pbm.js";
 import { explain } from "../../web/refusals.js";
-import { wordsOf } from "../../web/replies.js";
+import { Reply, wordsOf } from "../../web/replies.js";
 import { isInWindow, windowLine } from "../../web/windows.js";
+import { AskedLayer } from "./asked_layer.js";
+import { called } from "./places.js";
 import { LAYERS, meanings, runLines } from "./station.js";
 
-// What a line of the user's own looks at, and does not change; a page that runs the lines does without it.
-const LOOKS = ["plot", "write", "redraw", "list", "window"];
+/** Commands of a user's own lines that look, and change nothing; what runs the lines for their edits does without them. */
+export const LOOKS = ["plot", "write", "redraw", "list", "window"];
 
+/** @typedef {import("../../web/layers.js").Layer} Layer */
+
+/** @param {Layer} layer */
 function loadLine(layer) {
   return `load ${layer.name} ${layer.kind} ${layer.copy}`;
 }
 
+/** @param {Layer} layer */
 function plotLine(layer) {
   return `plot ${layer.name} ${layer.picture}`;
 }
@@ -46,37 +50,25 @@ export class Board {
     this.loads = new Map();
     /** @type {Map<string, import("../../web/replies.js").Reply>} */
     this.plots = new Map();
-    /** @type {Map<string, Text>} */
-    this.texts = new Map();
+    /** @type {Map<string, import("../../web/boxes.js").Box | null>} what the layers that load paint */
+    this.painted = new Map();
     /** @type {import("../../web/replies.js").Reply[]} of the lines of a user's own */
     this.edits = [];
     this.window = null;
   }
 
-  /** Loads each layer, and writes and reads the texts of those that load. */
+  /** Loads each layer, and writes the texts of those that load. */
   load() {
     for (const layer of this.layers) {
       this.room.copy(layer.file.path, layer.copy);
       this.room.path(layer.text);
     }
-    for (const part of partsOf(this.layers)) {
-      const lines = part.flatMap((layer) => [loadLine(layer), `write ${layer.name} ${layer.text}`]);
-      const replies = runLines(this.program, this.room.folder, lines);
-      part.forEach((layer, at) => {
-        const loaded = replies[2 * at], written = replies[2 * at + 1];
-        this.loads.set(layer.name, !loaded.isAccepted || written.isAccepted ? loaded : written);
-      });
-    }
-    for (const layer of this.loaded()) this.texts.set(layer.name, this.readText(layer));
-  }
-
-  readText(layer) {
-    const path = join(this.room.folder, layer.text);
-    try {
-      return readCanonical(readFileSync(path));
-    } catch (fault) {
-      if (fault instanceof NotCanonical) throw new Failure(`${path}: ${fault.message}`);
-      throw fault;
+    for (const layer of this.layers) {
+      const asked = new AskedLayer(layer.kind, readFileSync(layer.file.path));
+      this.loads.set(layer.name, new Reply(1, loadLine(layer), asked.reply.split(" ")));
+      if (!asked.isLoaded) continue;
+      this.painted.set(layer.name, asked.box());
+      writeFileSync(join(this.room.folder, layer.text), asked.text());
     }
   }
 
@@ -87,7 +79,7 @@ export class Board {
 
   /** The boxes of the layers that load and paint something, in nm. */
   boxes() {
-    return this.loaded().map((layer) => this.texts.get(layer.name).box()).filter((box) => box);
+    return [...this.painted.values()].filter((box) => box);
   }
 
   /** The box of the outline: of the one that an attribute names, else of the first that has an item. */
@@ -95,7 +87,7 @@ export class Board {
     const outlines = this.loaded().filter((layer) => layer.layerFunction.name === "outline");
     const isNamed = (layer) => layer.toldBy === BY_ATTRIBUTE;
     for (const layer of [...outlines.filter(isNamed), ...outlines.filter((other) => !isNamed(other))]) {
-      const box = this.texts.get(layer.name).box();
+      const box = this.painted.get(layer.name);
       if (box) return box;
     }
     return null;
@@ -128,7 +120,7 @@ export class Board {
 
   // The lines of a run, and the number of the first one that is the user's own.
   script(part, edits, window) {
-    const lines = ["# the board's layers, plotted by tools/board"];
+    const lines = [`# the board's layers, plotted by ${called("board")}`];
     for (const layer of this.layers) {
       const reply = this.loads.get(layer.name);
       if (!reply.isAccepted) lines.push(`# ${reply.words.join(" ")}: ${reply.line}`);
@@ -142,14 +134,17 @@ export class Board {
     return { lines: [...lines, ...edits], firstOwn: lines.length + 1 };
   }
 
-  /** What came of a layer, in a line for people. @param {Layer} layer */
+  /**
+   * What came of a layer, in a line for people.
+   * @param {Layer} layer
+   */
   outcome(layer) {
     const loaded = this.loads.get(layer.name);
     if (!loaded.isAccepted) return explain(loaded, meanings(), readFileSync(layer.file.path));
-    const items = countOf(loaded.count, "item"), plotted = this.plots.get(layer.name);
+    const items = counted(loaded.count, "item"), plotted = this.plots.get(layer.name);
     if (!plotted) return `loaded, ${items}`;
     if (!plotted.isAccepted) return `loaded, ${items}; its plot was ${explain(plotted, meanings())}`;
-    const box = this.texts.get(layer.name).box();
+    const box = this.painted.get(layer.name);
     const beyond = !box || isInWindow(this.window, box) ? "" : "; it reaches beyond the window";
     return `loaded, ${items}; plotted as ${layer.picture}${beyond}`;
   }
@@ -195,7 +190,10 @@ export class Board {
     return { title, files, lines, pictures: pictures.filter(({ bytes }) => isPbm(bytes)), window: plotted };
   }
 
-  /** What the page is called. @param {string[]} paths the files or the folder that were named */
+  /**
+   * What the page is called.
+   * @param {string[]} paths the files or the folder that were named
+   */
   title(paths) {
     if (paths.length === 1) return basename(resolve(paths[0]));
     return nameParts(this.layers[this.layers.length - 1].file.name).stem;

@@ -6,7 +6,8 @@ import { reasonOf } from "./files.js";
 export { Failure };
 
 /** Exit statuses: done; done, but something was refused; nothing could be done. */
-export const DONE = 0, REFUSED = 1, FAILED = 2;
+export const DONE = 0, REFUSED = 1;
+const FAILED = 2;
 
 /**
  * An option of a command. Without `value` it is a switch.
@@ -29,6 +30,17 @@ export const DONE = 0, REFUSED = 1, FAILED = 2;
  * @property {{name: string, help?: string, isMany?: boolean, isOptional?: boolean}} operand the file or files it takes
  * @property {Option[]} options
  */
+
+/**
+ * The options of a converter's choices.
+ * @param {import("../../web/convert/choices.js").Choice[]} choices
+ * @returns {Option[]}
+ */
+export function optionsOf(choices) {
+  return choices.map(({ option, value, form, values, isList, help }) => ({ name: option, help,
+    ...(value === undefined ? {} : { value }), ...(form === "one" ? { choices: values.map(([word]) => word) } : {}),
+    ...(isList ? { isList } : {}) }));
+}
 
 /** The words of a call do not fit; `--help` is asked for, where `text` is what to print. */
 export class Call extends Error {
@@ -57,7 +69,7 @@ function usageOf({ tool, operand, options }) {
  * @param {Command} command
  * @returns {string}
  */
-export function helpOf(command) {
+function helpOf(command) {
   const rows = [
     [command.operand.name, command.operand.help],
     ["-h, --help", "print this"],
@@ -131,7 +143,7 @@ function checkOperands(command, operands) {
  * @returns {Record<string, *>} null where an option is not given, false of a switch
  * @throws {Call} where the words do not fit, or `--help` is among them
  */
-export function parsed(command, words) {
+function parsed(command, words) {
   const result = emptyResult(command), rest = [...words];
   while (rest.length) {
     const word = rest.shift();
@@ -153,19 +165,50 @@ export function parsed(command, words) {
   return result;
 }
 
-/** Prints lines on standard output. @param {string} text */
+/**
+ * Prints lines on standard output.
+ * @param {string} text
+ */
 export function say(text) {
   process.stdout.write(`${text}\n`);
 }
 
-/** Prints lines on standard error. @param {string} text */
+/**
+ * Prints lines on standard error.
+ * @param {string} text
+ */
 export function complain(text) {
   process.stderr.write(`${text}\n`);
 }
 
+/** Who reads what is printed may stop early. */
+function allowClosing() {
+  for (const stream of [process.stdout, process.stderr]) {
+    stream.on("error", (fault) => {
+      if (fault.code !== "EPIPE") throw fault;
+    });
+  }
+}
+
+/**
+ * Tells why a call or a file of it cannot be used, or what `--help` prints.
+ * @returns {number} the exit status
+ */
+function toldFault(command, name, fault) {
+  if (fault instanceof Call && fault.isHelp) {
+    say(fault.message);
+    return DONE;
+  }
+  if (fault instanceof Call) complain(`${usageOf(command)}\n${command.tool}: error: ${fault.message}`);
+  else if (fault instanceof Failure) complain(`${name}: ${fault.message}`);
+  else if (fault.syscall) complain(`${name}: ${[fault.path, reasonOf(fault)].filter((part) => part).join(": ")}`);
+  else throw fault;
+  return FAILED;
+}
+
 /**
  * Runs a command, and leaves its exit status: that of `run`, or 2 where the call or a file of it cannot be used, which is
- * told. Who reads what is printed may stop early.
+ * told.
  * @param {Command} command
  * @param {(options: Record<string, *>) => number | Promise<number>} run
  * @param {string[]} words
@@ -173,27 +216,11 @@ export function complain(text) {
  * @returns {Promise<void>}
  */
 export async function perform(command, run, words, name = command.tool) {
-  for (const stream of [process.stdout, process.stderr]) {
-    stream.on("error", (fault) => {
-      if (fault.code !== "EPIPE") throw fault;
-    });
-  }
+  allowClosing();
+  const leave = (status) => { process.exitCode = status; };
   try {
-    process.exitCode = await run(parsed(command, words));
+    leave(await run(parsed(command, words)));
   } catch (fault) {
-    if (fault instanceof Call && fault.isHelp) {
-      say(fault.message);
-    } else if (fault instanceof Call) {
-      complain(`${usageOf(command)}\n${command.tool}: error: ${fault.message}`);
-      process.exitCode = FAILED;
-    } else if (fault instanceof Failure) {
-      complain(`${name}: ${fault.message}`);
-      process.exitCode = FAILED;
-    } else if (fault.syscall) {
-      complain(`${name}: ${[fault.path, reasonOf(fault)].filter((part) => part).join(": ")}`);
-      process.exitCode = FAILED;
-    } else {
-      throw fault;
-    }
+    leave(toldFault(command, name, fault));
   }
 }

@@ -1,12 +1,13 @@
 // Files: read whole, and never replaced unasked.
 
-import { readFileSync, statSync, writeFileSync } from "node:fs";
+import { closeSync, openSync, readFileSync, readSync, statSync, writeFileSync } from "node:fs";
 import { getSystemErrorMap } from "node:util";
 import { Failure } from "../../web/convert/report.js";
+import { HEAD } from "../../web/file_kinds.js";
 
 /**
  * Why the system refused something, in its words.
- * @param {Error} fault
+ * @param {Error & {errno?: number}} fault
  * @returns {string}
  */
 export function reasonOf(fault) {
@@ -25,6 +26,25 @@ export function readBytes(path) {
     return readFileSync(path);
   } catch (fault) {
     throw new Failure(`${path}: cannot be read: ${reasonOf(fault)}`);
+  }
+}
+
+/**
+ * The first bytes of a file, which tell its kind.
+ * @param {string | Buffer} path
+ * @returns {Uint8Array}
+ */
+export function headOf(path) {
+  const head = new Uint8Array(HEAD), file = openSync(path, "r");
+  try {
+    let length = 0, count = 0;
+    do {
+      count = readSync(file, head, length, HEAD - length, null);
+      length += count;
+    } while (count > 0 && length < HEAD);
+    return head.subarray(0, length);
+  } finally {
+    closeSync(file);
   }
 }
 

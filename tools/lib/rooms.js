@@ -69,7 +69,10 @@ export class Room {
     }
   }
 
-  /** The path of a file that is to be written, in a folder that is there. @param {string} name */
+  /**
+   * The path of a file that is to be written, in a folder that is there.
+   * @param {string} name
+   */
   path(name) {
     const path = join(this.folder, name);
     if (existsSync(path) && !this.left.has(path) && !this.isReplacing) {
@@ -80,7 +83,11 @@ export class Room {
     return path;
   }
 
-  /** Copies a file into the room. @param {string | Buffer} source @param {string} name */
+  /**
+   * Copies a file into the room.
+   * @param {string | Buffer} source
+   * @param {string} name
+   */
   copy(source, name) {
     copyFileSync(source, this.path(name));
   }

@@ -1,33 +1,45 @@
-// Running `camplot`, and the page that explains its refusals.
+// Running `camplot`, or the module in its place where none is built; and the page that explains its refusals.
 
 import { spawnSync } from "node:child_process";
 import { existsSync, mkdtempSync, readFileSync, rmSync, statSync, writeFileSync } from "node:fs";
 import { tmpdir } from "node:os";
-import { dirname, join, relative, resolve } from "node:path";
-import { fileURLToPath } from "node:url";
+import { join, resolve } from "node:path";
 import { latin1Bytes } from "../../web/bytes.js";
 import { Failure } from "../../web/convert/report.js";
 import { meaningsOf } from "../../web/refusals.js";
 import { repliesOf } from "../../web/replies.js";
+import { outputOfModule, stationModule } from "./module.js";
+import { PROGRAM, REFUSALS, remedy } from "./places.js";
 
-const REPOSITORY = dirname(dirname(dirname(fileURLToPath(import.meta.url))));
-const REFUSALS = join(REPOSITORY, "docs", "refusals.md");
 // What a run may print.
 const MOST_OUTPUT = 1 << 30;
 
-/** The program that `./demo` builds. */
-export const PROGRAM = relative(process.cwd(), join(REPOSITORY, "crates", "camplot", "out", "camplot"));
 /** A layer more than these is refused with 85. */
 export const LAYERS = 32;
 
-/** Whether a program is built. @param {string} program */
+/**
+ * Whether a program is built.
+ * @param {string} program
+ */
 export function isBuilt(program) {
   return existsSync(program) && statSync(program).isFile();
 }
 
-/** Stops where the program is not built. @param {string} program */
+/**
+ * Whether lines can be run: by this program or, if it is the one that is taken where none is named and it is not built, by
+ * the module.
+ * @param {string} program
+ */
+export function canRun(program) {
+  return isBuilt(program) || resolve(program) === resolve(PROGRAM) && stationModule() !== null;
+}
+
+/**
+ * Stops where no lines can be run.
+ * @param {string} program
+ */
 export function checkProgram(program) {
-  if (!isBuilt(program)) throw new Failure(`${program} does not exist: ./demo builds it, and --camplot names another`);
+  if (!canRun(program)) throw new Failure(`${program} does not exist: ${remedy("./demo builds it")}, and --camplot names another`);
 }
 
 function outputOf(program, folder, path) {
@@ -51,7 +63,8 @@ export function runLines(program, folder, lines, script = null) {
   try {
     const path = script ?? join(room, "script");
     writeFileSync(path, latin1Bytes(lines.map((line) => `${line}\n`).join("")));
-    const replies = repliesOf(lines, outputOf(program, folder, path));
+    const output = isBuilt(program) ? outputOf(program, folder, path) : outputOfModule(folder, lines);
+    const replies = repliesOf(lines, output);
     if (!replies) throw new Failure(`${program}: another number of replies than of lines`);
     return replies;
   } finally {

@@ -1,13 +1,17 @@
 // tools/to_gerber: old Gerber files in today's form.
 
+import { CHOICES } from "../../web/convert/choices.js";
+import { digitsOf } from "../../web/convert/drill/choices.js";
 import { convertGerber } from "../../web/convert/gerber/convert.js";
 import { toldChanges, toldRefusals } from "../../web/convert/report.js";
-import { DONE, REFUSED, complain, perform, say } from "./command.js";
+import { loadedBy } from "./asked.js";
+import { DONE, Failure, REFUSED, complain, optionsOf, perform, say } from "./command.js";
 import { readBytes, writeNew } from "./files.js";
+import { PROGRAM, called } from "./places.js";
 
-const TOOL = "to_gerber";
+const TOOL = called("to_gerber");
 const COMMAND = {
-  tool: "tools/to_gerber",
+  tool: TOOL,
   about: `Writes an old Gerber file in the form that camplot loads.
 
 Without --nearest it rounds nothing. It changes these: a format with omitted trailing zeros, points, other digits in X
@@ -22,34 +26,47 @@ prints each change with its lines. Everything that camplot reads stays as it is,
 
 With --nearest it also writes angles other than quarters, polygons, moires, thermals, rectangular holes, scaled apertures
 and draws with other pens than circles and rectangles: each corner and each centre at the nearest nm. It prints with each
-change what was rounded.
+change what was rounded. A pen loses its hole, and a rectangle with one parameter becomes a square.
 
-What cannot be written is refused with its line and the setting of the CAD program that avoids it, and then nothing is
-written: negative or turned images, incremental coordinates, arcs with a square pen.
+What cannot be written is refused with its line and the option, or the setting of the CAD program, that helps, and then
+nothing is written: negative or turned images, incremental coordinates, arcs with a square pen. The tool loads what it
+made before it writes it, by the program or by the module of the page if one is built, and writes nothing that camplot
+refuses.
 
-  tools/to_gerber top.art                           top.art.gbr
-  tools/to_gerber top.gbr --nearest                 pads at odd angles too
-  tools/to_gerber top.gbr -o out/top.gbr --unit inch
-  tools/to_gerber top.pho --repeat                  X..Y..* after D03 or D02 repeats it, as old plotters took it
+  ${TOOL} top.art                           top.art.gbr
+  ${TOOL} top.gbr --nearest                 pads at odd angles too
+  ${TOOL} top.gbr -o out/top.gbr --unit inch
+  ${TOOL} top.pho --repeat                  X..Y..* after D03 or D02 repeats it, as old plotters took it
+  ${TOOL} top.gbx --format 2.4 --zeros leading   a file without %FS..*%, whose X01 is 1 inch
 
 Exit status 0: written; 1: refused, and nothing was written; 2: the words of the call or a file cannot be used.`,
   operand: { name: "FILE", help: "the Gerber file" },
   options: [
     { name: "-o", key: "out", value: "OUT", help: "the file to write; by default FILE.gbr" },
-    { name: "--nearest", help: "write what has no exact form by the nearest that has one" },
-    { name: "--unit", value: "UNIT", choices: ["mm", "inch"], help: "the unit of a file that does not have one" },
-    { name: "--repeat", help: "coordinates without D01, D02 or D03 repeat the last of these" },
-    { name: "--arcs", value: "ARCS", choices: ["single", "multi"],
-      help: "arcs of a file with neither G74 nor G75: of one quadrant, I and J without sign, or of any angle" },
+    ...optionsOf(CHOICES.gerber),
     { name: "--force", help: "replace an existing file" },
+    { name: "--camplot", value: "PROGRAM", otherwise: PROGRAM, help: `the program (${PROGRAM})` },
   ],
 };
 
-function run({ operands: [file], out, nearest, unit, repeat, arcs, force }) {
+function chosenFormat(format, zeros) {
+  const digits = format === null ? undefined : digitsOf(format);
+  if (digits === null) throw new Failure(`--format ${format}: it needs two digits, as 2.4`);
+  if (zeros !== null && !digits) throw new Failure(`--zeros ${zeros}: it needs --format, as --format 2.4`);
+  return digits;
+}
+
+function run({ operands: [file], out, nearest, unit, format, zeros, repeat, arcs, force, camplot }) {
   const { bytes, changes, refusals, operations } = convertGerber(readBytes(file), {
-    nearest, repeat, unit: unit ?? undefined, arcs: arcs ?? undefined });
+    nearest, repeat, unit: unit ?? undefined, arcs: arcs ?? undefined, format: chosenFormat(format, zeros),
+    zeros: zeros ?? undefined });
   if (refusals.length > 0) {
     complain(toldRefusals(TOOL, file, refusals).join("\n"));
+    return REFUSED;
+  }
+  const { isRefused, told: loaded } = loadedBy(camplot, "gerber", bytes);
+  if (isRefused) {
+    complain([...toldChanges(changes), `${file}: ${loaded}`, `${TOOL}: nothing was written`].join("\n"));
     return REFUSED;
   }
   const target = out ?? `${file}.gbr`;
@@ -58,11 +75,12 @@ function run({ operands: [file], out, nearest, unit, repeat, arcs, force }) {
   say((told.length > 0 ? told : ["nothing was changed"]).join("\n"));
   const { count, flashes, draws } = operations;
   say(`operations: ${count} read and written, ${flashes} flashes and ${draws} draws`);
+  say(loaded);
   say(`written: ${target}`);
   return DONE;
 }
 
 /** @param {string[]} words  of the call */
 export function main(words) {
-  return perform(COMMAND, run, words, TOOL);
+  return perform(COMMAND, run, words);
 }

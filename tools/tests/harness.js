@@ -1,8 +1,11 @@
 // The tests of the tools: each file test_*.js names its tests as it is loaded; run.js runs them one after another.
 
-/** @type {{name: string, run: () => unknown}[]} */
+/** @typedef {{name: string, run: () => unknown, id?: string}} Test its id has its file's name too */
+
+/** @type {Test[]} */
 export const tests = [];
 let prefix = "";
+/** @type {(() => unknown)[]} */
 let cleanups = [];
 
 /** Thrown by `skip`. */
@@ -45,13 +48,14 @@ export function skip(why) {
  * @template T
  */
 export function part(label, run) {
+  /** @type {(fault: Error) => never} */
   const told = (fault) => {
     if (!(fault instanceof Skipped)) fault.message = `${label}: ${fault.message}`;
     throw fault;
   };
   try {
     const result = run();
-    return result instanceof Promise ? result.catch(told) : result;
+    return result instanceof Promise ? /** @type {T & Promise<*>} */ (result.catch(told)) : result;
   } catch (fault) {
     return told(fault);
   }
@@ -65,7 +69,10 @@ export function afterwards(act) {
   cleanups.push(act);
 }
 
-/** Runs a test, and what it asked for afterwards. */
+/**
+ * Runs a test, and what it asked for afterwards.
+ * @param {Test} test
+ */
 export async function runTest({ run }) {
   cleanups = [];
   try {

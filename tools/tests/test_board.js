@@ -56,10 +56,10 @@ function includes(text, part) {
 
 suite("plotted", () => {
   test("boards of each program", () => {
-    for (const [name, wanted, leftOut] of [
+    for (const [name, wanted, leftOut] of /** @type {[string, string[], string | null][]} */ ([
       ["altium", ["bottom", "drawing", "holes", "in1", "outline", "top", "top-mask", "top-silk"], "Pick_Place.txt"],
       ["eagle", ["bottom", "bottom-mask", "holes", "top", "top-mask", "top-silk"], "amp.dri"],
-      ["fritzing", ["bottom", "holes", "outline", "top", "top-mask", "top-silk"], null]]) {
+      ["fritzing", ["bottom", "holes", "outline", "top", "top-mask", "top-silk"], null]])) {
       part(name, () => {
         const folder = lay(name), told = board([folder]);
         assert.deepEqual(pictures(join(folder, "board")), wanted);
@@ -171,16 +171,16 @@ suite("plotted", () => {
     assert.equal(contentsOf(join(folder, "board")).files.length, readdirSync(folder).length - 1);
   });
 
-  test("where the page is not built", () => {
+  test("where there is no page", () => {
     needProgram();
     const top = join(newRoom(), "lib", "camplot"), folder = lay("eagle");
     for (const part of ["tools", "web"]) {
-      cpSync(join(REPOSITORY, part), join(top, part), { recursive: true, filter: (path) => !path.includes("/out") });
+      cpSync(join(REPOSITORY, part), join(top, part), { recursive: true, filter: (path) => !/\/out\/.*html$/.test(path) });
     }
     const call = () => runProgram(process.execPath, [join(top, "tools", "board"), folder, "--camplot", PROGRAM]);
     const without = call();
     assert.equal(without.status, 0, without.stderr);
-    includes(without.stdout, "there is no page, since camplot.html is not built: ./demo builds it");
+    includes(without.stdout, "there is no page, since there is no camplot.html: install camplot again; --page names another");
     assert.ok(!existsSync(join(folder, "board", "index.html")));
     // Where an installation has it.
     const page = join(dirname(dirname(top)), "share", "camplot", "camplot.html");

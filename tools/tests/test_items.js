@@ -1,12 +1,14 @@
-// tools/items: the items of canonical texts, in words, and as camplot counts them.
+// tools/items: the items of a layer in words, as camplot counts them; and what a layer answers that is asked.
 
 import assert from "node:assert/strict";
 import { existsSync, readFileSync, readdirSync, writeFileSync } from "node:fs";
 import { join } from "node:path";
-import { Box, arcBox, lengthUp } from "../../web/canonical/box.js";
-import { NotCanonical, readCanonical } from "../../web/canonical/read.js";
+import { AskedLayer } from "../lib/asked_layer.js";
 import { part, suite, test } from "./harness.js";
 import { CASES, PROGRAM, REPOSITORY, needProgram, newRoom, runProgram, runTool } from "./support.js";
+
+/** @typedef {[x: number, y: number]} Point */
+/** @typedef {[start: Point, end: Point, isClockwise: boolean, sides: number[]]} Arc */
 
 const ITEMS = join(CASES, "items");
 const KINDS = join(ITEMS, "kinds.gbr"), HOLES = join(ITEMS, "holes.drl");
@@ -24,6 +26,9 @@ function texts() {
 function kindOf(path) {
   return path.endsWith(".drl") ? "drill" : "gerber";
 }
+
+const asked = (path) => new AskedLayer(kindOf(path), readFileSync(path));
+const sidesOf = (box) => box && [box.left, box.low, box.right, box.high];
 
 // What camplot replies to the lines of a script that it runs in the folder.
 function replies(folder, lines) {
@@ -71,10 +76,10 @@ suite("lines", () => {
   });
 
   test("attributes are no items", () => {
-    const { items } = readCanonical(bytesOf("%FSLAX46Y46*%\n%MOMM*%\n%TF.FileFunction,Copper,\nL1,Top*%\n%TFgröße,X1Y1D03*%\n"
-      + "G01*\nG75*\n%ADD10R,0.300000X0.200000*%\nD10*\nX0Y0D02*\nX1Y0D01*\nM02*\n"));
-    assert.deepEqual(items.map(({ words, size }) => [words, size]), [["draw 10 0 0 1 0 r0 dark", "R 300000 x 200000, 1 long"]]);
-    assert.deepEqual(items[0].box, new Box(-150000, -100000, 150001, 100000));
+    const path = join(newRoom(), "said.gbr");
+    writeFileSync(path, "%FSLAX46Y46*%\n%MOMM*%\n%TF.FileFunction,Copper,L1,Top*%\n%TO.C,X1Y1D03*%\nG01*\nG75*\n"
+      + "%ADD10R,0.300000X0.200000*%\nD10*\nX0Y0D02*\nX1Y0D01*\nM02*\n");
+    assert.match(runTool("items", [path]).stdout, /^.*\n0 {2}draw 10 0 0 1 0 r0 dark {2}R 300000 x 200000, 1 long\n$/);
   });
 
   test("who reads them may stop early", () => {
@@ -90,66 +95,39 @@ suite("lines", () => {
 
 suite("boxes", () => {
   test("of each kind", () => {
-    const boxes = readCanonical(readFileSync(KINDS)).items.map(({ box }) => box);
-    // The block's box is -500000 .. 1400000 by -1000000 .. 1000000; m180 negates y alone.
-    assert.deepEqual(boxes, [new Box(-1400000, -2400000, 3400000, 1400000), new Box(4500000, 4000000, 6400000, 6000000),
-      new Box(-400000, -400000, 1400000, 1400000), new Box(0, -4000000, 6000000, 0),
-      new Box(-200000, -500000, 12100000, 5100000)]);
-    assert.deepEqual(readCanonical(readFileSync(HOLES)).items[1].box, new Box(-150000, -150000, 3150000, 5150000));
+    const boxes = [0, 1, 2, 3, 4].map((place) => sidesOf(asked(KINDS).boxAt(place)));
+    // The block's box is -500000 .. 1400000 by -1000000 .. 1000000; m180 negates y alone. The arc's has its whole circle.
+    assert.deepEqual(boxes, [[-1400000, -2400000, 3400000, 1400000], [4500000, 4000000, 6400000, 6000000],
+      [-1400001, -1400001, 1400001, 1400001], [0, -4000001, 6000001, 1], [-200000, -500000, 12100000, 5100000]]);
+    assert.deepEqual(sidesOf(asked(HOLES).boxAt(1)), [-150000, -150000, 3150000, 5150000]);
   });
 
-  test("that are turned", () => {
-    for (const [turn, box] of [["r0", [1, 2, 5, 10]], ["r90", [-10, 1, -2, 5]], ["r180", [-5, -10, -1, -2]],
-      ["r270", [2, -5, 10, -1]], ["m0", [-5, 2, -1, 10]], ["m90", [-10, -5, -2, -1]], ["m180", [1, -10, 5, -2]],
-      ["m270", [2, 1, 10, 5]]]) {
-      assert.deepEqual(new Box(1, 2, 5, 10).turned(turn), new Box(...box), turn);
-    }
-  });
-
-  test("hold the points on their sides", () => {
-    const box = new Box(1, 2, 5, 10);
-    for (const [x, y, isHeld] of [[1, 2, true], [5, 10, true], [1, 10, true], [0, 5, false], [6, 5, false], [3, 1, false],
-      [3, 11, false]]) {
-      assert.equal(box.holds(x, y), isHeld, `${x} ${y}`);
-    }
-  });
-
-  test("of arcs, which reach as far as they go", () => {
-    for (const [start, end, isClockwise, box] of [[[10, 0], [0, 10], false, [0, 0, 10, 10]],
+  test("of all, with what an arc passes", () => {
+    for (const [start, end, isClockwise, sides] of /** @type {Arc[]} */ ([[[10, 0], [0, 10], false, [0, 0, 10, 10]],
       [[10, 0], [0, 10], true, [-10, -10, 10, 10]], [[10, 0], [10, 0], false, [-10, -10, 10, 10]],
       [[6, 8], [-6, 8], false, [-6, 8, 6, 10]], [[-6, 8], [-6, -8], false, [-10, -8, -6, 8]],
-      [[-6, -8], [6, -8], false, [-6, -10, 6, -8]], [[6, -8], [6, 8], false, [6, -8, 10, 8]]]) {
-      assert.deepEqual(arcBox(start, end, [0, 0], isClockwise), new Box(...box), String([start, end, isClockwise]));
+      [[-6, -8], [6, -8], false, [-6, -10, 6, -8]], [[6, -8], [6, 8], false, [6, -8, 10, 8]]])) {
+      const place = ([x, y]) => `X${x * 1e6}Y${y * 1e6}`, [x, y] = start, centre = `I${-x * 1e6}J${-y * 1e6}`;
+      const layer = new AskedLayer("gerber", bytesOf(`%FSLAX46Y46*%\n%MOMM*%\nG75*\n%ADD10C,0.000003*%\nD10*\n${place(start)}D02*\n`
+        + `${isClockwise ? "G02" : "G03"}*\n${place(end)}${centre}D01*\nM02*\n`));
+      const [left, low, right, high] = sides.map((side) => side * 1e6);
+      assert.deepEqual(sidesOf(layer.box()), [left - 2, low - 2, right + 2, high + 2], String([start, end, isClockwise]));
     }
   });
 
-  test("of long lengths, rounded up exactly", () => {
-    for (const [dx, dy, length] of [[0, 0, 0], [3, 4, 5], [3, 5, 6], [999999999, 1, 1000000000], [-1999999998, 0, 1999999998],
-      [1999999998, 1, 1999999999], [1200000000, -1600000000, 2000000000]]) {
-      assert.equal(lengthUp(dx, dy), length, `${dx} ${dy}`);
-    }
+  test("of nothing", () => {
+    assert.equal(new AskedLayer("gerber", bytesOf("%FSLAX46Y46*%\n%MOMM*%\nM02*\n")).box(), null);
+  });
+
+  test("of an item that is not there, which is there for the answer alone", () => {
+    const layer = asked(KINDS), before = layer.text();
+    assert.deepEqual(sidesOf(layer.boxOf("flash 13 0 0 r0 dark")), [-500000, -1000000, 1400000, 1000000]);
+    assert.throws(() => layer.boxOf("flash 99 0 0 r0 dark"), /'flash 99 0 0 r0 dark' was refused/);
+    assert.deepEqual(layer.text(), before);
   });
 });
 
 suite("refused", () => {
-  test("a text that camplot did not write", () => {
-    for (const [text, line] of [["%FSLAX46Y46*%\n%MOMM*%\nG01*\nX0Y0D03*\nM02*\n", 4], ["%FSLAX46Y46*%\n%MOMM*%\n", 3],
-      ["%FSLAX46Y46*%\n%LR45*%\nM02*\n", 2], ["M48\nMETRIC\n%\nT1\n", 4], ["M48\n", 2], ["%FSLAX36Y36*%\n", 1],
-      ["%FSLAX46Y46*%\n%ADD10P,1.000000X6*%\nM02*\n", 2], ["%FSLAX46Y46*%\n%ADD10O,1.000000*%\nM02*\n", 2],
-      ["%FSLAX46Y46*%\n%AMM10*\n1,1,1.000000*%\nM02*\n", 2], ["%FSLAX46Y46*%\n%AB*%\nM02*\n", 2], ["", 1]]) {
-      assert.throws(() => readCanonical(bytesOf(text)), (fault) => fault instanceof NotCanonical && fault.line === line, text);
-    }
-  });
-
-  test("hostile texts, at once", () => {
-    for (const command of [`%ADD${"1".repeat(1_000_000)}`, `%AMa${"*".repeat(1_000_000)}x*%`, `%ADD10C,${"1".repeat(1_000_000)}*%`,
-      "X1".repeat(500_000), "%TF".repeat(1), `%SRX1Y1I${"1.".repeat(500_000)}*%`]) {
-      const started = Date.now();
-      assert.throws(() => readCanonical(bytesOf(`%FSLAX46Y46*%\n${command}\nM02*\n`)), NotCanonical);
-      assert.ok(Date.now() - started < 5000, command.slice(0, 20));
-    }
-  });
-
   test("a file that is not there", () => {
     const { status, stdout, stderr } = runTool("items", ["/nowhere/at all.gbr"]);
     assert.deepEqual([status, stdout], [2, ""]);
@@ -159,20 +137,19 @@ suite("refused", () => {
 
 suite("loaded", () => {
   test("a file that camplot refuses is told with its line", () => {
-    needProgram();
     const path = join(newRoom(), "a b.gbr");
     writeFileSync(path, "%FSLAX36Y36*%\n%MOMM*%\n%ADD10P,1X6*%\nM02*\n");
-    const { status, stderr } = runTool("items", [path, "--camplot", PROGRAM]);
+    const { status, stderr } = runTool("items", [path]);
     assert.equal(status, 2);
     assert.ok(stderr.includes("refused 11, template refused:"), stderr);
     assert.ok(stderr.includes("line 3, column 1 (byte 22): %ADD10P,1X6*%"), stderr);
   });
 
-  test("any file that loads is written first", () => {
-    needProgram();
+  test("any file that loads, and it is said that it is no text of camplot's", () => {
     const path = join(REPOSITORY, "examples", "blinker", "blinker-F_Cu.gbr");
-    const { status, stdout } = runTool("items", [path, "--camplot", PROGRAM]);
+    const { status, stdout, stderr } = runTool("items", [path]);
     assert.equal(status, 0);
+    assert.match(stderr, /blinker-F_Cu.gbr is not a text that camplot wrote; these are its items after it is loaded$/m);
     assert.deepEqual(stdout.split("\n")[1].trim().split(/ +/).slice(0, 5), ["0", "flash", "10", "140500000", "-93950000"]);
   });
 });
@@ -186,7 +163,7 @@ suite("as camplot counts", () => {
         const text = readFileSync(path);
         writeFileSync(join(folder, "in"), text);
         const found = replies(folder, [`load a ${kindOf(path)} in`, "write a out"]);
-        assert.equal(found[0], `ok ${readCanonical(text).items.length}`);
+        assert.equal(found[0], `ok ${[...asked(path).items()].length}`);
         assert.ok(readFileSync(join(folder, "out")).equals(text));
       });
     }
@@ -199,8 +176,8 @@ suite("as camplot counts", () => {
       part(path, () => {
         const text = readFileSync(path);
         writeFileSync(join(folder, "in"), text);
-        const lines = readCanonical(text).items.flatMap(({ kind, words }, place) => {
-          return kind === "repeat" ? [] : [`delete a ${place}`, `insert a ${place} ${words}`];
+        const lines = [...asked(path).items()].flatMap((words, place) => {
+          return words.startsWith("repeat ") ? [] : [`delete a ${place}`, `insert a ${place} ${words}`];
         });
         const found = replies(folder, [`load a ${kindOf(path)} in`, ...lines, "write a out"]);
         assert.deepEqual(found.filter((reply) => !reply.startsWith("ok")), []);

@@ -3,7 +3,6 @@
 import assert from "node:assert/strict";
 import { readFileSync } from "node:fs";
 import { join } from "node:path";
-import { Box } from "../../web/canonical/box.js";
 import { kindOf } from "../../web/file_kinds.js";
 import { byAttribute, byName, recogniseFiles } from "../../web/layers.js";
 import { excerpt, meaningsOf, placeOf } from "../../web/refusals.js";
@@ -76,18 +75,19 @@ suite("layers", () => {
 
 suite("windows", () => {
   test("a window stands around its box with a margin", () => {
-    const window = windowAround(new Box(0, -20_000_000, 30_000_000, 0), [], 1000);
+    const window = windowAround({ left: 0, low: -20_000_000, right: 30_000_000, high: 0 }, [], 1000);
     assert.equal(windowLine(window), "window -1016000 -21005800 25400 1261 867");
   });
 
   test("windows keep to their limits", () => {
     const far = 999_999_999;
-    for (const [box, dpi] of [[[-far, -far, far, far], 25400], [[0, 0, 0, 0], 1], [[far, far, far, far], 1000],
-      [[-far, 0, far, 1], 25_400_000], [[-far, far - 9, 9 - far, far], 2540], [[0, 0, 400_000_000, 3], 2540]]) {
-      const { x, y, pitch, width, height } = windowAround(new Box(...box), [], dpi);
+    for (const [box, dpi] of /** @type {[[number, number, number, number], number][]} */ ([
+      [[-far, -far, far, far], 25400], [[0, 0, 0, 0], 1], [[far, far, far, far], 1000],
+      [[-far, 0, far, 1], 25_400_000], [[-far, far - 9, 9 - far, far], 2540], [[0, 0, 400_000_000, 3], 2540]])) {
+      const [left, low, right, high] = box, { x, y, pitch, width, height } = windowAround({ left, low, right, high }, [], dpi);
       assert.ok(1 <= width && width <= SIDE && 1 <= height && height <= SIDE && 1 <= pitch && pitch <= PITCH, String(box));
-      for (const [low, count] of [[x, width], [y, height]]) {
-        assert.ok(2 * low + pitch > -2 * BOARD && 2 * (low + count * pitch) - pitch < 2 * BOARD, String(box));
+      for (const [first, count] of [[x, width], [y, height]]) {
+        assert.ok(2 * first + pitch > -2 * BOARD && 2 * (first + count * pitch) - pitch < 2 * BOARD, String(box));
       }
     }
   });
@@ -114,8 +114,9 @@ suite("refusals", () => {
 
   test("places are told by line and column", () => {
     const utf8 = (text) => new TextEncoder().encode(text);
-    for (const [source, at, place] of [["ab\ncd", 3, [2, 1]], ["ab\r\ncd", 5, [2, 2]], ["ab\rcd", 4, [2, 2]],
-      ["é\né%", 5, [2, 2]], ["", 0, [1, 1]], ["a\n", 2, [2, 1]], ["a\r\n", 2, [1, 2]]]) {
+    for (const [source, at, place] of /** @type {[string, number, [number, number]][]} */ ([
+      ["ab\ncd", 3, [2, 1]], ["ab\r\ncd", 5, [2, 2]], ["ab\rcd", 4, [2, 2]],
+      ["é\né%", 5, [2, 2]], ["", 0, [1, 1]], ["a\n", 2, [2, 1]], ["a\r\n", 2, [1, 2]]])) {
       const { line, column } = placeOf(utf8(source), at);
       assert.deepEqual([line, column], place, JSON.stringify(source));
     }

@@ -15,11 +15,15 @@ const ONE = 10n ** 60n;
 const MOST = 0.70711;
 const NM_OF = { mm: 1_000_000n, inch: 25_400_000n };
 
+/** @typedef {[bigint, bigint]} Pair */
+
+/** @param {string} text @returns {bigint} */
 const number = (text) => {
   const [, sign, whole, fraction = ""] = /^(-?)(\d*)\.?(\d*)$/.exec(text);
   const size = BigInt(whole || "0") * ONE + BigInt(fraction.padEnd(60, "0").slice(0, 60));
   return sign === "-" ? -size : size;
 };
+/** @type {(a: bigint, b: bigint) => bigint} */
 const times = (a, b) => (a * b) / ONE;
 
 /** pi = sum of 2^(n+1) n!^2 / (2n+1)!, by Euler. */
@@ -32,7 +36,11 @@ const PI = (() => {
   return sum;
 })();
 
-/** The cosine and the sine of degrees, by the series of the whole angle. */
+/**
+ * The cosine and the sine of degrees, by the series of the whole angle.
+ * @param {bigint} degrees
+ * @returns {Pair}
+ */
 function turn(degrees) {
   const angle = times(degrees, PI) / 180n;
   let [cos, sin, term] = [0n, 0n, ONE];
@@ -45,9 +53,13 @@ function turn(degrees) {
   return [cos, sin];
 }
 
+/** @type {(place: Pair, turn: Pair) => Pair} */
 const turned = ([x, y], [cos, sin]) => [times(x, cos) - times(y, sin), times(x, sin) + times(y, cos)];
 
-/** The square root, digit by digit. */
+/**
+ * The square root, digit by digit.
+ * @param {bigint} value
+ */
 function root(value) {
   let found = 0n;
   for (let bit = 1n << 400n; bit > 0n; bit >>= 1n) {
@@ -61,19 +73,20 @@ const SHAPES = {
   rectangle({ sides: [width, height], at: [x, y] = ["0", "0"], turn: angle }) {
     const [a, b] = [number(width) / 2n, number(height) / 2n];
     const about = turn(number(angle));
-    return [[-a, -b], [a, -b], [a, b], [-a, b]].map(([dx, dy]) => turned([number(x) + dx, number(y) + dy], about));
+    return /** @type {Pair[]} */ ([[-a, -b], [a, -b], [a, b], [-a, b]]).map(([dx, dy]) =>
+      turned([number(x) + dx, number(y) + dy], about));
   },
   outline({ points, turn: angle }) {
     const about = turn(number(angle));
-    return points.map((point) => turned(point.map(number), about));
+    return points.map(([x, y]) => turned([number(x), number(y)], about));
   },
   bar({ width, from, to, turn: angle }) {
-    const [start, end] = [from, to].map((point) => point.map(number));
+    const [start, end] = [from, to].map(([x, y]) => /** @type {Pair} */ ([number(x), number(y)]));
     const [dx, dy] = [end[0] - start[0], end[1] - start[1]];
     const length = root(times(dx, dx) + times(dy, dy));
     const across = [-dy, dx].map((side) => (times(side, number(width)) * ONE) / (2n * length));
     const about = turn(number(angle));
-    return [[start, -1n], [end, -1n], [end, 1n], [start, 1n]].map(([[x, y], sign]) =>
+    return /** @type {[Pair, bigint][]} */ ([[start, -1n], [end, -1n], [end, 1n], [start, 1n]]).map(([[x, y], sign]) =>
       turned([x + sign * across[0], y + sign * across[1]], about));
   },
   polygon({ count, diameter, at: [x, y] = ["0", "0"], turn: angle }) {
@@ -94,7 +107,11 @@ function cornersWritten(text) {
   });
 }
 
-/** A length as camplot reads it: of nine decimals, at the nearest nm. */
+/**
+ * A length as camplot reads it: of nine decimals, at the nearest nm.
+ * @param {bigint} value
+ * @param {"mm" | "inch"} unit
+ */
 function asRead(value, unit) {
   const size = (value < 0n ? -value : value) / (ONE / 10n ** 9n);
   const nm = unit === "mm" ? (size + 500n) / 1000n : (size * 254n + 5000n) / 10_000n;
@@ -103,6 +120,7 @@ function asRead(value, unit) {
 
 /** The greatest distance, in nm, of a corner from the nearest one that is wanted, and of those from the nearest corner. */
 function greatest(written, wanted, unit) {
+  /** @type {(place: bigint, value: bigint) => number} */
   const off = (place, value) => Number(asRead(place, unit) * ONE - value * NM_OF[unit]) / Number(ONE);
   const distances = written.map(([x, y]) => wanted.map(([a, b]) => Math.hypot(off(x, a), off(y, b))));
   const back = wanted.map((_, place) => Math.min(...distances.map((row) => row[place])));

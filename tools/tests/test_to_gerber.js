@@ -5,7 +5,7 @@ import assert from "node:assert/strict";
 import { copyFileSync, existsSync, readFileSync, readdirSync, writeFileSync } from "node:fs";
 import { join } from "node:path";
 import { part, skip, suite, test } from "./harness.js";
-import { CASES, PROGRAM, REPOSITORY, newRoom, runProgram, runTool } from "./support.js";
+import { ADVICE, CASES, PROGRAM, REPOSITORY, newRoom, runProgram, runTool, withoutLoaded } from "./support.js";
 
 const rows = (name) => JSON.parse(readFileSync(join(CASES, name), "utf8"));
 const LAYERS = join(CASES, "gerber_layers");
@@ -76,17 +76,18 @@ suite("new forms", () => {
     test(`${name} is written and told`, () => {
       const { room, stdout } = written();
       assert.equal(readFileSync(join(room, "new.gbr"), "latin1"), readFileSync(join(folder, "new.gbr"), "latin1"));
-      assert.equal(stdout, readFileSync(join(folder, "said"), "utf8"));
+      assert.equal(withoutLoaded(stdout), readFileSync(join(folder, "said"), "utf8"));
       needsNothingMore(room);
     });
     test(`${name} loads`, () => {
       const { room } = written();
       assert.notEqual(loaded(room), "");
     });
-    if (options.includes("--nearest")) {
-      test(`${name} is refused without --nearest`, () => {
-        const room = newRoom();
-        assert.equal(runOn(room, readFileSync(join(folder, "file.gbr"), "latin1"), []).status, 1);
+    if (options.length > 0) {
+      test(`${name} is refused without its options, which the refusal names`, () => {
+        const { status, stderr } = runOn(newRoom(), readFileSync(join(folder, "file.gbr"), "latin1"), []);
+        assert.equal(status, 1);
+        for (const word of options.filter((given) => given.startsWith("--"))) assert.ok(stderr.includes(word), stderr);
       });
     }
   }
@@ -100,10 +101,50 @@ suite("refusals", () => {
       assert.equal(status, 1);
       assert.ok(stderr.includes(said), stderr);
       assert.ok(stderr.startsWith("old.gbr: line "));
+      for (const line of stderr.trimEnd().split("\n").slice(0, -1)) assert.match(line, ADVICE);
       assert.ok(stderr.endsWith("to_gerber: nothing was written\n"));
       assert.deepEqual(readdirSync(room), ["old.gbr"]);
     });
   }
+});
+
+suite("what camplot does not load", () => {
+  const far = `${HEAD}N1X999999Y0D03*\nM02*\n`;
+
+  test("is not written", () => {
+    if (!existsSync(PROGRAM)) skip("the program is not built");
+    const room = newRoom();
+    const { status, stdout, stderr } = runOn(room, far, []);
+    assert.deepEqual([status, stdout, readdirSync(room)], [1, "", ["old.gbr"]]);
+    assert.match(stderr, /^line 5: line numbers \(N\) are left out\nold\.gbr: camplot does not load what was made of it: refused 23, out/);
+    assert.match(stderr, /At line 5, column 1 \(byte 42\): X999999Y0D03\*\ntools\/to_gerber: nothing was written\n$/);
+  });
+
+  test("is told where nothing is there to load it", () => {
+    const room = newRoom();
+    const { status, stdout } = runOn(room, `${HEAD}X0Y0D03*\nM02*\n`, ["--camplot", join(room, "none")]);
+    assert.equal(status, 0);
+    assert.match(stdout, /^(camplot loads it: 1 items|not loaded: no program is built, and no module that this node reads)\nwritten: /m);
+  });
+});
+
+suite("options", () => {
+  test("that do not fit are refused", () => {
+    const text = `${HEAD}X0Y0D03*\nM02*\n`;
+    for (const [words, why] of [[["--format", "24"], "--format 24: it needs two digits, as 2.4"],
+      [["--format", "7.4"], "--format 7.4: it needs two digits, as 2.4"],
+      [["--zeros", "leading"], "--zeros leading: it needs --format, as --format 2.4"],
+      [["--format", "2.5"], "--format 2.5: the file has %FSLAX24Y24*% on line 1"],
+      [["--format", "2.4", "--zeros", "leading"], "--format 2.4 --zeros leading: the file has %FSLAX24Y24*% on line 1"]]) {
+      const { status, stderr } = runOn(newRoom(), text, words);
+      assert.deepEqual([status, stderr], [2, `tools/to_gerber: ${why}\n`]);
+    }
+  });
+
+  test("that the file already has change nothing", () => {
+    const text = `${HEAD}X0Y0D03*\nM02*\n`;
+    assert.equal(made(text, "--format", "2:4", "--zeros", "trailing", "--unit", "inch", "--arcs", "multi", "--repeat"), text);
+  });
 });
 
 suite("texts", () => {
@@ -123,7 +164,7 @@ suite("texts", () => {
     const rest = "%MOIN*%\n%ADD10C,0.05*%\nD10*\n";
     for (const [form, old, target, written] of [
       ["%FSTAX24Y24*%", "X01Y-0005", "%FSLAX24Y24*%", "X10000Y-500"],
-      ["%FSTAX34Y34*%", "X0Y1234567", "%FSLAX34Y34*%", "X0Y1234567"],
+      ["%FSTAX34Y34*%", "X0Y0123456", "%FSLAX34Y34*%", "X0Y123456"],
       ["%FSLAX23Y24*%", "X1Y1", "%FSLAX24Y24*%", "X10Y1"],
       ["%FSDAX24Y24*%", "X-.5Y+1.25", "%FSLAX24Y24*%", "X-5000Y12500"],
     ]) {
@@ -137,7 +178,7 @@ suite("texts", () => {
     const body = "%ADD10C,0.05*%\nD10*\nX0Y0D03*\nM02*\n";
     assert.equal(made(`%FSLAX24Y24*%\n${body}`, "--unit", "mm"), `%FSLAX24Y24*%\n%MOMM*%\n${body}`);
     const { status, stderr } = runOn(newRoom(), `%FSLAX24Y24*%\n%MOIN*%\n${body}`, ["--unit", "mm"]);
-    assert.deepEqual([status, stderr], [2, "to_gerber: --unit mm: the file has inch on line 2\n"]);
+    assert.deepEqual([status, stderr], [2, "tools/to_gerber: --unit mm: the file has inch on line 2\n"]);
   });
 
   test("arcs of a file that does not tell their quadrants", () => {
@@ -159,7 +200,7 @@ suite("texts", () => {
     const text = "%FSLAN2X24Y24*MOIN*%\n%ICAS*%\n%ADD10C,0.05*%\nN1G54D10X0Y0D03*\nX1000*\nM00*\n";
     const { status, stdout, stderr } = runOn(newRoom(), text, ["--repeat"]);
     assert.deepEqual([status, stderr], [0, ""]);
-    assert.equal(stdout, `line 1: several commands between two % are split, each with its own
+    assert.equal(withoutLoaded(stdout), `line 1: several commands between two % are split, each with its own
 line 1: %FSLAN2X24Y24*% is written as %FSLAX24Y24*%: it means the same
 line 2: %ICAS*% is left out: it changes no image
 line 4: line numbers (N) are left out

@@ -8,7 +8,9 @@ import { Drilling } from "../../web/convert/drill/drilling.js";
 import { decimalOf, lengthOf, lengthText, micrometres, quickReader, sizeOf } from "../../web/convert/drill/lengths.js";
 import { latin1, latin1Bytes } from "../../web/bytes.js";
 import { part, skip, suite, test } from "./harness.js";
-import { CASES, PROGRAM, newRoom, runProgram, runTool } from "./support.js";
+import { CASES, PROGRAM, newRoom, runProgram, runTool, withoutLoaded } from "./support.js";
+
+/** @typedef {import("../../web/convert/drill/lengths.js").Zeros} Zeros */
 
 const FOLDER = join(CASES, "drill");
 const FORMS = JSON.parse(readFileSync(join(CASES, "drill_forms.json"), "utf8"));
@@ -114,7 +116,7 @@ suite("account", () => {
       "M48\n;FILE_FORMAT=2:4\nINCH,TZ\nT1F00S00C0.0320\nT2C0.0400\n%\nT1\nX5000Y5000\nX10000\nT2\n"
       + "X5000Y12500G85X7500Y12500\nG00X0Y0\nM15\nG01X5000\nM17\nM00\n");
     assert.deepEqual([status, stderr], [0, ""]);
-    assert.equal(stdout, `unit: inch (INCH,TZ on line 3)
+    assert.equal(withoutLoaded(stdout), `unit: inch (INCH,TZ on line 3)
 digits: 2:4 (FILE_FORMAT=2:4 in the comment on line 2)
 zeros: trailing ones are written, leading ones left out (INCH,TZ on line 3)
 line 2: the comment on digits and zeros is left out
@@ -190,7 +192,7 @@ written: holes.xnc
     writeFileSync(join(room, "holes.xnc"), "mine");
     const { status, stderr } = runOn(room, "M30\n");
     assert.equal(status, 2);
-    assert.equal(stderr, "to_xnc: holes.xnc: exists already; --force replaces it, -o names another\n");
+    assert.equal(stderr, "tools/to_xnc: holes.xnc: exists already; --force replaces it, -o names another\n");
     assert.equal(readFileSync(join(room, "holes.xnc"), "utf8"), "mine");
     assert.equal(runOn(room, "M30\n", "--force").status, 0);
     assert.equal(runOn(room, "M30\n", "--force", "-o", "holes.drl").status, 2);
@@ -198,11 +200,12 @@ written: holes.xnc
   });
 
   test("calls that cannot be used", () => {
-    for (const [words, told] of [[["--digits", "24"], "--digits 24"], [["--tool", "1"], "--tool 1"],
+    for (const [words, told] of /** @type {[string[], string][]} */ ([
+      [["--digits", "24"], "--digits 24"], [["--tool", "1"], "--tool 1"],
       [["--tool", "5=0.8"], "--tool 5: the file has no tool of this number"], [["--report", "none"], "none: cannot be read"],
       [["--tool", "1=300"], "a diameter outside 1 nm to 200 mm"], [["-o", "no/out"], "no/out: cannot"],
       [["--report", "holes.drl"], "holes.drl: no report of"], [["--unit", "mil"], "--unit"], [["--unit"], "one argument"],
-      [["more"], "unrecognized arguments: more"], [["--none"], "unrecognized arguments: --none"]]) {
+      [["more"], "unrecognized arguments: more"], [["--none"], "unrecognized arguments: --none"]])) {
       part(words.join(" "), () => {
         const { status, stderr } = runOn(newRoom(), "M48\nMETRIC,TZ\nT1C0.8\n%\nT1\nX1000Y1000\nM30\n", ...words);
         assert.equal(status, 2);
@@ -248,9 +251,10 @@ suite("drillings", () => {
   });
 
   test("leave out what stands at a file's ends", () => {
-    for (const [text, told] of [["\0\0M30\n", ["zero bytes or Ctrl-Z at the file's ends are left out"]],
+    for (const [text, told] of /** @type {[string, string[]][]} */ ([
+      ["\0\0M30\n", ["zero bytes or Ctrl-Z at the file's ends are left out"]],
       ["M30\n\x1a", ["zero bytes or Ctrl-Z at the file's ends are left out"]], ["M30\n", []],
-      ["\xef\xbb\xbfM30\n", ["a byte order mark is left out"]]]) {
+      ["\xef\xbb\xbfM30\n", ["a byte order mark is left out"]]])) {
       assert.deepEqual(convertDrill(latin1Bytes(text)).changes.map(({ what }) => what), told, JSON.stringify(text));
     }
   });
@@ -259,9 +263,10 @@ suite("drillings", () => {
 suite("lengths", () => {
   test("are exact, whichever way they are read", () => {
     const digits = { whole: 2, decimals: 4 };
-    for (const [text, zeros, wanted] of [["0145", "leading", "1.45"], ["0145", "trailing", "0.0145"], ["1", "leading", "10.0"],
+    for (const [text, zeros, wanted] of /** @type {[string, Zeros | null, string][]} */ ([
+      ["0145", "leading", "1.45"], ["0145", "trailing", "0.0145"], ["1", "leading", "10.0"],
       ["-25", "both", "-0.0025"], ["+.5", null, "0.5"], ["7.", null, "7.0"], ["0", null, "0.0"], ["-0.0", null, "0.0"],
-      ["999999.999999999", null, "999999.999999999"], ["1.0000000000000", null, "1.0"], ["00000000000000001.5", null, "1.5"]]) {
+      ["999999.999999999", null, "999999.999999999"], ["1.0000000000000", null, "1.0"], ["00000000000000001.5", null, "1.5"]])) {
       part(`${text} ${zeros}`, () => {
         const places = zeros && digits;
         assert.equal(lengthText(lengthOf(text, places, zeros)), wanted);

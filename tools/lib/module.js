@@ -1,0 +1,83 @@
+// The station of the page's module. Layers are asked by it; where no program is built, it takes lines as the program does.
+
+import { existsSync, readFileSync, statSync, writeFileSync } from "node:fs";
+import { dirname, join } from "node:path";
+import { fileURLToPath } from "node:url";
+import { Station } from "../../web/worker/station.js";
+import { latin1, latin1Bytes } from "../../web/bytes.js";
+import { Failure } from "../../web/convert/report.js";
+import { wordsOf } from "../../web/replies.js";
+import { reasonOf } from "./files.js";
+import { remedy } from "./places.js";
+
+const MODULE = join(dirname(dirname(dirname(fileURLToPath(import.meta.url)))), "web", "out", "station.wasm");
+// What can be undone, as of the program.
+const DEPTH = 100;
+
+let compiled;
+
+function read() {
+  if (!existsSync(MODULE)) return null;
+  const bytes = readFileSync(MODULE);
+  return WebAssembly.validate(bytes) ? new WebAssembly.Module(bytes) : null;
+}
+
+/** The module, or null where none is built, or none that this node reads. */
+export function stationModule() {
+  compiled ??= read();
+  return compiled;
+}
+
+/**
+ * The module, by which layers are asked.
+ * @throws {Failure} where there is none
+ */
+export function neededModule() {
+  const module = stationModule();
+  if (!module) throw new Failure(`web/out/station.wasm does not exist, or this node cannot read it: ${remedy("./demo builds it")}`);
+  return module;
+}
+
+// A path of a line, whose characters are its bytes.
+function pathIn(folder, path) {
+  return Buffer.concat([...path.startsWith("/") ? [] : [Buffer.from(join(folder, "/"))], latin1Bytes(path)]);
+}
+
+// The bytes of a file; null where it cannot be read, which the station refuses.
+function bytesAt(path) {
+  try {
+    return statSync(path).isFile() ? readFileSync(path) : null;
+  } catch {
+    return null;
+  }
+}
+
+function put(path, bytes) {
+  try {
+    writeFileSync(path, bytes);
+  } catch (fault) {
+    throw new Failure(`${path} cannot be written: ${reasonOf(fault)}`);
+  }
+}
+
+function served(station, folder, line) {
+  const [command, ...words] = wordsOf(line), isLoad = command === "load" && words.length === 3;
+  const code = station.apply(latin1Bytes(line), isLoad ? bytesAt(pathIn(folder, words[2])) : null);
+  if (code === 0 && (command === "plot" || command === "write")) put(pathIn(folder, words[1]), station.file);
+  return latin1(station.reply);
+}
+
+/**
+ * Runs lines over the files of a folder. A character of a line is a byte of it.
+ * @param {string} folder
+ * @param {string[]} lines
+ * @returns {string} the replies, each with a line feed
+ */
+export function outputOfModule(folder, lines) {
+  const station = new Station(stationModule(), DEPTH);
+  try {
+    return lines.map((line) => served(station, folder, line)).join("");
+  } finally {
+    station.close();
+  }
+}
