@@ -30,6 +30,12 @@ class Cost:
         return int(self.megabytes * 1200)
 
 
+def about(seconds):
+    """A length of time, in words."""
+    minutes = round(seconds / 60)
+    return f"about {minutes} minute{'s' if minutes > 1 else ''}" if seconds >= 60 else "less than a minute"
+
+
 def costs_of(root):
     found = defaultdict(Cost)
     path = f"{root}/.ci/costs"

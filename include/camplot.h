@@ -22,8 +22,8 @@
  * The library keeps no pointer of the caller's after a call, and has no state but its stations. Each function checks
  * for null: if a pointer is null that may not be, nothing is done. camplot_open, camplot_apply, camplot_ask,
  * camplot_redraw and camplot_tile then answer 90, and so do camplot_apply and camplot_ask if a length is past
- * 2^63 - 1. camplot_reply and camplot_file answer no number of a refusal: 0 for a station that is null, and otherwise the
- * length, whatever the room is. That closing a station frees all of its memory is the one promise here that is tested
+ * 2^63 - 1. camplot_reply, camplot_file and camplot_version answer no number of a refusal: 0 for a station that is null,
+ * and otherwise the length, whatever the room is. That closing a station frees all of its memory is the one promise here that is tested
  * and not proved. */
 #ifndef CAMPLOT_H
 #define CAMPLOT_H
@@ -37,6 +37,9 @@ extern "C" {
 
 /* A station. What it points to belongs to the library alone. */
 typedef struct camplot_station camplot_station;
+
+/* The version of this page. camplot_version answers that of the library. */
+#define CAMPLOT_VERSION "1.1.0"
 
 /* Numbers that these functions answer in addition to those of docs/refusals.md. */
 #define CAMPLOT_OK 0         /* accepted */
@@ -68,11 +71,12 @@ uint32_t camplot_apply(camplot_station *station, const uint8_t *line, size_t lin
 
 /* Answers a question of docs/questions.md, of `question_length` bytes, without a line end: the layers, the topmost
  * item at a point, the items in a box, an item in the words that insert it, boxes, definitions, attributes, the
- * history. The answer is a text of lines, each with a line feed, or of none if nothing is found; camplot_file copies
- * it, and the reply is `ok`. Nothing else of the station changes.
+ * history. The answer is a text of lines, each with a line feed, or of none if nothing is found, as at every point off
+ * the board; camplot_file copies it, and the reply is `ok`. Nothing else of the station changes.
  *
- * Answers 0, or the number of the refusal, and then there is no text: 60 if there is no such layer, 61 if it has
- * nothing at the place, 80 if the line is no question, 81 if it has more than 65,536 bytes, 30 if memory was refused.
+ * Answers 0, or the number of the refusal, and then there is no text: 60 if there is no such layer, 61 if it has no
+ * item, aperture, block or tool at a place that the question names, or fewer items than the place from which they are
+ * asked for, 80 if the line is no question, 81 if it has more than 65,536 bytes, 30 if memory was refused.
  * `station` and `question` may not be null; neither is kept. A `question_length` past 2^63 - 1 is answered 90. */
 uint32_t camplot_ask(camplot_station *station, const uint8_t *question, size_t question_length);
 
@@ -97,6 +101,11 @@ size_t camplot_file(camplot_station *station, uint8_t *room, size_t capacity);
  * side by side. Bits past the window's edge are 0. Answers 0, or 91 if the tile is dirty, or there is no such
  * tile, layer or window; then `rows` stays as it is. Neither pointer may be null. */
 uint32_t camplot_tile(camplot_station *station, uint32_t layer, uint32_t tile, uint64_t *rows);
+
+/* Returns how many bytes the version of the library has, such as `1.1.0`, and copies it into `room`, which has `capacity`
+ * bytes, if it fits, as camplot_reply does: no zero byte ends it, `room` may be null, and 16 bytes suffice. It is the
+ * CAMPLOT_VERSION of the page that the library was built with. */
+size_t camplot_version(uint8_t *room, size_t capacity);
 
 #ifdef __cplusplus
 }
