@@ -307,3 +307,36 @@ function walk(seed, count) {
 suite("events at random", () => {
   for (const seed of SEEDS) test(`of the seed ${seed}`, () => walk(seed, EVENTS));
 });
+
+// What the browser kept of two refused files of one opening: how far each was when the page was left.
+const keptOf = (...parts) => ({
+  records: [], looks: null, why: null, isOpen: true, files: parts.map((_, at) => [`given ${at}`, REFUSED]),
+  waiting: { gestures: [], pictures: [], next: 20, refused: parts.map((part, at) => ({ id: 10 + at, file: `given ${at}`, opening: 5, note: "",
+    layer: { kind: "gerber", fileName: NAMES[at] }, reply: "refused 26", ...part })) },
+});
+const UNTRIED = { isTried: false, offer: null, isAsked: false };
+const TRIED = { isTried: true, offer: { isAble: true, why: "", asks: [] }, isAsked: true };
+
+suite("a page that was left while refused files were tried", () => {
+  const begun = (...parts) => step(firstState(), { kind: "begin", kept: keptOf(...parts), contents: null }).state;
+  const told = ({ questions }) => questions.map(({ kind, refused }) => [kind, refused]);
+  const all = [["convertAll", [10, 11]]];
+
+  for (const [what, parts, refused] of [["the second", [TRIED, UNTRIED], 11], ["the first", [UNTRIED, TRIED], 10]]) {
+    test(`asks about both at once when ${what} is tried too`, () => {
+      const state = begun(...parts);
+      assert.deepEqual(told(state), []);
+      assert.deepEqual(told(step(state, { kind: "tried", refused, isAble: true, why: "" }).state), all);
+    });
+  }
+
+  test("asks about both when both were tried, and as it asked before", () => {
+    assert.deepEqual(told(begun(TRIED, TRIED)), all);
+    assert.deepEqual(told(begun({ ...TRIED, isAsked: 7 }, { ...TRIED, isAsked: 7 })), all);
+  });
+
+  test("leaves out what cannot be converted", () => {
+    const { state } = step(begun(TRIED, UNTRIED), { kind: "tried", refused: 11, isAble: null, why: "" });
+    assert.deepEqual(told(state), [["convert", 10]]);
+  });
+});

@@ -2,7 +2,7 @@
 
 import { BLANK, change, open } from "./opening.js";
 import { PLAIN } from "./state.js";
-import { askAbout } from "./asking.js";
+import { askAbout, askWhenTried } from "./asking.js";
 import { firstWord, wordsOf } from "../steps.js";
 
 /** @param {string} id */
@@ -26,7 +26,7 @@ function restore(turn, { records, files, looks, waiting }) {
   const next = 1 + Math.max(0, turn.state.next, waiting?.next ?? 0, ...files.map(([id]) => numberOf(id)));
   turn.set({ ...parts, layers: (parts.layers ?? []).filter(({ name }) => names.has(name)), told, files: given, next,
     paths: Object.fromEntries(loads.filter(({ reply }) => reply.startsWith("ok")).map(({ path, file }) => [path, file ?? path])),
-    refused: (waiting?.refused ?? []).filter(({ file }) => given[file]).map(({ isAsked, isPending, ...entry }) => entry) });
+    refused: (waiting?.refused ?? []).filter(({ file }) => given[file]).map(({ isAsked, ...entry }) => ({ ...entry, isPending: isAsked === true })) });
   if (told.length) turn.last({ kind: "replay", isFitted: !looks?.view });
   if (looks?.view) turn.send({ to: "page", kind: "view", view: looks.view });
   if (looks?.look) turn.send({ to: "page", kind: "look", look: looks.look });
@@ -52,16 +52,20 @@ function goOnWith(turn, { gestures = [], refused = [], pictures = [] }, given) {
       turn.send({ to: "page", kind: "try", refused: entry.id });
     }
   }
+  // Those that were still to be asked about are so together with what is tried once more.
+  for (const opening of new Set(turn.state.refused.filter(({ isPending }) => isPending).map((entry) => entry.opening))) {
+    askWhenTried(turn, opening);
+  }
 }
 
-// Asks what was asked, about the same files at once; those that were still to be asked about are so for each opening.
+// Asks what was asked, about the same files at once.
 /** @param {Page.Turn} turn @param {Page.Waiting["refused"]} refused */
 function askAgain(turn, refused) {
-  /** @type {Map<string | number | boolean, Page.Refused[]>} */
+  /** @type {Map<number, Page.Refused[]>} */
   const groups = new Map();
   for (const entry of turn.state.refused) {
-    const { isAsked } = refused.find(({ id }) => id === entry.id), key = isAsked === true ? `of ${entry.opening}` : isAsked;
-    if (isAsked) groups.set(key, [...groups.get(key) ?? [], entry]);
+    const { isAsked } = refused.find(({ id }) => id === entry.id);
+    if (typeof isAsked === "number") groups.set(isAsked, [...groups.get(isAsked) ?? [], entry]);
   }
   for (const entries of groups.values()) askAbout(turn, entries, entries[0].opening);
 }
