@@ -4,7 +4,6 @@ pub mod Outlines
 pub mod Painting
 pub mod ShapeBoxes
 pub mod CoverLaws
-pub mod CutLemmas
 pub mod Values
 pub mod Expansions
 pub mod KeptExpansions

@@ -17,6 +17,7 @@ use Rattle.cam_units.specs.declared.length.Nm.{Nm}
 use Rattle.cam_units.specs.declared.length.Unit.{Unit as FileUnit}
 use Rattle.cam_units.specs.Nearest.{fix9_of}
 use Rattle.cam_words.specs.Heads.{packed}
+use Rattle.cam_words.specs.Pieces.{pieces_of}
 use Rattle.cam_macros.specs.declared.aperture_macro.Macro.{Macro}
 use Rattle.cam_macros.specs.declared.fault.MacroFault.{MacroFault}
 use Rattle.cam_macros.specs.declared.primitive.MacroPrimitive.{MacroPrimitive}
@@ -41,11 +42,6 @@ is_comma byte = byte == 44
 unfoldable pub behind_comma : List ℕ → Option (List ℕ)
 behind_comma text =
     if nat_lt (position_or_len is_comma text) (length text) then Some (after_first is_comma text) else None
-
--- the pieces of a text between such bytes, if there is one
-abbrev pub pieces_of : ℕ → Option (List ℕ) → List (List ℕ)
-pieces_of c None = []
-pieces_of c (Some text) = slice_split (λ b. b == c) text
 
 -- between `X`
 abbrev pub parameters_of : Option (List ℕ) → List (List ℕ)

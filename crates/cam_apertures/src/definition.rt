@@ -4,10 +4,9 @@ ghost use Rattle.std.specs.Prelude.{◌≡◌, ◌≤◌, ◌<◌, ◌==◌, ◌
 ghost use Rattle.std.specs.Char.{is_ascii_digit};
 ghost use Rattle.std.specs.List.{before_first, list_all, position_or_len, prefix_len, slice_split};
 ghost use Rattle.std.specs.Option.{option_copied};
-ghost use Rattle.cam_words.specs.Heads.{packed};
 ghost use Rattle.cam_apertures.specs.Definition.{are_runs, behind_comma, circle, definition, template_form, is_comma};
 ghost use Rattle.cam_apertures.specs.Definition.{is_of_runs, length_at, numbered, obround, parameters_of};
-ghost use Rattle.cam_apertures.specs.Definition.{pieces_of, rect, values_of, with_number, IsDefined, IsDefinitionRefused};
+ghost use Rattle.cam_apertures.specs.Definition.{rect, values_of, with_number, IsDefined, IsDefinitionRefused};
 ghost use Rattle.cam_apertures.specs.declared.fault.AdFault.TheVariants.{BadNumber};
 ghost use Rattle.cam_apertures.specs.Machinery.Outcomes.{outcome, standard_outcome, template_outcome};
 ghost use Rattle.cam_apertures.specs.Machinery.Outcomes.{IsErr};
@@ -17,7 +16,7 @@ use crate::fault::AdFault;
 use crate::macros::Macros;
 use cam_numbers::{Blanks, decimal, defined_number, is_numeric};
 use cam_units::{Nm, Unit, fix9_nm};
-use cam_words::is_skipped;
+use cam_words::{cut, packed};
 use std::alloc::{AllocError, Global};
 
 /// The aperture that the text behind `AD` of an extended command defines, without its final `*`,
@@ -38,7 +37,7 @@ pub fn parse_ad(
     ensures fault { IfErr result (IsDefinitionRefused text.now macros.old unit) }
     ensures macros { macros.new ≡ macros.old }
 {
-    let text = pack(alloc, text)?;
+    let text = packed(alloc, text)?;
     defined(alloc, text.as_slice(), macros, unit)
 }
 
@@ -47,7 +46,7 @@ pub fn parse_ad(
 pub fn ad_number(alloc: Global, text: &[u8]) -> Result<Option<u32>, AllocError>
     ensures { IfOk result (λ number. number ≡ numbered (template_form text.now)) }
 {
-    let text = pack(alloc, text)?;
+    let text = packed(alloc, text)?;
     let Some(definition) = Definition::read(text.as_slice()) else {
         return Ok(None);
     };
@@ -109,16 +108,6 @@ impl<'a> Definition<'a> {
     }
 }
 
-/// The text without the bytes that do not count.
-fn pack(alloc: Global, text: &[u8]) -> Result<Vec<u8>, AllocError>
-    ensures { IfOk result (λ v. v.items ≡ packed text.now) }
-{
-    text.iter()
-        .copied()
-        .filter(|byte| !is_skipped(*byte))
-        .collect(alloc)
-}
-
 /// How many digits the text begins with.
 fn digit_count(text: &[u8]) -> usize
     ensures value { result ≡ prefix_len is_ascii_digit text.now }
@@ -172,22 +161,6 @@ fn is_of_runs(byte: u8) -> bool
     ensures { result ≡ is_of_runs byte }
 {
     is_numeric(byte) || byte == b'X'
-}
-
-/// What stands before the first such byte, and behind it.
-fn cut(text: &[u8], separator: u8) -> (&[u8], Option<&[u8]>)
-    ensures pieces { slice_split (λ b. b == separator) text.now
-        ≡ result.0.now ∷ pieces_of separator (option_copied result.1) }
-    ensures shorter { MatchOption result.1
-        (length result.0.now ≤ length text.now)
-        (λ rest. length rest.now < length text.now) }
-{
-    for (place, byte) in text.iter().enumerate() {
-        if *byte == separator {
-            return (&text[..place], Some(&text[place + 1..]));
-        }
-    }
-    (text, None)
 }
 
 /// The values of the parameters in 10^-9 units.

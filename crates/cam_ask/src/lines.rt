@@ -25,28 +25,11 @@ ghost use Rattle.cam_ask.specs.Texts.{
 
 use cam_edits::{Name, SheetContent};
 use cam_objects::{Attribute, DrillItem, Entry, Item, Object};
-use cam_script::{push_drill_item_words, push_number, push_object_words, push_word};
+use cam_script::{push_drill_item_words, push_length, push_number, push_object_words, push_word};
 use cam_undo::Counts;
 use cam_units::{Bounds, Nm, Spot};
-use cam_writers::{push_aperture, push_declaration};
-use itoa::Buffer;
+use cam_writers::{push_aperture, push_decimal, push_declaration};
 use std::alloc::AllocError;
-
-/// Writes a number.
-fn push_decimal(text: &mut Vec<u8>, number: u64) -> Result<(), AllocError>
-    ensures { OnOk result (text.new.items ≡ text.old.items ++ decimal number) }
-{
-    let mut buffer = Buffer::new();
-    text.extend_from_slice(buffer.format(number).as_bytes())
-}
-
-/// Writes a space and a length in nm.
-fn push_length(text: &mut Vec<u8>, nm: i64) -> Result<(), AllocError>
-    ensures { OnOk result (text.new.items ≡ text.old.items ++ spaced (signed_decimal nm ∷ [])) }
-{
-    let mut buffer = Buffer::new();
-    push_word(text, buffer.format(nm).as_bytes())
-}
 
 /// Ends a line.
 fn end_line(text: &mut Vec<u8>) -> Result<(), AllocError>

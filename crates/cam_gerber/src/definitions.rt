@@ -20,8 +20,7 @@ use cam_macros::{Macro, MacroFault};
 use cam_objects::Entry;
 use cam_refusals::{Refusal, Stop};
 use cam_units::Unit;
-use cam_words::{is_skipped, len_before};
-use std::alloc::{AllocError, Global};
+use cam_words::{len_before, packed};
 
 /// The lower of a fault that is told and of another one, where that holds.
 fn lower(fault: Refusal, holds: bool, told: Option<Refusal>) -> Option<Refusal>
@@ -51,16 +50,6 @@ fn is_reserved(name: &[u8]) -> bool
         || name == b"R".as_slice()
         || name == b"O".as_slice()
         || name == b"P".as_slice()
-}
-
-/// The text without the bytes that do not count.
-fn pack(alloc: Global, text: &[u8]) -> Result<Vec<u8>, AllocError>
-    ensures { IfOk result (λ v. v.items ≡ packed text.now) }
-{
-    text.iter()
-        .copied()
-        .filter(|byte| !is_skipped(*byte))
-        .collect(alloc)
 }
 
 /// What stands before the first star.
@@ -132,7 +121,7 @@ impl Running {
         match Macro::parse(self.alloc, text) {
             Err(fault) => match fault {
                 MacroFault::Malformed => {
-                    let text = pack(self.alloc, text)?;
+                    let text = packed(self.alloc, text)?;
                     if self.is_named(before_star(&text)) {
                         return Err(Stop::Fault(Refusal::Redefined));
                     }

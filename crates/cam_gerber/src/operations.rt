@@ -1,7 +1,6 @@
 //! Operations and regions.
 
 ghost use Rattle.std.specs.Prelude.{◌≡◌, false, true};
-ghost use Rattle.cam_shapes.specs.Contour.{end_of};
 ghost use Rattle.cam_commands.specs.Commands as command;
 ghost use Rattle.cam_commands.specs.declared.parts.OperationCode.TheVariants as code;
 ghost use Rattle.cam_gerber.specs.Machinery.Tracking.{EndsContour, Operates, Takes};
@@ -12,19 +11,9 @@ use cam_commands::Operation;
 use cam_objects::Object;
 use cam_refusals::limits::COUNT_LIMIT;
 use cam_refusals::{Refusal, Stop};
-use cam_shapes::{Contour, Seg, Segments};
+use cam_shapes::{Contour, Segments};
 use cam_units::Point;
 use std::mem;
-
-/// Where the segment ends.
-fn end_of(seg: Seg) -> Point
-    ensures { result ≡ end_of seg }
-{
-    match seg {
-        Seg::Line { to } => to,
-        Seg::Curve { to, .. } => to,
-    }
-}
 
 impl Running {
     /// D01 outside a region.
@@ -46,7 +35,7 @@ impl Running {
         }
         let object = self.modal.stroke(aperture, seg);
         self.keep(object, 1)?;
-        self.modal.operated(operation, end_of(seg));
+        self.modal.operated(operation, seg.end());
         Ok(())
     }
 
@@ -62,7 +51,7 @@ impl Running {
             return Err(Stop::Fault(Refusal::TooMuch));
         }
         self.region.segs.push(seg)?;
-        self.modal.operated(operation, end_of(seg));
+        self.modal.operated(operation, seg.end());
         Ok(())
     }
 

@@ -17,6 +17,7 @@ use crate::frames::OpenRepeat;
 use crate::homes::has_room;
 use crate::object_list::ObjectList;
 use crate::running::Running;
+use crate::state::is_malformed;
 use cam_commands::{Repeat, Slot};
 use cam_objects::Item;
 use cam_refusals::limits::{BOARD_LIMIT, COUNT_LIMIT};
@@ -42,12 +43,6 @@ fn step(unit: Unit, slot: &Slot<i64>) -> Nm
         Slot::Written(n) => fix9_nm(*n, unit),
         Slot::Omitted | Slot::Malformed => Nm(0),
     }
-}
-
-fn is_malformed<T>(slot: &Slot<T>) -> bool
-    ensures { result ≡ is_malformed slot.now }
-{
-    matches!(slot, Slot::Malformed)
 }
 
 /// Whether the step is under a metre.

@@ -43,8 +43,9 @@ fn plus(from: Nm, offset: Nm) -> Nm
     Nm(from.0 + offset.0)
 }
 
-fn is_malformed(slot: Slot<i64>) -> bool
-    ensures { result ≡ is_malformed slot }
+/// Whether the number does not fit its grammar.
+pub(crate) fn is_malformed<T>(slot: &Slot<T>) -> bool
+    ensures { result ≡ is_malformed slot.now }
 {
     matches!(slot, Slot::Malformed)
 }
@@ -59,10 +60,10 @@ fn is_written(slot: Slot<i64>) -> bool
 fn has_malformed(operation: &Operation) -> bool
     ensures { result ≡ has_malformed operation.now }
 {
-    is_malformed(operation.x)
-        || is_malformed(operation.y)
-        || is_malformed(operation.i)
-        || is_malformed(operation.j)
+    is_malformed(&operation.x)
+        || is_malformed(&operation.y)
+        || is_malformed(&operation.i)
+        || is_malformed(&operation.j)
 }
 
 /// Whether the operation writes a coordinate.

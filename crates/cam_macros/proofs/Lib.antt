@@ -1,6 +1,5 @@
 pub mod WidthLemmas
 pub mod FaultLemmas
-pub mod CutLemmas
 pub mod QuotientLemmas
 pub mod FieldLemmas
 pub mod Evaluation

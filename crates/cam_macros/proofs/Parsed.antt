@@ -19,7 +19,7 @@ use Rattle.cam_macros.specs.Postfix.{tree_of}
 use Rattle.cam_macros.specs.Scanning.{scanned, variable_of}
 use Rattle.cam_macros.specs.Parsing.{with_both, all_read, expression_read, assignment_read, primitive_by}
 use Rattle.cam_macros.specs.Parsing.{primitive_read, part_read, parts_of, IsReadAs, IsParsedByTheGrammar}
-use Rattle.cam_macros.proofs.CutLemmas.{first_piece, split_nowhere}
+use Rattle.cam_words.proofs.CutLemmas.{first_piece, split_nowhere}
 use Rattle.cam_macros.proofs.ExpressionLemmas.{tree_is}
 use Rattle.cam_macros.proofs.Machine as machine
 use Rattle.cam_macros.proofs.PartLemmas.{is_assignment, no_equals, no_variable, no_value, dollar_part, is_primitive}

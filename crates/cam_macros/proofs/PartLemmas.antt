@@ -18,7 +18,7 @@ use Rattle.cam_macros.specs.Scanning.{variable_of}
 use Rattle.cam_macros.specs.Answers.{IsMalformed, Nothing}
 use Rattle.cam_macros.specs.Reading.{AreExpressions, IsAssignment, IsPrimitive, IsPart}
 use Rattle.cam_macros.proofs.FaultLemmas.{malformed_also}
-use Rattle.cam_macros.proofs.CutLemmas.{first_piece}
+use Rattle.cam_words.proofs.CutLemmas.{first_piece}
 use Rattle.cam_macros.proofs.Machine.{variable_is}
 use Rattle.cam_macros.proofs.Levels.{variable_found}
 use Rattle.cam_macros.specs.Bytes.{comma_sign, dollar, equals}

@@ -2,6 +2,7 @@
 use Rattle.std.specs.Prelude.{◌≡◌, ℕ, min, List, [], ◌∷◌, ◌++◌, filter, Bool, true, false, not, ◌==◌, ◌&&◌}
 use Rattle.std.specs.Prelude.{Option, Some, None, ⊤}
 use Rattle.std.specs.Borrow.{Bor}
+use Rattle.std.specs.Option.{option_copied}
 use Rattle.std.specs.List.{slice_split, list_any}
 use Rattle.std.specs.Char.{is_ascii_digit}
 use Rattle.cam_macros.specs.declared.part.Part.{Part}
@@ -10,6 +11,7 @@ use Rattle.cam_macros.specs.declared.fault.MacroFault.{MacroFault}
 use Rattle.cam_macros.specs.declared.fault.MacroFault.TheVariants.{BadName}
 use Rattle.cam_words.specs.Bytes.{star}
 use Rattle.cam_words.specs.Heads.{packed}
+use Rattle.cam_words.specs.Pieces.{pieces_of}
 use Rattle.cam_macros.specs.Answers.{IsMalformed, Nothing}
 use Rattle.cam_macros.specs.Bytes.{comma_sign, dollar, equals, nought}
 use Rattle.cam_macros.specs.Tree.{Tree}
@@ -91,8 +93,7 @@ IsMacroRefused text fault =
 
 -- the pieces between bytes, if any text is left
 abbrev pub pieces_between : ℕ → Option (Bor (List ℕ)) → List (List ℕ)
-pieces_between c None = []
-pieces_between c (Some text) = slice_split (λ b. b == c) text.now
+pieces_between c rest = pieces_of c (option_copied rest)
 
 -- a text stands for one macro at most
 abbrev pub OneReadingLaw : Type 0

@@ -1,7 +1,6 @@
 //! A macro as a file defines it.
 
 ghost use Rattle.std.specs.Prelude.{◌≡◌, IfOk, IfErr};
-ghost use Rattle.cam_words.specs.Heads.{packed};
 ghost use Rattle.cam_macros.specs.Answers.{IsUnlessMemory};
 ghost use Rattle.cam_macros.specs.Expansion.{expansion_of};
 ghost use Rattle.cam_macros.specs.Reading.{IsMacroReading, IsMacroRefused, is_macro_name};
@@ -9,12 +8,11 @@ ghost use Rattle.cam_macros.specs.Reading.{IsMacroReading, IsMacroRefused, is_ma
 use crate::expansion::parts::expanded;
 use crate::fault::MacroFault;
 use crate::parsing::parts::parts_of;
-use crate::parsing::pieces::cut;
 use crate::part::Parts;
 use crate::primitive::Prims;
 use cam_units::{Items, Unit};
-use cam_words::is_skipped;
-use std::alloc::{AllocError, Global};
+use cam_words::{cut, packed};
+use std::alloc::Global;
 
 /// The name of a macro, byte by byte.
 pub type Name = Items<u8>;
@@ -58,16 +56,6 @@ impl Macro {
     {
         expanded(alloc, self.parts.as_slice(), params, unit)
     }
-}
-
-/// The text without line ends, spaces and tabs, which do not count.
-fn packed(alloc: Global, text: &[u8]) -> Result<Vec<u8>, AllocError>
-    ensures { IfOk result (λ bytes. bytes.items ≡ packed text.now) }
-{
-    text.iter()
-        .copied()
-        .filter(|b| !is_skipped(*b))
-        .collect(alloc)
 }
 
 fn is_macro_name(name: &[u8]) -> bool

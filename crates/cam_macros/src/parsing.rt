@@ -2,5 +2,5 @@
 
 pub(crate) mod mark;
 pub(crate) mod parts;
-pub(crate) mod pieces;
 pub(crate) mod scanner;
+pub(crate) mod variables;

@@ -49,4 +49,4 @@ pub use lines::Lines;
 pub use parse::parse_line;
 pub use path::FilePath;
 pub use question::{Query, Question};
-pub use spelling::{push_drill_item_words, push_number, push_object_words, push_word};
+pub use spelling::{push_drill_item_words, push_length, push_number, push_object_words, push_word};

@@ -66,8 +66,8 @@ pub fn push_number(text: &mut Vec<u8>, number: u64) -> Result<(), AllocError>
     push_word(text, buffer.format(number).as_bytes())
 }
 
-/// Writes a space and a length in nm.
-fn push_length(text: &mut Vec<u8>, length: i64) -> Result<(), AllocError>
+/// Writes a space and a length in nm at the text's end; an error where memory is refused.
+pub fn push_length(text: &mut Vec<u8>, length: i64) -> Result<(), AllocError>
     ensures { OnOk result (text.new.items ≡ text.old.items ++ 32 ∷ signed_decimal length) }
 {
     let mut buffer = Buffer::new();

@@ -2,7 +2,7 @@
 
 ghost use Rattle.std.specs.Prelude.{◌≡◌, ◌↔◌, All, IfOk, IsTrue, map};
 ghost use Rattle.cam_units.specs.Board.{IsInReach, IsOnBoard};
-ghost use Rattle.cam_shapes.specs.Contour.{IsInContour, IsSoundSeg, end_of};
+ghost use Rattle.cam_shapes.specs.Contour.{IsInContour, IsSoundSeg};
 ghost use Rattle.cam_shapes.specs.Placing.{IsOffset, IsPlaceable, IsPlaceableSeg, placed_contour, placed_seg};
 ghost use Rattle.cam_shapes.specs.Sides.{change_side, changes_side};
 
@@ -76,7 +76,7 @@ fn is_enclosed(spot: Spot, start: Point, segs: &[Seg], placing: Placing) -> bool
     for seg in segs {
         let placed = placing.seg(*seg);
         inside ^= changes_side(spot, here, placed);
-        here = end_of(placed);
+        here = placed.end();
     }
     inside ^ in_edge(spot, here, start)
 }
@@ -99,17 +99,5 @@ fn changes_side(spot: Spot, here: Point, seg: Seg) -> bool
             };
             in_edge(spot, here, to) ^ in_cap(spot, cap)
         }
-    }
-}
-
-/// The point where the segment ends.
-fn end_of(seg: Seg) -> Point
-    requires { IsSoundSeg seg }
-    ensures value { result ≡ end_of seg }
-    ensures on_board { IsOnBoard result }
-{
-    match seg {
-        Seg::Line { to } => to,
-        Seg::Curve { to, .. } => to,
     }
 }

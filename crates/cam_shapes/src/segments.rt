@@ -1,6 +1,8 @@
 //! Segments of contours.
 
 ghost use Rattle.std.specs.Prelude.{◌≡◌, All, map};
+ghost use Rattle.cam_units.specs.Board.{IsOnBoard};
+ghost use Rattle.cam_shapes.specs.Contour.{IsSoundSeg, end_of};
 ghost use Rattle.cam_shapes.specs.Shifting.{IsShiftable, IsShiftableSeg, shifted_seg};
 
 use cam_units::{Items, Point};
@@ -12,6 +14,20 @@ use cam_units::{Items, Point};
 pub enum Seg {
     Line { to: Point },
     Curve { to: Point, centre: Point, ccw: bool },
+}
+
+impl Seg {
+    /// The point where the segment ends.
+    #[inline]
+    pub fn end(self) -> Point
+        ensures value { result ≡ end_of self }
+        ensures on_board { IsSoundSeg self → IsOnBoard result }
+    {
+        match self {
+            Seg::Line { to } => to,
+            Seg::Curve { to, .. } => to,
+        }
+    }
 }
 
 /// The segments of a contour, in order.

@@ -8,3 +8,4 @@ pub mod Cuttings
 pub mod Judged
 pub mod Longest
 pub mod Slices
+pub mod CutLemmas

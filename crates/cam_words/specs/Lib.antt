@@ -1,5 +1,6 @@
 pub mod Bytes
 pub mod Heads
+pub mod Pieces
 pub mod Cutting
 pub mod Reading
 pub mod Laws

@@ -1,12 +1,23 @@
 //! What the first letters of a command make of it, skipped bytes left out.
 
-ghost use Rattle.std.specs.Prelude.{◌≡◌, length, take, drop, nat_eq, is_some, option_map, IfSome, MatchOption, [], ◌∷◌};
+ghost use Rattle.std.specs.Prelude.{◌≡◌, length, take, drop, nat_eq, is_some, option_map, IfOk, IfSome, MatchOption, [], ◌∷◌};
 ghost use Rattle.std.specs.Option.{option_copied};
 ghost use Rattle.std.specs.List.{starts_with, list_any};
 ghost use Rattle.cam_words.specs.Bytes.{is_digit};
 ghost use Rattle.cam_words.specs.Heads.{packed, behind_kept, behind_head, is_comment, is_free_text};
 
-use crate::bytes::leading_skipped;
+use crate::bytes::{is_skipped, leading_skipped};
+use std::alloc::{AllocError, Global};
+
+/// The text without its skipped bytes; an error where no memory is left for it.
+pub fn packed(alloc: Global, text: &[u8]) -> Result<Vec<u8>, AllocError>
+    ensures { IfOk result (λ v. v.items ≡ packed text.now) }
+{
+    text.iter()
+        .copied()
+        .filter(|byte| !is_skipped(*byte))
+        .collect(alloc)
+}
 
 /// The first byte that is not skipped, and what stands behind it.
 pub fn first_kept(text: &[u8]) -> Option<(u8, &[u8])>

@@ -23,10 +23,12 @@ mod command;
 mod cutter;
 mod heads;
 mod laws;
+mod pieces;
 mod word;
 
 pub use bytes::{is_skipped, len_before};
 pub use cutter::Words;
-pub use heads::{behind_head, first_kept};
+pub use heads::{behind_head, first_kept, packed};
 pub use laws::{at_most_one_cutting, reads_its_words, stops_at_the_longest_front};
+pub use pieces::cut;
 pub use word::{Kind, TextFault, Word};

@@ -12,6 +12,7 @@ use Rattle.cam_refusals.specs.Refusals.{number_of}
 use Rattle.cam_units.specs.declared.point.Point.{Point}
 use Rattle.cam_units.specs.declared.turn.Turn.{Turn}
 use Rattle.cam_units.specs.Board.{IsOnBoard}
+use Rattle.cam_shapes.specs.Contour.{end_of}
 use Rattle.cam_shapes.specs.declared.segments.Seg.{Seg}
 use Rattle.cam_shapes.specs.declared.segments.Seg.TheVariants.{Line, Curve}
 use Rattle.cam_objects.specs.Leaves.{meaning_in}
@@ -42,7 +43,7 @@ use Rattle.cam_commands.specs.declared.parts.Operation.{Operation}
 use Rattle.cam_commands.specs.Commands.{BeginRegion, EndRegion, SetMode, Operate}
 use Rattle.cam_gerber.specs.Statements.{Says}
 use Rattle.cam_gerber.specs.Laws.{IsFaultless}
-use Rattle.cam_writers.specs.GerberTexts.{Phrases, end_of, is_same_mode, said_by, with_contour, with_mode}
+use Rattle.cam_writers.specs.GerberTexts.{Phrases, is_same_mode, said_by, with_contour, with_mode}
 use Rattle.cam_writers.specs.GerberTexts.{with_segment, with_segments}
 
 -- ---- what a home says of an object, where all is kept

@@ -28,13 +28,14 @@ use Rattle.cam_writers.specs.Phrases.{rotation_of, UseAperture, UseMirror, UseMo
 use Rattle.cam_writers.proofs.GerberPlaces.{Stands, coordinate_again, across_and_back, other_point, Kept, kept_all}
 use Rattle.cam_writers.proofs.GerberPlaces.{grown_by, kept_on, same_polarity, same_turn, same_mode}
 use Rattle.cam_writers.proofs.GerberPlaces.{same_point, dark_again, mirror_again, rotation_again, by_quarters}
+use Rattle.cam_shapes.specs.Contour.{end_of}
 use Rattle.cam_shapes.specs.declared.segments.Seg.{Seg}
 use Rattle.cam_shapes.specs.declared.segments.Seg.TheVariants.{Line, Curve}
 use Rattle.cam_commands.specs.declared.parts.Mode.{Mode}
 use Rattle.cam_commands.specs.declared.parts.Mode.TheVariants.{Linear}
 use Rattle.cam_gerber.specs.Statements.{Statement, Says}
 use Rattle.cam_gerber.specs.Making.{segment, made}
-use Rattle.cam_writers.specs.GerberTexts.{Phrases, arc_mode, end_of, said_by, with_mode, with_segment}
+use Rattle.cam_writers.specs.GerberTexts.{Phrases, arc_mode, said_by, with_mode, with_segment}
 use Rattle.cam_writers.specs.GerberTexts.{is_same_polarity, is_same_turn, is_selected, is_same_mode, with_aperture}
 use Rattle.cam_writers.specs.GerberTexts.{with_mirror, with_polarity, with_rotation, with_start}
 use Rattle.cam_units.specs.declared.turn.Turn.{Turn}

@@ -12,6 +12,7 @@ use Rattle.cam_units.specs.declared.point.Point.{Point}
 use Rattle.cam_units.specs.declared.turn.Turn.{Turn}
 use Rattle.cam_units.specs.declared.turn.Turn.TheVariants.{R0}
 use Rattle.cam_units.specs.Board.{IsOnBoard}
+use Rattle.cam_shapes.specs.Contour.{end_of}
 use Rattle.cam_shapes.specs.declared.segments.Seg.{Seg}
 use Rattle.cam_shapes.specs.declared.segments.Seg.TheVariants.{Line, Curve}
 use Rattle.cam_objects.specs.declared.attribute.Attribute.{Attribute}
@@ -31,7 +32,7 @@ use Rattle.cam_writers.specs.declared.gerber_state.GerberText.{GerberText}
 use Rattle.cam_writers.specs.Phrases.{Phrase, line_of, mirror_of, operation_to, rotation_of, said, spelled, UseFormat}
 use Rattle.cam_writers.specs.Phrases.{UseMillimetres, Attach, UseArcs, UsePolarity, UseMirror, UseRotation}
 use Rattle.cam_writers.specs.Phrases.{UseAperture, UseMode, MoveTo, FlashAt, LineTo, ArcTo, Finish}
-use Rattle.cam_writers.specs.GerberTexts.{Phrases, end_of, gerber_text, is_same_mode, is_same_polarity, is_same_turn}
+use Rattle.cam_writers.specs.GerberTexts.{Phrases, gerber_text, is_same_mode, is_same_polarity, is_same_turn}
 use Rattle.cam_writers.specs.GerberTexts.{is_selected, opening, phrases_before_end, said_by, text_of, units, with_aperture}
 use Rattle.cam_writers.specs.GerberTexts.{with_attribute_of, with_mirror, with_mode, with_polarity, with_rotation}
 use Rattle.cam_writers.specs.GerberTexts.{with_segment, with_segments}

@@ -8,6 +8,7 @@ use Rattle.std.specs.List.{fold}
 use Rattle.cam_units.specs.declared.point.Point.{Point}
 use Rattle.cam_units.specs.declared.turn.Turn.{Turn}
 use Rattle.cam_units.specs.Turns.{matrix_of}
+use Rattle.cam_shapes.specs.Contour.{end_of}
 use Rattle.cam_shapes.specs.declared.contour.Contour.{Contour}
 use Rattle.cam_shapes.specs.declared.segments.Seg.{Seg}
 use Rattle.cam_shapes.specs.declared.segments.Seg.TheVariants.{Line, Curve}
@@ -94,10 +95,6 @@ arc_mode false = Clockwise
 abbrev pub with_segment : Point → Seg → Phrases → Phrases
 with_segment here (Line to) phrases = LineTo to ∷ with_mode Linear phrases
 with_segment here (Curve to centre ccw) phrases = ArcTo here to centre ∷ with_mode (arc_mode ccw) phrases
-
-abbrev pub end_of : Seg → Point
-end_of (Line to) = to
-end_of (Curve to centre ccw) = to
 
 -- segments, each from where the one before it ends
 abbrev pub with_segments : Point → List Seg → Phrases → Phrases

@@ -9,7 +9,7 @@ ghost use Rattle.cam_writers.specs.DrillTexts.{Lines, declaration, drill_text, l
 ghost use Rattle.cam_writers.specs.DrillTexts.{with_cut, with_drill_mode, with_item, with_rout, with_selected, with_tool};
 ghost use Rattle.cam_writers.specs.Machinery.Tracking.{Tracks};
 
-use crate::lengths::{push_mm, push_number};
+use crate::lengths::{push_mm, push_decimal};
 use cam_objects::{DrillItem, DrillLayer, Tools};
 use cam_units::{Nm, Point};
 use std::alloc::{AllocError, Global};
@@ -27,7 +27,7 @@ fn push_tool_line(text: &mut Vec<u8>, tool: u16) -> Result<(), AllocError>
     ensures { OnOk result (text.new.items ≡ text.old.items ++ ((codes "T" ++ decimal tool) ++ codes "\n")) }
 {
     text.extend_from_slice(b"T")?;
-    push_number(text, u64::from(tool))?;
+    push_decimal(text, u64::from(tool))?;
     text.extend_from_slice(b"\n")
 }
 
@@ -39,7 +39,7 @@ pub fn push_declaration(text: &mut Vec<u8>, tool: u16, diameter: Nm) -> Result<(
         (text.new.items ≡ text.old.items ++ (declaration (tool, diameter) ++ codes "\n")) }
 {
     text.extend_from_slice(b"T")?;
-    push_number(text, u64::from(tool))?;
+    push_decimal(text, u64::from(tool))?;
     text.extend_from_slice(b"C")?;
     push_mm(text, diameter)?;
     text.extend_from_slice(b"\n")

@@ -4,7 +4,7 @@ ghost use Rattle.std.specs.Prelude.{◌≡◌, ◌++◌, OnOk};
 ghost use Rattle.cam_writers.specs.Phrases.{NameAperture, hole_text, line_of, macro_name, spelled, template_text};
 ghost use Rattle.cam_writers.specs.Machinery.Tracking.{sides_text};
 
-use crate::lengths::{push_mm, push_number};
+use crate::lengths::{push_mm, push_decimal};
 use cam_apertures::Aperture;
 use cam_units::Nm;
 use std::alloc::AllocError;
@@ -14,7 +14,7 @@ pub fn push_macro_name(text: &mut Vec<u8>, number: u32) -> Result<(), AllocError
     ensures { OnOk result (text.new.items ≡ text.old.items ++ macro_name number) }
 {
     text.extend_from_slice(b"M")?;
-    push_number(text, u64::from(number))
+    push_decimal(text, u64::from(number))
 }
 
 /// Writes the diameter of a hole, where there is one.
@@ -80,7 +80,7 @@ pub fn push_definition(
         (text.new.items ≡ text.old.items ++ line_of (spelled (NameAperture number aperture.now))) }
 {
     text.extend_from_slice(b"%ADD")?;
-    push_number(text, u64::from(number))?;
+    push_decimal(text, u64::from(number))?;
     push_template(text, number, aperture)?;
     text.extend_from_slice(b"*%\n")
 }

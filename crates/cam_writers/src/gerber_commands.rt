@@ -7,7 +7,7 @@ ghost use Rattle.cam_writers.specs.Phrases.{UseMirror, UseMode, UsePolarity, Use
 ghost use Rattle.cam_writers.specs.Phrases.{offsets, spelled, word};
 ghost use Rattle.cam_writers.specs.Machinery.Tracking.{attribute_lines, steps_text};
 
-use crate::lengths::{push_mm, push_number, push_whole};
+use crate::lengths::{push_mm, push_decimal, push_whole};
 use cam_commands::Mode;
 use cam_objects::Attribute;
 use cam_units::{Nm, Point, Turn};
@@ -100,7 +100,7 @@ pub fn push_selection(text: &mut Vec<u8>, number: u32) -> Result<(), AllocError>
     ensures { OnOk result (text.new.items ≡ text.old.items ++ line_of (spelled (UseAperture number))) }
 {
     text.extend_from_slice(b"D")?;
-    push_number(text, u64::from(number))?;
+    push_decimal(text, u64::from(number))?;
     text.extend_from_slice(b"*\n")
 }
 
@@ -204,7 +204,7 @@ pub fn push_open_block(text: &mut Vec<u8>, number: u32) -> Result<(), AllocError
     ensures { OnOk result (text.new.items ≡ text.old.items ++ line_of (spelled (EnterBlock number))) }
 {
     text.extend_from_slice(b"%ABD")?;
-    push_number(text, u64::from(number))?;
+    push_decimal(text, u64::from(number))?;
     text.extend_from_slice(b"*%\n")
 }
 
@@ -225,9 +225,9 @@ pub fn push_open_repeat(text: &mut Vec<u8>, grid: Grid) -> Result<(), AllocError
         ≡ text.old.items ++ line_of (spelled (EnterRepeat grid.columns grid.rows grid.i.0 grid.j.0))) }
 {
     text.extend_from_slice(b"%SRX")?;
-    push_number(text, u64::from(grid.columns))?;
+    push_decimal(text, u64::from(grid.columns))?;
     text.extend_from_slice(b"Y")?;
-    push_number(text, u64::from(grid.rows))?;
+    push_decimal(text, u64::from(grid.rows))?;
     push_steps(text, grid.i, grid.j)?;
     text.extend_from_slice(b"*%\n")
 }

@@ -10,7 +10,7 @@ ghost use Rattle.cam_writers.specs.Machinery.Tracking.{behind_comma, fields_text
 ghost use Rattle.cam_writers.specs.Machinery.Tracking.{primitive_lines};
 
 use crate::gerber_apertures::push_macro_name;
-use crate::lengths::{push_mm, push_number};
+use crate::lengths::{push_mm, push_decimal};
 use cam_apertures::Primitives;
 use cam_macros::{Prim, PrimShape};
 use cam_units::{Nm, Point};
@@ -48,7 +48,7 @@ fn push_outline(text: &mut Vec<u8>, points: &[Point]) -> Result<(), AllocError>
     ensures { OnOk result (text.new.items ≡ text.old.items ++ fields_text (shape_fields (Outline points.now))) }
 {
     text.extend_from_slice(b",")?;
-    push_number(text, points.len() as u64)?;
+    push_decimal(text, points.len() as u64)?;
     push_points(text, points)?;
     match points.first() {
         Some(first) => push_point(text, *first),

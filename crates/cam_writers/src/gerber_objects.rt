@@ -4,7 +4,7 @@ ghost use Rattle.std.specs.Prelude.{◌≡◌, ◌∷◌, All, OnOk};
 ghost use Rattle.std.specs.List.{flat_map};
 ghost use Rattle.cam_units.specs.Board.{IsOnBoard};
 ghost use Rattle.cam_objects.specs.Soundness.{points_of_contour, points_of_seg};
-ghost use Rattle.cam_writers.specs.GerberTexts.{Phrases, arc_mode, end_of, with_contour, with_object, with_objects};
+ghost use Rattle.cam_writers.specs.GerberTexts.{Phrases, arc_mode, with_contour, with_object, with_objects};
 ghost use Rattle.cam_writers.specs.GerberTexts.{with_segment, with_segments};
 ghost use Rattle.cam_writers.specs.Machinery.Tracking.{ArePoints, TracksPhrases};
 
@@ -24,16 +24,6 @@ fn arc_mode(ccw: bool) -> Mode
         Mode::Counterclockwise
     } else {
         Mode::Clockwise
-    }
-}
-
-/// The point where a segment ends.
-fn end_of(seg: &Seg) -> Point
-    ensures { result ≡ end_of seg.now }
-{
-    match seg {
-        Seg::Line { to } => *to,
-        Seg::Curve { to, .. } => *to,
     }
 }
 
@@ -67,7 +57,7 @@ impl GerberText {
         let mut here = start;
         for seg in segs {
             self.write_segment(here, seg)?;
-            here = end_of(seg);
+            here = seg.end();
         }
         Ok(())
     }

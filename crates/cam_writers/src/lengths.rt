@@ -18,7 +18,7 @@ fn last_digit(number: u64) -> u8
 }
 
 /// Writes a number at the text's end, without leading zeros.
-pub fn push_number(text: &mut Vec<u8>, number: u64) -> Result<(), AllocError>
+pub fn push_decimal(text: &mut Vec<u8>, number: u64) -> Result<(), AllocError>
     ensures { OnOk result (text.new.items ≡ text.old.items ++ decimal number) }
 {
     let mut buffer = Buffer::new();
@@ -30,7 +30,7 @@ pub fn push_number(text: &mut Vec<u8>, number: u64) -> Result<(), AllocError>
 fn push_unsigned_mm(text: &mut Vec<u8>, nm: u64) -> Result<(), AllocError>
     ensures { OnOk result (text.new.items ≡ text.old.items ++ unsigned_mm nm) }
 {
-    push_number(text, nm / MILLIMETRE)?;
+    push_decimal(text, nm / MILLIMETRE)?;
     text.extend_from_slice(&[
         b'.',
         last_digit(nm / 100_000),
@@ -60,5 +60,5 @@ pub fn push_whole(text: &mut Vec<u8>, length: Nm) -> Result<(), AllocError>
     if nm < 0 {
         text.push(b'-')?;
     }
-    push_number(text, nm.unsigned_abs())
+    push_decimal(text, nm.unsigned_abs())
 }

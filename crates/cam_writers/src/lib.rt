@@ -71,3 +71,4 @@ pub use laws::{
     drill_texts_read_back, drill_texts_tell_their_lines, drill_texts_write_again,
     gerber_texts_read_back, gerber_texts_tell_their_commands, gerber_texts_write_again,
 };
+pub use lengths::push_decimal;

@@ -10,9 +10,10 @@ ghost use Rattle.cam_macros.specs.Reading.{is_silent, pieces_between, parts_spok
 use crate::expression::Expression;
 use crate::fault::MacroFault;
 use crate::fields::Fields;
-use crate::parsing::pieces::{cut, variable};
+use crate::parsing::variables::variable;
 use crate::part::{Part, Parts};
 use cam_numbers::{Blanks, natural};
+use cam_words::cut;
 use std::alloc::Global;
 
 /// The expressions of the texts between commas; `Malformed` where one is outside the grammar.

@@ -14,7 +14,7 @@ ghost use Rattle.cam_macros.specs.Machinery.Scanning.{variable_then};
 use crate::expression::{Operator, Step};
 use crate::fault::MacroFault;
 use crate::parsing::mark::{Mark, mark_of};
-use crate::parsing::pieces::variable;
+use crate::parsing::variables::variable;
 use cam_numbers::{Blanks, unsigned_decimal};
 use std::alloc::{AllocError, Global};
 use std::marker::Model;

@@ -20,7 +20,7 @@ pub operated-requires : goal.operated-requires
 operated-requires c =
     let m = c.args.self.now.modal in
     let o = c.args.operation.now in
-    ap is_on_board c.end_of.ensures ∙ ap (λ s. is_on_board (end_of s)) c.in-Ok.ensures.ok
+    ap is_on_board c.end.ensures.value ∙ ap (λ s. is_on_board (end_of s)) c.in-Ok.ensures.ok
     ∙ ap is_on_board (end_same (mode_by m o) (moved_point m o) (centre_by m o)) ∙ c.in-Ok.ensures.on_board
 
 pub returns : goal.returns
@@ -28,4 +28,4 @@ returns c = λ past none t inside plots.
     segment_tracks past c.args.operation.now c.args.self.now _ c.operated.new.self c.in-Ok.seg t inside plots c.in-Ok.ensures.faults
     (lt-leb 1000000 (length c.args.self.now.region.segs.items) (omega arith))
     c.in-Ok.ensures.ok refl refl c.in_ok-push.ensures.items
-    (subst (λ to. IsOperated c.args.self.now.modal c.args.operation.now to c.operated.new.self) c.end_of.ensures c.operated.ensures)
+    (subst (λ to. IsOperated c.args.self.now.modal c.args.operation.now to c.operated.new.self) c.end.ensures.value c.operated.ensures)

@@ -32,7 +32,7 @@ pub operated-requires : goal.operated-requires
 operated-requires c =
     let m = c.args.self.now.modal in
     let o = c.args.operation.now in
-    ap is_on_board c.end_of.ensures ∙ ap (λ s. is_on_board (end_of s)) c.in-Ok.ensures.ok
+    ap is_on_board c.end.ensures.value ∙ ap (λ s. is_on_board (end_of s)) c.in-Ok.ensures.ok
     ∙ ap is_on_board (end_same (mode_by m o) (moved_point m o) (centre_by m o)) ∙ c.in-Ok.ensures.on_board
 
 pub returns : goal.returns
@@ -45,4 +45,4 @@ returns c = λ past none t out plots.
     (λ object leaves depth. sym c.if-is_full.false
     ∙ c.is_full.ensures past object (record { frames = t.frames; built = t.built }) (record { leaves = leaves; depth = depth }))
     (subst (λ made. Keeps made 1 c.args.self.now c.keep.new.self) c.stroke-object.ensures c.in_ok-keep.ensures)
-    (subst (λ to. IsOperated c.keep.new.self.modal c.args.operation.now to c.operated.new.self) c.end_of.ensures c.operated.ensures)
+    (subst (λ to. IsOperated c.keep.new.self.modal c.args.operation.now to c.operated.new.self) c.end.ensures.value c.operated.ensures)

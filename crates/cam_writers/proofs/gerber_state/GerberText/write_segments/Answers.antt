@@ -5,9 +5,9 @@ use Rattle.cam_writers.proofs.gerber_state.GerberText.write_segments.Goals as go
 
 pub loop-seg-preserved : goal.loop-seg-preserved
 loop-seg-preserved c = record {
-  here = c.end_of-here.ensures
+  here = c.end-here.ensures.value
       ∙ sym (end_more c.args.start c.args.segs.now c.loop-seg.seg-index _ c.loop-seg-test.true);
-  on_board = subst IsOnBoard (sym c.end_of-here.ensures)
+  on_board = subst IsOnBoard (sym c.end-here.ensures.value)
       (ends_on_board _ (c.requires.segs c.loop-seg.seg-index _ c.loop-seg-test.true));
   tracks =
       λ phrases h.

@@ -1,5 +1,5 @@
 use Rattle.std.proofs.Common.{◌≡◌, ℕ, ◌<◌, get_or}
-use Rattle.cam_apertures.proofs.definition.cut.Given as goal
+use Rattle.cam_words.proofs.pieces.cut.Given as goal
 
 abbrev pub invariant-loop-place : goal.invariant-loop-place
 invariant-loop-place l = (k : ℕ) → k < l.place → get_or l.text k 0 ≡ l.separator → ⊥

@@ -1,6 +1,6 @@
 use Rattle.std.proofs.Common.{arith}
-use Rattle.cam_macros.proofs.CutLemmas.{split_at, split_nowhere}
-use Rattle.cam_macros.proofs.parsing.pieces.cut.Goals as goal
+use Rattle.cam_words.proofs.CutLemmas.{split_at, split_nowhere}
+use Rattle.cam_words.proofs.pieces.cut.Goals as goal
 
 pub returns-then-byte-separator-clause-pieces : goal.returns-then-byte-separator-clause-pieces
 returns-then-byte-separator-clause-pieces c =
