@@ -9,6 +9,7 @@ pub mod Boxes
 pub mod Tracing
 pub mod Inside
 pub mod Runs
+pub mod Repeats
 pub mod Extents
 pub mod FirstCopies
 pub mod Measures

@@ -3,4 +3,5 @@
 pub(crate) mod layer;
 pub(crate) mod objects;
 pub(crate) mod prints;
+pub(crate) mod repeat;
 pub(crate) mod run;

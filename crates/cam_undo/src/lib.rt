@@ -2,6 +2,24 @@
 //!
 //! A [`History`] keeps the steps that lead back and on, in two rings of groups. Its contracts say that it does what
 //! keeping whole earlier and later documents would do.
+//!
+//! ```rust
+//! use cam_edits::{Reversible, Step};
+//! use cam_gerber::read_gerber;
+//! use cam_undo::{Counts, History};
+//!
+//! let mut layer = read_gerber(alloc, b"%FSLAX46Y46*%%MOMM*%%ADD10C,1*%D10*X0Y0D03*X2000000D03*M02*")?;
+//! let mut history = History::new(alloc, 100)?;
+//! let step = Step::Delete { k: 0 };
+//! assert!(rt; step.fits(&layer));
+//! history.accept(&mut layer, step)?;
+//! assert!(rt; layer.items().len() == 1);
+//! history.undo(&mut layer)?;
+//! assert!(rt; layer.items().len() == 2);
+//! assert!(rt; history.counts() == Counts { past: 0, future: 1, group: None });
+//! history.redo(&mut layer)?;
+//! assert!(rt; layer.items().len() == 1);
+//! ```
 #![tactic(auto)]
 
 mod fault;

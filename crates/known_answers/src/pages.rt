@@ -242,3 +242,51 @@ fn cam_writers(rt: HostRuntime) -> Result<(), Fail> {
     assert!(rt; text.as_slice() == canonical.as_slice());
     Ok(())
 }
+
+#[rattlefmt::skip]
+#[test]
+fn cam_edits(rt: HostRuntime) -> Result<(), Fail> {
+    let alloc = rt.alloc();
+    use cam_edits::{Board, BoardStep, Change, Edit, IndexedLayer, Name, Reversible, Sheet, SheetContent, plan};
+    use cam_gerber::read_gerber;
+    use std::slice::from_ref;
+
+    let layer = read_gerber(alloc, b"%FSLAX46Y46*%%MOMM*%%ADD10C,1*%D10*X0Y0D03*X2000000D03*M02*")?;
+    let content = SheetContent::Gerber(IndexedLayer::new(alloc, layer));
+    let mut board = Board::new(alloc);
+    board.add(Sheet { name: Name::from_string(String::from_str(alloc, "top")?), content })?;
+
+    let name = Name::from_string(String::from_str(alloc, "top")?);
+    let step = plan(alloc, &board, Edit { name, change: Change::Delete { k: 0 } })?;
+    // room is made before a step is played; the answer leads back
+    BoardStep::room(from_ref(&step), &mut board)?;
+    let back = step.play(&mut board);
+    assert!(rt; board.sheet(0).map(|sheet| sheet.content.item_count()) == Some(1));
+    BoardStep::room(from_ref(&back), &mut board)?;
+    assert!(rt; back.fits(&board));
+    back.play(&mut board);
+    assert!(rt; board.sheet(0).map(|sheet| sheet.content.item_count()) == Some(2));
+    Ok(())
+}
+
+#[rattlefmt::skip]
+#[test]
+fn cam_undo(rt: HostRuntime) -> Result<(), Fail> {
+    let alloc = rt.alloc();
+    use cam_edits::{Reversible, Step};
+    use cam_gerber::read_gerber;
+    use cam_undo::{Counts, History};
+
+    let mut layer = read_gerber(alloc, b"%FSLAX46Y46*%%MOMM*%%ADD10C,1*%D10*X0Y0D03*X2000000D03*M02*")?;
+    let mut history = History::new(alloc, 100)?;
+    let step = Step::Delete { k: 0 };
+    assert!(rt; step.fits(&layer));
+    history.accept(&mut layer, step)?;
+    assert!(rt; layer.items().len() == 1);
+    history.undo(&mut layer)?;
+    assert!(rt; layer.items().len() == 2);
+    assert!(rt; history.counts() == Counts { past: 0, future: 1, group: None });
+    history.redo(&mut layer)?;
+    assert!(rt; layer.items().len() == 1);
+    Ok(())
+}

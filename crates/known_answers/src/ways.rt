@@ -115,9 +115,6 @@ fn draw_alike(
 fn layer_agrees(alloc: Global, indexed: &IndexedLayer) -> Result<bool, RasterFault>
     requires { HasSoundItems indexed.now }
 {
-    let Some(cells) = indexed.cells() else {
-        return Ok(false);
-    };
     let layer = indexed.layer();
     draw_alike(
         alloc,
@@ -125,7 +122,7 @@ fn layer_agrees(alloc: Global, indexed: &IndexedLayer) -> Result<bool, RasterFau
             source: Source::gerber(layer),
         },
         &mut Source::gerber(layer),
-        &mut Source::gerber_by_cells(alloc, layer, cells, indexed.first_copies()),
+        &mut Source::gerber_by_cells(alloc, layer, indexed.cells(), indexed.first_copies()),
     )
 }
 
@@ -141,9 +138,6 @@ fn file_agrees(alloc: Global, file: &&[u8]) -> Result<bool, RasterFault> {
 fn drill_layer_agrees(alloc: Global, indexed: &IndexedDrillLayer) -> Result<bool, RasterFault>
     requires { IsSoundDrillLayer indexed.now }
 {
-    let Some(cells) = indexed.cells() else {
-        return Ok(false);
-    };
     let layer = indexed.layer();
     draw_alike(
         alloc,
@@ -151,7 +145,7 @@ fn drill_layer_agrees(alloc: Global, indexed: &IndexedDrillLayer) -> Result<bool
             source: Source::drill(layer),
         },
         &mut Source::drill(layer),
-        &mut Source::drill_by_cells(alloc, layer, cells),
+        &mut Source::drill_by_cells(alloc, layer, indexed.cells()),
     )
 }
 

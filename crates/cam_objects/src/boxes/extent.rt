@@ -133,32 +133,6 @@ impl Extent {
         }
     }
 
-    /// Whether one sees by its line alone that a draw covers no place of a box, in half nm: all of the box lies beyond it,
-    /// on one side. It becomes the extent of the aperture that it is drawn with.
-    pub(crate) fn line_misses(
-        &mut self,
-        entries: &Dictionary,
-        aperture: u32,
-        from: &Point,
-        to: &Point,
-        turn: Turn,
-        within: Bounds,
-    ) -> bool
-        requires extent { IsExtentIn entries.now self.old }
-        requires sound { IsSoundDictionary entries.now }
-        requires from { IsOnBoard from.now }
-        requires to { IsOnBoard to.now }
-        ensures off { IsTrue result → (dark : Bool) (s : Spot) → Holds within s → IsUncovered
-            (object_leaves (meaning_in entries.now) origin (Draw aperture from.now to.now turn dark)) s }
-        ensures extent { IsExtentIn entries.now self.new }
-    {
-        self.go_to(entries, aperture);
-        match self.tip {
-            Some(tip) => line_misses(from, to, &tip.turned(turn), within),
-            None => false,
-        }
-    }
-
     /// The box of what an object paints. It becomes the extent of the aperture that the object names.
     pub(crate) fn object_bounds(&mut self, entries: &Dictionary, object: &Object) -> Bounds
         requires extent { IsExtentIn entries.now self.old }
@@ -202,6 +176,38 @@ impl Extent {
                 }
             }
             Object::Region { contour, .. } => contour_bounds(contour),
+        }
+    }
+
+    /// Whether an object is a draw of which one sees by its line alone that it covers no place of a box, in half nm: all of
+    /// the box lies beyond the line, on one side. It becomes the extent of the aperture that is drawn with.
+    pub(crate) fn line_misses(
+        &mut self,
+        entries: &Dictionary,
+        object: &Object,
+        within: Bounds,
+    ) -> bool
+        requires extent { IsExtentIn entries.now self.old }
+        requires sound { IsSoundDictionary entries.now }
+        requires stands { StandsOnBoard object.now }
+        ensures off { IsTrue result → (s : Spot) → Holds within s → IsUncovered
+            (object_leaves (meaning_in entries.now) origin object.now) s }
+        ensures extent { IsExtentIn entries.now self.new }
+    {
+        let Object::Draw {
+            aperture,
+            from,
+            to,
+            turn,
+            ..
+        } = object
+        else {
+            return false;
+        };
+        self.go_to(entries, *aperture);
+        match self.tip {
+            Some(tip) => line_misses(from, to, &tip.turned(*turn), within),
+            None => false,
         }
     }
 }

@@ -18,7 +18,6 @@ use crate::boxes::first_copies::FirstCopies;
 use crate::cells::reach::{Measure, Reach};
 use crate::item::Item;
 use crate::layer::Layer;
-use crate::object::Object;
 use cam_units::Bounds;
 use std::marker::Model;
 
@@ -116,21 +115,10 @@ impl<'a> ItemBoxes<'a> {
         ensures layer { self.new ≡ self.old }
     {
         let layer = self.layer;
-        let Item::One(object) = &layer.items[place] else {
-            return false;
-        };
-        let Object::Draw {
-            aperture,
-            from,
-            to,
-            turn,
-            ..
-        } = object
-        else {
-            return false;
-        };
-        self.last
-            .line_misses(&layer.apertures, *aperture, from, to, *turn, within)
+        match &layer.items[place] {
+            Item::One(object) => self.last.line_misses(&layer.apertures, object, within),
+            Item::Repeat { .. } => false,
+        }
     }
 
     /// The cells that the box of the item at a place of the list reaches, and how many leaves it has. Takes no memory.

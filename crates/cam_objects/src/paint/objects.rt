@@ -122,7 +122,8 @@ pub(crate) fn paint_object<C: Canvas>(
             dark,
         } => {
             if let Some(tip) = tip(entries, upto, *aperture) {
-                paint_stroke(place, *from, *to, *turn, tip, *dark, canvas);
+                let tip = tip.turned(place.turned(*turn));
+                paint_stroke(place, *from, *to, tip, *dark, canvas);
             }
         }
         Object::Arc {

@@ -6,16 +6,15 @@ ghost use Rattle.cam_shapes.specs.Disc.{IsSoundDisc};
 ghost use Rattle.cam_shapes.specs.Placing.{IsPlaceable, IsPlaceablePoint, placed_contour, placed_direction};
 ghost use Rattle.cam_shapes.specs.Shifting.{IsShiftable};
 ghost use Rattle.cam_objects.specs.Canvases.{IsSoundFigure, IsSoundPrint, Paints, leaf_of, shape_of};
-ghost use Rattle.cam_objects.specs.Leaves.{Drilled, Filled, arc_leaves, draw_leaves, drawn, leaf, placed, polarity_in};
+ghost use Rattle.cam_objects.specs.Leaves.{Drilled, Filled, arc_leaves, drawn, leaf, placed, polarity_in};
 ghost use Rattle.cam_objects.specs.Machinery.Boxes.{IsSizedTip};
-ghost use Rattle.cam_objects.specs.Turning.{after};
 
 use crate::boxes::shapes::{contour_bounds, drawn_bounds, hole_bounds, sweep_bounds};
 use crate::canvas::{Canvas, Figure, Print, misses};
 use crate::placing::place::Place;
 use crate::tip::Tip;
 use cam_shapes::{Arc, Capsule, Contour, Disc, Swept};
-use cam_units::{Point, Turn};
+use cam_units::Point;
 
 /// Paints a leaf, if its box meets the canvas.
 pub(crate) fn paint_leaf<C: Canvas>(print: Print<'_>, canvas: &mut C)
@@ -47,12 +46,11 @@ fn drawn<'a>(from: Point, to: Point, tip: Tip) -> Figure<'a>
     }
 }
 
-/// Paints a straight stroke of a tip that is turned with its draw.
+/// Paints a straight stroke of a tip that lies as it does at the place.
 pub(crate) fn paint_stroke<C: Canvas>(
     place: &Place,
     from: Point,
     to: Point,
-    turn: Turn,
     tip: Tip,
     dark: bool,
     canvas: &mut C,
@@ -62,12 +60,11 @@ pub(crate) fn paint_stroke<C: Canvas>(
     requires to { IsPlaceablePoint place.now.turn place.now.offset to }
     requires tip { IsSizedTip tip }
     ensures { Paints C.has C.place C.ink canvas.old
-        (draw_leaves (Some tip) (after turn place.now.turn) (placed place.now from) (placed place.now to)
-        (polarity_in place.now.dark dark)) canvas.new }
+        (leaf (drawn tip (placed place.now from) (placed place.now to)) (polarity_in place.now.dark dark) ∷ [])
+        canvas.new }
 {
     let from = place.point(from);
     let to = place.point(to);
-    let tip = tip.turned(place.turned(turn));
     let print = Print {
         figure: drawn(from, to, tip),
         dark: place.polarity(dark),
