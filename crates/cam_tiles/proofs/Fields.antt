@@ -6,9 +6,10 @@ use Rattle.cam_units.specs.Board.{IsInReach, IsPlace}
 use Rattle.cam_units.specs.declared.point.Spot.{Spot}
 use Rattle.cam_rows.specs.Runs.{AreWideRows}
 use Rattle.cam_tiles.specs.declared.grid.Grid.{Grid}
+use Rattle.cam_tiles.specs.declared.masks.field.Field.{Field}
 use Rattle.cam_tiles.specs.Machinery.Levels.{height, levels_of}
 use Rattle.cam_tiles.specs.Machinery.Runs.{IsWideGrid}
-use Rattle.cam_tiles.specs.Machinery.Turning.{IsField}
+use Rattle.cam_tiles.specs.Machinery.Fields.{IsField}
 use Rattle.cam_tiles.specs.Tiles.{centre_in}
 use Rattle.cam_tiles.proofs.LevelRows.{of_grid}
 use Rattle.cam_tiles.proofs.RunColumns.{below_top}
@@ -28,15 +29,15 @@ field_of_wide g columns wide = record {
 
 -- ---- rows one below another
 
-pub field_rows : (g : Grid) (columns first : ℕ) (x y step : ℤ) (n m : ℕ) → x ≡ g.x
-    → y ≡ height (levels_of g) first → step ≡ g.step → IsField g columns → first + n ≤ g.rows → m ≡ n
-    → AreWideRows (record { x = x; y = y; step = step; n = columns }) m
-field_rows g columns first x y step n m is_x is_y is_step field within size k few =
+pub field_rows : (f : Field) (first : ℕ) (x y step : ℤ) (n m : ℕ) → x ≡ f.grid.x
+    → y ≡ height (levels_of f.grid) first → step ≡ f.grid.step → first + n ≤ f.grid.rows → m ≡ n
+    → AreWideRows (record { x = x; y = y; step = step; n = f.columns }) m
+field_rows f first x y step n m is_x is_y is_step within size k few =
     rw (is_x, is_y, is_step) (record {
-      count = field.count;
-      step = field.step;
-      centres = λ i inside. rw (below_top g columns first k i)
-          (field.centres i (first + k) inside (omega (arith, within, size, few)));
+      count = f.seen.count;
+      step = f.seen.step;
+      centres = λ i inside. rw (below_top f.grid f.columns first k i)
+          (f.seen.centres i (first + k) inside (omega (arith, within, size, few)));
     })
 
 -- a column lies right of the first

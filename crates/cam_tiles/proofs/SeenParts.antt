@@ -10,7 +10,7 @@ use Rattle.cam_units.proofs.Ring.Polynomial.{Atom, Difference, Product, Sum}
 use Rattle.cam_objects.specs.Image.{relative}
 use Rattle.cam_tiles.specs.declared.grid.Grid.{Grid}
 use Rattle.cam_tiles.specs.Machinery.Runs.{IsWideGrid, StandsAt}
-use Rattle.cam_tiles.specs.Machinery.Turning.{IsField}
+use Rattle.cam_tiles.specs.Machinery.Fields.{IsField}
 use Rattle.cam_tiles.specs.Machinery.Words.{part_seen}
 use Rattle.cam_tiles.specs.Tiles.{IsGrid, centre_in}
 use Rattle.cam_tiles.proofs.GridLemmas.{long}

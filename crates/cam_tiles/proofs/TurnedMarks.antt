@@ -19,7 +19,7 @@ use Rattle.cam_rows.specs.declared.centres.Centres.{Centres}
 use Rattle.cam_rows.specs.Rows.{first_centre, row_below}
 use Rattle.cam_rows.specs.Runs.{AreEnds, AreRuns, IsInRun}
 use Rattle.cam_tiles.proofs.MarkedColumns.{none_odd}
-use Rattle.cam_tiles.specs.declared.grid.Grid.{Grid}
+use Rattle.cam_tiles.specs.declared.masks.field.Field.{Field}
 use Rattle.cam_tiles.specs.declared.masks.heights.Heights.{Heights}
 use Rattle.cam_tiles.specs.Machinery.Levels.{IsOnRow, height, levels_of}
 use Rattle.cam_tiles.specs.Machinery.Masks.{IsWithin}
@@ -36,33 +36,33 @@ still_wide columns old new size wide = record {
   tiles = ap (λ n. n % 64) size ∙ wide.tiles;
 }
 
-module _ (g : Grid) (columns : ℕ) where
+module _ (f : Field) where
   pub turns_like : (P Q : Spot → Type 0) (old new : List ℕ) → ((s : Spot) → P s ↔ Q s)
-      → TurnsCentres g columns P old new → TurnsCentres g columns Q old new
+      → TurnsCentres f P old new → TurnsCentres f Q old new
   turns_like P Q old new alike h = record {
     each = λ column row near within.
-        turned_like _ _ _ _ (alike (centre_in g column row)) (h.each column row near within);
+        turned_like _ _ _ _ (alike (centre_in f.grid column row)) (h.each column row near within);
   }
 
   -- two more
-  pub turns_twice : (e f : Spot → Bool) (old between new : List ℕ)
-      → TurnsCentres g columns (λ s. IsTrue (e s)) old between
-      → TurnsCentres g columns (λ s. IsTrue (f s)) between new
-      → TurnsCentres g columns (λ s. IsTrue (differ (e s) (f s))) old new
-  turns_twice e f old between new h k = record {
+  pub turns_twice : (d e : Spot → Bool) (old between new : List ℕ)
+      → TurnsCentres f (λ s. IsTrue (d s)) old between
+      → TurnsCentres f (λ s. IsTrue (e s)) between new
+      → TurnsCentres f (λ s. IsTrue (differ (d s) (e s))) old new
+  turns_twice d e old between new h k = record {
     each = λ column row near within.
-        turned_twice (e (centre_in g column row)) (f (centre_in g column row)) _ _ _
+        turned_twice (d (centre_in f.grid column row)) (e (centre_in f.grid column row)) _ _ _
         (true_or_not (is_turned old row column)) (h.each column row near within) (k.each column row near within);
   }
 
   -- nothing more
   pub turns_nothing : (P : Spot → Type 0) (old : List ℕ)
-      → ((column row : ℕ) → row < g.rows → P (centre_in g column row) → ⊥) → TurnsCentres g columns P old old
+      → ((column row : ℕ) → row < f.grid.rows → P (centre_in f.grid column row) → ⊥) → TurnsCentres f P old old
   turns_nothing P old none = record { each = λ column row near within. not_turned _ _ (none column row within) }
 
   -- where a test says so
   abbrev pub TurnsSo : (Spot → Bool) → List ℕ → List ℕ → Type 0
-  TurnsSo test = TurnsCentres g columns (λ s. IsTrue (test s))
+  TurnsSo test = TurnsCentres f (λ s. IsTrue (test s))
 
   pub turning : Turning TurnsSo
   turning = record {
@@ -71,17 +71,17 @@ module _ (g : Grid) (columns : ℕ) where
   }
 
   pub marked_inside : (c : Contour) (old new : List ℕ) → TurnsSo (turns_side c) old new
-      → TurnsCentres g columns (λ s. IsInContour s c) old new
+      → TurnsCentres f (λ s. IsInContour s c) old new
   marked_inside c old new h = turns_like _ _ old new (λ s. inside_turned s c) h
 
   -- ---- segments
 
   pub curve_counted : (here to centre : Point) (ccw : Bool) (seg : Seg) (old between new : List ℕ)
       → seg ≡ Curve to centre ccw
-      → TurnsCentres g columns (λ s. IsTrue (crosses_ray s (edge here to))) old between
-      → TurnsCentres g columns
+      → TurnsCentres f (λ s. IsTrue (crosses_ray s (edge here to))) old between
+      → TurnsCentres f
       (λ s. IsTrue (is_in_cap s (record { from = here; to = to; centre = centre; ccw = ccw }))) between new
-      → TurnsCentres g columns (λ s. IsTrue (changes_side s here seg)) old new
+      → TurnsCentres f (λ s. IsTrue (changes_side s here seg)) old new
   curve_counted here to centre ccw seg old between new e h k =
       let cap : Cap = record { from = here; to = to; centre = centre; ccw = ccw } in
       rw e (turns_twice (λ s. crosses_ray s (edge here to)) (λ s. is_in_cap s cap) old between new h k)
@@ -89,17 +89,16 @@ module _ (g : Grid) (columns : ℕ) where
   -- ---- bands of rows
 
   -- what is turned in a band, outside which nothing is held
-  rows_turned : (first n : ℕ) (P : Spot → Type 0) (IsHeld : ℕ → ℕ → Type 0) (old new : List ℕ) → g.rows ≤ 64
-      → columns ≤ length old
-      → ((k i : ℕ) → k < n → i < columns → IsHeld k i ↔ P (centre_in g i (first + k)))
-      → ((column row : ℕ) → row < g.rows → P (centre_in g column row) → (first ≤ row) × (row < first + n))
-      → TurnsRows first n IsHeld old new → TurnsCentres g columns P old new
-  rows_turned first n P IsHeld old new few room each inside turned = record {
+  rows_turned : (first n : ℕ) (P : Spot → Type 0) (IsHeld : ℕ → ℕ → Type 0) (old new : List ℕ) → f.columns ≤ length old
+      → ((k i : ℕ) → k < n → i < f.columns → IsHeld k i ↔ P (centre_in f.grid i (first + k)))
+      → ((column row : ℕ) → row < f.grid.rows → P (centre_in f.grid column row) → (first ≤ row) × (row < first + n))
+      → TurnsRows first n IsHeld old new → TurnsCentres f P old new
+  rows_turned first n P IsHeld old new room each inside turned = record {
     each = λ column row near within.
-        let there : first ≤ row → row < first + n → IsHeld (row - first) column ↔ P (centre_in g column row) =
+        let there : first ≤ row → row < first + n → IsHeld (row - first) column ↔ P (centre_in f.grid column row) =
         λ after until.
         let same : first + (row - first) ≡ row = omega arith in
-        subst (λ r. IsHeld (row - first) column ↔ P (centre_in g column r)) same
+        subst (λ r. IsHeld (row - first) column ↔ P (centre_in f.grid column r)) same
         (each (row - first) column (omega arith) near) in
         turned_like _ _ _ _ (
           (λ on. (there on.0 on.1).0 on.2),
@@ -107,60 +106,60 @@ module _ (g : Grid) (columns : ℕ) where
               let band = inside column row within held in
               (band.0, band.1, (there band.0 band.1).1 held)),
         )
-        (turned row column (omega (arith, within, few)) (omega (arith, near, room)));
+        (turned row column (omega (arith, within, f.seen.rows)) (omega (arith, near, room)));
   }
 
-  module _ (first end : ℕ) (P : Spot → Type 0) (x y step : ℤ) (old new : List ℕ) (is_x : x ≡ g.x)
-      (is_y : y ≡ height (levels_of g) first) (is_step : step ≡ g.step) (some : first < end) (few : g.rows ≤ 64)
-      (room : columns ≤ length old)
-      (rows : (row : ℕ) (s : Spot) → IsOnRow (levels_of g) row s → P s → (first ≤ row) × (row < end)) where
-    in_rows : (n : ℕ) → n ≡ end - first → (column row : ℕ) → row < g.rows → P (centre_in g column row)
+  module _ (first end : ℕ) (P : Spot → Type 0) (x y step : ℤ) (old new : List ℕ) (is_x : x ≡ f.grid.x)
+      (is_y : y ≡ height (levels_of f.grid) first) (is_step : step ≡ f.grid.step) (some : first < end)
+      (room : f.columns ≤ length old)
+      (rows : (row : ℕ) (s : Spot) → IsOnRow (levels_of f.grid) row s → P s → (first ≤ row) × (row < end)) where
+    in_rows : (n : ℕ) → n ≡ end - first → (column row : ℕ) → row < f.grid.rows → P (centre_in f.grid column row)
         → (first ≤ row) × (row < first + n)
     in_rows n size column row within held =
-        let band = rows row (centre_in g column row) (within, refl) held in
+        let band = rows row (centre_in f.grid column row) (within, refl) held in
         (band.0, omega (arith, band.1, size, some))
 
     pub ends_turned : (n : ℕ) (last : ℕ → ℕ) → n ≡ end - first
-        → AreEnds last n (record { x = x; y = y; step = step; n = columns }) P
+        → AreEnds last n (record { x = x; y = y; step = step; n = f.columns }) P
         → TurnsRows first n (λ k column. column < last k) old new
-        → TurnsCentres g columns P old new
+        → TurnsCentres f P old new
     ends_turned n last size told turned =
         let each = rw (is_x, is_y, is_step) at told.each in
-        rows_turned first n P (λ k column. column < last k) old new few room
-        (λ k i under near. rw (below_top g columns first k i) at (each k i under near))
+        rows_turned first n P (λ k column. column < last k) old new room
+        (λ k i under near. rw (below_top f.grid f.columns first k i) at (each k i under near))
         (in_rows n size) turned
 
     pub runs_turned : (firsts ends : List ℕ) → length firsts ≡ end - first
-        → AreRuns firsts ends (record { x = x; y = y; step = step; n = columns }) P
+        → AreRuns firsts ends (record { x = x; y = y; step = step; n = f.columns }) P
         → TurnsRows first (length firsts) (λ k column. IsInRun (slice_index firsts k) (slice_index ends k) column) old new
-        → TurnsCentres g columns P old new
+        → TurnsCentres f P old new
     runs_turned firsts ends size told turned =
         let each = rw (is_x, is_y, is_step) at told.each in
         rows_turned first (length firsts) P
-        (λ k column. IsInRun (slice_index firsts k) (slice_index ends k) column) old new few room
-        (λ k i under near. rw (below_top g columns first k i) at (each k i under near))
+        (λ k column. IsInRun (slice_index firsts k) (slice_index ends k) column) old new room
+        (λ k i under near. rw (below_top f.grid f.columns first k i) at (each k i under near))
         (in_rows (length firsts) size) turned
 
   -- the top row of a band that an edge crosses, and those below it, as the code computes it
   pub top_crossed : (first end : ℕ) (p q : Point) (x y step : ℤ)
-      → y ≡ height (levels_of g) first → step ≡ g.step → end ≤ g.rows
-      → ((row : ℕ) (s : Spot) → IsOnRow (levels_of g) row s
+      → y ≡ height (levels_of f.grid) first → step ≡ f.grid.step → end ≤ f.grid.rows
+      → ((row : ℕ) (s : Spot) → IsOnRow (levels_of f.grid) row s
       → ((first ≤ row) × (row < end)) ↔ (is_above p s ≢ is_above q s))
       → (n : ℕ) → n ≡ end - first → (k : ℕ) → k < n
-      → (let top : Centres = record { x = x; y = y; step = step; n = columns } in
+      → (let top : Centres = record { x = x; y = y; step = step; n = f.columns } in
       is_above p (first_centre (row_below top k)) ≢ is_above q (first_centre (row_below top k)))
   top_crossed first end p q x y step is_y is_step low rows n size k few =
-      rw (is_y, is_step) ((rows (first + k) (first_centre (row_below (top_of g columns first) k))
-      (omega (arith, few, size, low), further_down g.y g.step first k)).0
+      rw (is_y, is_step) ((rows (first + k) (first_centre (row_below (top_of f.grid f.columns first) k))
+      (omega (arith, few, size, low), further_down f.grid.y f.grid.step first k)).0
       (omega arith, omega (arith, few, size)))
 
   -- a band without rows
   pub no_rows : (first end : ℕ) (h : Heights) (P : Spot → Type 0) (old : List ℕ) → end ≤ first
-      → ((row : ℕ) (s : Spot) → IsOnRow (levels_of g) row s → ((first ≤ row) × (row < end)) ↔ IsWithin h s)
-      → ((s : Spot) → P s → IsWithin h s) → TurnsCentres g columns P old old
+      → ((row : ℕ) (s : Spot) → IsOnRow (levels_of f.grid) row s → ((first ≤ row) × (row < end)) ↔ IsWithin h s)
+      → ((s : Spot) → P s → IsWithin h s) → TurnsCentres f P old old
   no_rows first end h P old empty rows heights =
       turns_nothing P old (λ column row within held.
-      let band = (rows row (centre_in g column row) (within, refl)).1 (heights (centre_in g column row) held) in
+      let band = (rows row (centre_in f.grid column row) (within, refl)).1 (heights (centre_in f.grid column row) held) in
       omega (arith, band.0, band.1, empty))
 
   -- ---- marks that are spread
@@ -178,22 +177,22 @@ module _ (g : Grid) (columns : ℕ) where
       (λ j _. blank (64 * j + row) 0))
 
   pub spread_inside : (P : Spot → Type 0) (blank turned spread : List ℕ)
-      → ((k : ℕ) → k < length blank → slice_index blank k ≡ 0) → g.rows ≤ 64 → columns ≤ length turned
-      → TurnsCentres g columns P blank turned → AreSpread turned spread → MarksCentres g columns P spread
-  spread_inside P blank turned spread none few room h told column row near within =
-      let same = told row column (omega (arith, within, few)) (omega (arith, near, room)) in
+      → ((k : ℕ) → k < length blank → slice_index blank k ≡ 0) → f.columns ≤ length turned
+      → TurnsCentres f P blank turned → AreSpread turned spread → MarksCentres f.grid f.columns P spread
+  spread_inside P blank turned spread none room h told column row near within =
+      let same = told row column (omega (arith, within, f.seen.rows)) (omega (arith, near, room)) in
       let even = nothing_turned blank none row column in
       from_even _ _ _ _ ((λ t. sym same ∙ t), (λ t. same ∙ t)) (λ t. false≢true (sym even ∙ t))
       (h.each column row near within)
 
   -- what is turned in words that were 0 is marked once that is spread; words behind them change none of it
-  pub marks_before : (P : Spot → Type 0) (n : ℕ) (blank turned spread rest : List ℕ) → g.rows ≤ 64
-      → columns ≤ 64 * n → length blank ≡ 64 * n → ((k : ℕ) → k < length blank → slice_index blank k ≡ 0)
-      → length turned ≡ length blank → length spread ≡ length turned → TurnsCentres g columns P blank turned
-      → AreSpread turned spread → MarksCentres g columns P (spread ++ rest)
-  marks_before P n blank turned spread rest few enough size none as_long as_long_still h told column row near within =
+  pub marks_before : (P : Spot → Type 0) (n : ℕ) (blank turned spread rest : List ℕ) → f.columns ≤ 64 * n
+      → length blank ≡ 64 * n → ((k : ℕ) → k < length blank → slice_index blank k ≡ 0)
+      → length turned ≡ length blank → length spread ≡ length turned → TurnsCentres f P blank turned
+      → AreSpread turned spread → MarksCentres f.grid f.columns P (spread ++ rest)
+  marks_before P n blank turned spread rest enough size none as_long as_long_still h told column row near within =
       let k = 64 * (column / 64) + row in
       let same : slice_index (spread ++ rest) k ≡ slice_index spread k =
-      get_or_append_left spread rest 0 k (omega (arith, near, within, few, enough, size, as_long, as_long_still)) in
-      rw same (spread_inside P blank turned spread none few (omega (arith, enough, size, as_long)) h told column row near
+      get_or_append_left spread rest 0 k (omega (arith, near, within, f.seen.rows, enough, size, as_long, as_long_still)) in
+      rw same (spread_inside P blank turned spread none (omega (arith, enough, size, as_long)) h told column row near
       within)

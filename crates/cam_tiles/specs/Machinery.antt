@@ -1,6 +1,7 @@
 -- Words of the contracts of inner functions: they mirror the code. A reader who trusts the definitions beside this
 -- folder has read all that the theorems mean.
 pub mod Drawn
+pub mod Fields
 pub mod Figures
 pub mod Indexes
 pub mod Inks

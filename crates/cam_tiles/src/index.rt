@@ -153,18 +153,32 @@ impl Index {
             return Ok(());
         }
         self.rows.go_to(&self.boxed, tile / window.across())?;
-        let numbers = self.rows.list();
-        let (left, right) = (low.x, high.x);
-        paint_all(
-            numbers,
-            &self.boxed,
-            &self.contours,
-            shown,
-            left,
-            right,
-            swath,
-        );
+        self.paint_listed(shown, low.x, high.x, swath);
         Ok(())
+    }
+
+    /// Paints the items of the list at hand, from the last one on, on tiles whose centres lie between two places across; none
+    /// once all is decided.
+    fn paint_listed(&self, shown: &Shown<'_>, left: i64, right: i64, swath: &mut Swath)
+        requires ready { IsReady shown.now }
+        requires numbers { All (λ k. k < length self.now.boxed.items) self.now.rows.reaching.items }
+        requires boxed { All (IsBoxed (leaves_by_item shown.now)) self.now.boxed.items }
+        requires contours { All (IsPartsOf (leaves_by_item shown.now)) self.now.contours.items }
+        requires sides { (column row : ℕ) → IsInSwath swath.old column row
+            → (left ≤ℤ (place_in swath.old column row).x) × ((place_in swath.old column row).x ≤ℤ right) }
+        ensures { PaintsSwath swath.old (numbered_leaves (leaves_by_item shown.now) self.now.boxed.items
+            self.now.rows.reaching.items) swath.new }
+    {
+        let numbers = self.rows.list();
+        for k in (0..numbers.len()).rev() {
+            if swath.is_done() {
+                return;
+            }
+            let item = &self.boxed[numbers[k] as usize];
+            if item.reaches(left, right) {
+                paint_item(item, &self.contours, shown, swath);
+            }
+        }
     }
 }
 
@@ -188,36 +202,6 @@ fn parts_and_rows(
     let contours = contours_of(alloc, shown, boxed)?;
     let lists = RowLists::new(alloc, boxed, rows)?;
     Ok((contours, lists))
-}
-
-/// Paints the items of some numbers, from the last one on, on tiles whose centres lie between two places across; none once
-/// all is decided.
-fn paint_all(
-    numbers: &[u32],
-    boxed: &[Boxed],
-    contours: &[ContourParts],
-    shown: &Shown<'_>,
-    left: i64,
-    right: i64,
-    swath: &mut Swath,
-)
-    requires numbers { All (λ k. k < length boxed.now) numbers.now }
-    requires boxed { All (IsBoxed (leaves_by_item shown.now)) boxed.now }
-    requires contours { All (IsPartsOf (leaves_by_item shown.now)) contours.now }
-    requires ready { IsReady shown.now }
-    requires sides { (column row : ℕ) → IsInSwath swath.old column row
-        → (left ≤ℤ (place_in swath.old column row).x) × ((place_in swath.old column row).x ≤ℤ right) }
-    ensures { PaintsSwath swath.old (numbered_leaves (leaves_by_item shown.now) boxed.now numbers.now) swath.new }
-{
-    for k in (0..numbers.len()).rev() {
-        if swath.is_done() {
-            return;
-        }
-        let item = &boxed[numbers[k] as usize];
-        if item.reaches(left, right) {
-            paint_item(item, contours, shown, swath);
-        }
-    }
 }
 
 /// The contour of an item that is a region of which the parts are known, and its polarity.

@@ -1,5 +1,6 @@
 //! Masks: which pixel centres of a tile are marked.
 
+pub(crate) mod field;
 pub(crate) mod figure_runs;
 pub(crate) mod figures;
 pub(crate) mod heights;

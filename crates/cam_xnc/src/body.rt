@@ -187,23 +187,22 @@ impl DrillState {
         Ok(())
     }
 
-    /// The fault of a slot.
+    /// The fault of a slot between two points.
     fn slot_fault(
         &self,
         start_x: Coordinate,
         start_y: Coordinate,
         end_x: Coordinate,
         end_y: Coordinate,
-        start: Point,
-        end: Point,
+        ends: (Point, Point),
     ) -> Option<Refusal>
         ensures first { (past : DrillPast) → Tracks past self.now
-            → result ≡ first_holding (slot_checks past start_x start_y end_x end_y start end (drill_mode_in past)) }
+            → result ≡ first_holding (slot_checks past start_x start_y end_x end_y ends.0 ends.1 (drill_mode_in past)) }
         ensures room { IfNone result (self.now.leaves.count + 1 ≤ leaf_limit) }
     {
         let malformed = are_malformed(start_x, start_y) || are_malformed(end_x, end_y);
         let pointless = are_pointless(start_x, start_y) || are_pointless(end_x, end_y);
-        let off = !(is_on_board(start) && is_on_board(end));
+        let off = !(is_on_board(ends.0) && is_on_board(ends.1));
         self.drilled_fault(malformed, pointless, off)
     }
 
@@ -219,7 +218,7 @@ impl DrillState {
     {
         let start = moved_point(self.unit, start_x, start_y, self.at);
         let end = moved_point(self.unit, end_x, end_y, start);
-        if let Some(code) = self.slot_fault(start_x, start_y, end_x, end_y, start, end) {
+        if let Some(code) = self.slot_fault(start_x, start_y, end_x, end_y, (start, end)) {
             return Err(Stop::Fault(code));
         }
         let tool = self.tool.unwrap_or(0);

@@ -16,11 +16,12 @@ ghost use Rattle.cam_objects.specs.Leaves.{Stamp, origin};
 ghost use Rattle.cam_rows.specs.Runs.{most_columns};
 ghost use Rattle.cam_tiles.specs.Machinery.Masks.{inked};
 ghost use Rattle.cam_tiles.specs.Machinery.Runs.{IsWideGrid};
-ghost use Rattle.cam_tiles.specs.Machinery.Turning.{AreWide, IsField};
+ghost use Rattle.cam_tiles.specs.Machinery.Turning.{AreWide};
 ghost use Rattle.cam_tiles.specs.Machinery.Words.{AreReached, JoinsCentres, part_seen};
 ghost use Rattle.cam_tiles.specs.Tiles.{IsGrid, centre_in};
 
 use crate::grid::Grid;
+use crate::masks::field::Field;
 use crate::masks::heights::{HasHeights, Heights};
 use crate::masks::join::Join;
 use crate::masks::marked::MarkShape;
@@ -72,69 +73,65 @@ impl<'a> MarkShape for PlacedMacro<'a> {
         marks.fill(0);
         for place in 0..self.prims.len() {
             let primitive = self.prims.at(place);
-            join_primitive(marks, spare, grid, columns, primitive, self.turn, self.at);
+            self.join_primitive(primitive, marks, spare, grid, columns);
         }
     }
 }
 
-/// Adds what a primitive paints, or clears what it takes back.
-fn join_primitive(
-    marks: &mut [u64],
-    spare: &mut [u64],
-    grid: &Grid,
-    columns: u32,
-    primitive: &Prim,
-    turn: Turn,
-    at: Point,
-)
-    requires grid { IsWideGrid grid.now columns }
-    requires wide { AreWide columns marks.old }
-    requires spare { 64 * ((columns + 63) / 64) ≤ length spare.old }
-    requires primitive { IsSoundPrim primitive.now }
-    requires at { IsOnBoard at }
-    ensures { JoinsCentres grid.now columns (inked primitive.now.paint)
-        (λ s. IsInShape (turned_shape turn primitive.now.shape) (relative at s)) marks.old marks.new }
-{
-    let how = Join::inked(primitive.paint);
-    match &primitive.shape {
-        PrimShape::Disc { centre, diameter } => {
-            let disc = Disc {
-                centre: turn.apply(*centre),
-                diameter: *diameter,
-            };
-            join_shape(marks, grid, columns, &disc, at, how);
-        }
-        PrimShape::Bar { from, to, width } => {
-            let bar = Bar {
-                from: turn.apply(*from),
-                to: turn.apply(*to),
-                width: *width,
-            };
-            join_shape(marks, grid, columns, &bar, at, how);
-        }
-        PrimShape::Rect {
-            centre,
-            width,
-            height,
-        } => {
-            let rectangle = Rectangle {
-                centre: turn.apply(*centre),
-                width: turned_width(turn, *width, *height),
-                height: turned_height(turn, *width, *height),
-            };
-            join_shape(marks, grid, columns, &rectangle, at, how);
-        }
-        PrimShape::Outline { points } => {
-            join_outline(
-                marks,
-                spare,
-                grid,
-                columns,
-                points.as_slice(),
-                turn,
-                at,
-                how,
-            );
+impl<'a> PlacedMacro<'a> {
+    /// Adds what a primitive of it paints, or clears what it takes back.
+    fn join_primitive(
+        &self,
+        primitive: &Prim,
+        marks: &mut [u64],
+        spare: &mut [u64],
+        grid: &Grid,
+        columns: u32,
+    )
+        requires at { IsOnBoard self.now.at }
+        requires primitive { IsSoundPrim primitive.now }
+        requires grid { IsWideGrid grid.now columns }
+        requires wide { AreWide columns marks.old }
+        requires spare { 64 * ((columns + 63) / 64) ≤ length spare.old }
+        ensures { JoinsCentres grid.now columns (inked primitive.now.paint)
+            (λ s. IsInShape (turned_shape self.now.turn primitive.now.shape) (relative self.now.at s))
+            marks.old marks.new }
+    {
+        let PlacedMacro { turn, at, .. } = *self;
+        let how = Join::inked(primitive.paint);
+        match &primitive.shape {
+            PrimShape::Disc { centre, diameter } => {
+                let disc = Disc {
+                    centre: turn.apply(*centre),
+                    diameter: *diameter,
+                };
+                join_shape(marks, grid, columns, &disc, at, how);
+            }
+            PrimShape::Bar { from, to, width } => {
+                let bar = Bar {
+                    from: turn.apply(*from),
+                    to: turn.apply(*to),
+                    width: *width,
+                };
+                join_shape(marks, grid, columns, &bar, at, how);
+            }
+            PrimShape::Rect {
+                centre,
+                width,
+                height,
+            } => {
+                let rectangle = Rectangle {
+                    centre: turn.apply(*centre),
+                    width: turned_width(turn, *width, *height),
+                    height: turned_height(turn, *width, *height),
+                };
+                join_shape(marks, grid, columns, &rectangle, at, how);
+            }
+            PrimShape::Outline { points } => {
+                let points = points.as_slice();
+                let outline = PlacedOutline { points, turn, at };
+                outline.join(marks, spare, grid, columns, how);
+            }
         }
     }
 }
@@ -159,67 +156,58 @@ fn join_shape<S: HasHeights>(
     join_wide(marks, columns, &runs, how);
 }
 
-/// Joins the columns with the inside of an outline that is turned about (0, 0), at a point: in the tiles alone that its box
-/// reaches.
-fn join_outline(
-    marks: &mut [u64],
-    spare: &mut [u64],
-    grid: &Grid,
-    columns: u32,
-    points: &[Point],
+/// The polygon through points, mirrored and turned about the flash point, which comes to lie at a point.
+#[derive(Clone, Copy)]
+struct PlacedOutline<'a> {
+    points: &'a [Point],
     turn: Turn,
     at: Point,
-    how: Join,
-)
-    requires grid { IsWideGrid grid.now columns }
-    requires wide { AreWide columns marks.old }
-    requires spare { 64 * ((columns + 63) / 64) ≤ length spare.old }
-    requires points { IsSoundOutline points.now }
-    requires at { IsOnBoard at }
-    ensures { JoinsCentres grid.now columns how
-        (λ s. IsInContour (relative at s) (placed_contour turn origin.offset (outline_of points.now)))
-        marks.old marks.new }
-{
-    let bounds = turned_bounds(points, turn);
-    let tiles = reached_tiles(grid, columns, bounds, at);
-    if tiles.end <= tiles.first {
-        return;
+}
+
+impl<'a> PlacedOutline<'a> {
+    /// Joins the columns with its inside, in the tiles alone that its box reaches.
+    fn join(&self, marks: &mut [u64], spare: &mut [u64], grid: &Grid, columns: u32, how: Join)
+        requires points { IsSoundOutline self.now.points.now }
+        requires at { IsOnBoard self.now.at }
+        requires grid { IsWideGrid grid.now columns }
+        requires wide { AreWide columns marks.old }
+        requires spare { 64 * ((columns + 63) / 64) ≤ length spare.old }
+        ensures { JoinsCentres grid.now columns how (λ s. IsInContour (relative self.now.at s)
+            (placed_contour self.now.turn origin.offset (outline_of self.now.points.now))) marks.old marks.new }
+    {
+        let PlacedOutline { points, turn, at } = *self;
+        let bounds = turned_bounds(points, turn);
+        let tiles = reached_tiles(grid, columns, bounds, at);
+        if tiles.end <= tiles.first {
+            return;
+        }
+        let first = 64 * tiles.first;
+        let end = 64 * tiles.end;
+        let marks = &mut marks[first as usize..end as usize];
+        let spare = &mut spare[..(end - first) as usize];
+        let part = grid.part_seen(tiles.first, at);
+        let field = Field::new(part, columns.min(end) - first);
+        join_inside(marks, spare, &field, points, turn, how);
     }
-    let first = 64 * tiles.first;
-    let end = 64 * tiles.end;
-    let marks = &mut marks[first as usize..end as usize];
-    let spare = &mut spare[..(end - first) as usize];
-    let part = grid.part_seen(tiles.first, at);
-    join_inside(
-        marks,
-        spare,
-        &part,
-        columns.min(end) - first,
-        points,
-        turn,
-        how,
-    );
 }
 
 /// Joins the columns with the inside of an outline that is turned about (0, 0), by marks of as many tiles.
 fn join_inside(
     marks: &mut [u64],
     spare: &mut [u64],
-    grid: &Grid,
-    columns: u32,
+    field: &Field,
     points: &[Point],
     turn: Turn,
     how: Join,
 )
-    requires grid { IsField grid.now columns }
-    requires wide { AreWide columns marks.old }
+    requires wide { AreWide field.now.columns marks.old }
     requires same { length spare.old ≡ length marks.old }
     requires points { IsSoundOutline points.now }
-    ensures { JoinsCentres grid.now columns how
+    ensures { JoinsCentres field.now.grid field.now.columns how
         (λ s. IsInContour s (placed_contour turn origin.offset (outline_of points.now))) marks.old marks.new }
 {
     spare.fill(0);
-    turn_outline(spare, grid, columns, points, turn);
+    turn_outline(spare, field, points, turn);
     spread_marks(spare);
     join_words(marks, spare, how);
 }

@@ -1,21 +1,20 @@
 //! The insides of contours in the rows of tiles side by side, by parts: of a long contour, most parts lie above or below
 //! the rows of a tile, and are passed over by their heights.
 
-ghost use Rattle.std.specs.Prelude.{◌≡◌, ◌<◌, ℕ, All, IsTrue};
+ghost use Rattle.std.specs.Prelude.{◌≡◌, All, IsTrue};
 ghost use Rattle.cam_units.specs.Board.{IsOnBoard};
 ghost use Rattle.cam_shapes.specs.Contour.{IsInContour, IsSoundSeg};
 ghost use Rattle.cam_objects.specs.Leaves.{Filled};
-ghost use Rattle.cam_tiles.specs.Machinery.Masks.{IsWithin};
 ghost use Rattle.cam_tiles.specs.Machinery.Parts.{ChangeWithin, IsParted, behind_part, change_sides, end_from, first_part};
-ghost use Rattle.cam_tiles.specs.Machinery.Turning.{AreWide, IsField, TurnsCentres};
-ghost use Rattle.cam_tiles.specs.Tiles.{centre_in};
+ghost use Rattle.cam_tiles.specs.Machinery.Turning.{AreWide, TurnsCentres};
 
 use crate::grid::Grid;
+use crate::masks::field::Field;
 use crate::masks::heights::Heights;
 use crate::masks::marked::MarkShape;
 use crate::masks::marks::spread_marks;
 use crate::masks::segments::end_of;
-use crate::masks::turning::{row_heights, turn_edge, turn_segment};
+use crate::masks::turning::{turn_edge, turn_segment};
 use cam_shapes::{Contour, Seg};
 use cam_units::Point;
 
@@ -38,7 +37,8 @@ impl<'a> MarkShape for PartedContour<'a> {
         let words = 64 * columns.div_ceil(64) as usize;
         let marks = &mut marks[..words];
         marks.fill(0);
-        turn_parts(marks, grid, columns, self.contour, self.heights);
+        let field = Field::new(*grid, columns);
+        turn_parts(marks, &field, self.contour, self.heights);
         spread_marks(marks);
     }
 }
@@ -62,71 +62,50 @@ pub(crate) fn end_from(here: Point, segs: &[Seg]) -> Point
 }
 
 /// Counts a contour: its parts one after another, and the line that closes it.
-fn turn_parts(marks: &mut [u64], grid: &Grid, columns: u32, contour: &Contour, heights: &[Heights])
-    requires grid { IsField grid.now columns }
-    requires wide { AreWide columns marks.old }
+fn turn_parts(marks: &mut [u64], field: &Field, contour: &Contour, heights: &[Heights])
+    requires wide { AreWide field.now.columns marks.old }
     requires parted { IsParted contour.now heights.now }
-    ensures { TurnsCentres grid.now columns (λ s. IsInContour s contour.now) marks.old marks.new }
+    ensures { TurnsCentres field.now (λ s. IsInContour s contour.now) marks.old marks.new }
 {
-    let rows = row_heights(grid);
     let mut here = contour.start;
     let mut rest = contour.segs.as_slice();
     for part_heights in heights {
         let (part, behind) = split_part(rest);
-        here = turn_met(marks, grid, columns, rows, *part_heights, here, part);
+        here = turn_met(marks, field, *part_heights, here, part);
         rest = behind;
     }
     // The parts are all there is: were something left behind them, it would be counted as well.
-    let end = turn_part(marks, grid, columns, rows, here, rest);
-    turn_edge(marks, grid, columns, end, contour.start);
+    let end = turn_part(marks, field, here, rest);
+    turn_edge(marks, field, end, contour.start);
 }
 
 /// Counts a part of a contour from a point, unless it lies above or below the rows, and tells where it ends.
 #[inline]
-fn turn_met(
-    marks: &mut [u64],
-    grid: &Grid,
-    columns: u32,
-    rows: Heights,
-    heights: Heights,
-    here: Point,
-    part: &[Seg],
-) -> Point
-    requires grid { IsField grid.now columns }
-    requires wide { AreWide columns marks.old }
-    requires rows { (column row : ℕ) → row < grid.now.rows → IsWithin rows (centre_in grid.now column row) }
+fn turn_met(marks: &mut [u64], field: &Field, heights: Heights, here: Point, part: &[Seg]) -> Point
+    requires wide { AreWide field.now.columns marks.old }
     requires heights { ChangeWithin heights here part.now }
     requires here { IsOnBoard here }
     requires part { All IsSoundSeg part.now }
     ensures end { result ≡ end_from here part.now }
-    ensures turned { TurnsCentres grid.now columns (λ s. IsTrue (change_sides s here part.now)) marks.old marks.new }
+    ensures turned { TurnsCentres field.now (λ s. IsTrue (change_sides s here part.now)) marks.old marks.new }
 {
-    if heights.are_apart(rows) {
+    if heights.are_apart(field.rows) {
         return end_from(here, part);
     }
-    turn_part(marks, grid, columns, rows, here, part)
+    turn_part(marks, field, here, part)
 }
 
 /// Counts segments from a point, one after another, and tells where they end.
-fn turn_part(
-    marks: &mut [u64],
-    grid: &Grid,
-    columns: u32,
-    rows: Heights,
-    from: Point,
-    part: &[Seg],
-) -> Point
-    requires grid { IsField grid.now columns }
-    requires wide { AreWide columns marks.old }
-    requires rows { (column row : ℕ) → row < grid.now.rows → IsWithin rows (centre_in grid.now column row) }
+fn turn_part(marks: &mut [u64], field: &Field, from: Point, part: &[Seg]) -> Point
+    requires wide { AreWide field.now.columns marks.old }
     requires from { IsOnBoard from }
     requires part { All IsSoundSeg part.now }
     ensures end { result ≡ end_from from part.now }
-    ensures turned { TurnsCentres grid.now columns (λ s. IsTrue (change_sides s from part.now)) marks.old marks.new }
+    ensures turned { TurnsCentres field.now (λ s. IsTrue (change_sides s from part.now)) marks.old marks.new }
 {
     let mut here = from;
     for seg in part {
-        turn_segment(marks, grid, columns, rows, here, *seg);
+        turn_segment(marks, field, here, *seg);
         here = end_of(*seg);
     }
     here

@@ -1,7 +1,7 @@
 //! The insides of contours that are placed, and of outlines of macros, in the rows of tiles side by side: each segment is
 //! placed and counted once for all of them.
 
-ghost use Rattle.std.specs.Prelude.{◌≡◌, ◌<◌, ℕ, All, IsTrue, map};
+ghost use Rattle.std.specs.Prelude.{◌≡◌, All, IsTrue, map};
 ghost use Rattle.cam_units.specs.Board.{IsOnBoard};
 ghost use Rattle.cam_shapes.specs.declared.segments.Seg.{Seg};
 ghost use Rattle.cam_shapes.specs.Contour.{IsInContour, end_of};
@@ -9,17 +9,15 @@ ghost use Rattle.cam_shapes.specs.Outline.{lines_to, outline_of};
 ghost use Rattle.cam_shapes.specs.Placing.{IsOffset, IsPlaceable, IsPlaceablePoint, IsPlaceableSeg, placed_contour, placed_seg};
 ghost use Rattle.cam_shapes.specs.Sides.{change_side, changes_side};
 ghost use Rattle.cam_objects.specs.Leaves.{Filled, origin};
-ghost use Rattle.cam_tiles.specs.Machinery.Masks.{IsWithin};
-ghost use Rattle.cam_tiles.specs.Machinery.Turning.{AreWide, IsField, TurnsCentres};
-ghost use Rattle.cam_tiles.specs.Tiles.{centre_in};
+ghost use Rattle.cam_tiles.specs.Machinery.Turning.{AreWide, TurnsCentres};
 
 use crate::grid::Grid;
-use crate::masks::heights::Heights;
+use crate::masks::field::Field;
 use crate::masks::marked::MarkShape;
 use crate::masks::marks::spread_marks;
 use crate::masks::mask::ORIGIN;
 use crate::masks::segments::end_of;
-use crate::masks::turning::{row_heights, turn_edge, turn_line, turn_segment};
+use crate::masks::turning::{turn_edge, turn_line, turn_segment};
 use cam_shapes::{Contour, Placing, Seg};
 use cam_units::{Point, Turn};
 
@@ -39,27 +37,26 @@ impl<'a> MarkShape for PlacedContour<'a> {
         let words = 64 * columns.div_ceil(64) as usize;
         let marks = &mut marks[..words];
         marks.fill(0);
-        turn_contour(marks, grid, columns, self.contour, self.placing);
+        let field = Field::new(*grid, columns);
+        turn_contour(marks, &field, self.contour, self.placing);
         spread_marks(marks);
     }
 }
 
 /// Counts a contour that is placed: its segments one after another, and the line that closes it.
-fn turn_contour(marks: &mut [u64], grid: &Grid, columns: u32, contour: &Contour, placing: Placing)
-    requires grid { IsField grid.now columns }
-    requires wide { AreWide columns marks.old }
+fn turn_contour(marks: &mut [u64], field: &Field, contour: &Contour, placing: Placing)
+    requires wide { AreWide field.now.columns marks.old }
     requires contour { IsPlaceable placing.turn placing.offset contour.now }
-    ensures { TurnsCentres grid.now columns
+    ensures { TurnsCentres field.now
         (λ s. IsInContour s (placed_contour placing.turn placing.offset contour.now)) marks.old marks.new }
 {
     let start = placing.point(contour.start);
     let stays = keeps_segs(placing);
-    let rows = row_heights(grid);
     let mut here = start;
     for seg in contour.segs.as_slice() {
-        here = turn_placed(marks, grid, columns, rows, placing, stays, here, seg);
+        here = turn_placed(marks, field, placing, stays, here, seg);
     }
-    turn_edge(marks, grid, columns, here, start);
+    turn_edge(marks, field, here, start);
 }
 
 /// Whether all segments are placed where they are.
@@ -76,49 +73,38 @@ fn keeps_segs(placing: Placing) -> bool
 #[inline]
 fn turn_placed(
     marks: &mut [u64],
-    grid: &Grid,
-    columns: u32,
-    rows: Heights,
+    field: &Field,
     placing: Placing,
     stays: bool,
     here: Point,
     seg: &Seg,
 ) -> Point
-    requires grid { IsField grid.now columns }
-    requires wide { AreWide columns marks.old }
-    requires rows { (column row : ℕ) → row < grid.now.rows → IsWithin rows (centre_in grid.now column row) }
+    requires wide { AreWide field.now.columns marks.old }
     requires here { IsOnBoard here }
     requires offset { IsOffset placing.offset }
     requires seg { IsPlaceableSeg placing.turn placing.offset seg.now }
     requires stays { IsTrue stays → (seg : Seg) → placed_seg placing.turn placing.offset seg ≡ seg }
     ensures end { result ≡ end_of (placed_seg placing.turn placing.offset seg.now) }
     ensures board { IsOnBoard result }
-    ensures turned { TurnsCentres grid.now columns
+    ensures turned { TurnsCentres field.now
         (λ s. IsTrue (changes_side s here (placed_seg placing.turn placing.offset seg.now))) marks.old marks.new }
 {
     if stays {
         if let Seg::Line { to } = seg {
-            turn_line(marks, grid, columns, rows, here, *to);
+            turn_line(marks, field, here, *to);
             return *to;
         }
     }
     let seg = placing.seg(*seg);
-    turn_segment(marks, grid, columns, rows, here, seg);
+    turn_segment(marks, field, here, seg);
     end_of(seg)
 }
 
 /// Counts the polygon through points that are turned about (0, 0), in the rows of a grid that may be seen from a point.
-pub(crate) fn turn_outline(
-    marks: &mut [u64],
-    grid: &Grid,
-    columns: u32,
-    points: &[Point],
-    turn: Turn,
-)
-    requires grid { IsField grid.now columns }
-    requires wide { AreWide columns marks.old }
+pub(crate) fn turn_outline(marks: &mut [u64], field: &Field, points: &[Point], turn: Turn)
+    requires wide { AreWide field.now.columns marks.old }
     requires points { All (IsPlaceablePoint turn origin.offset) points.now }
-    ensures { TurnsCentres grid.now columns
+    ensures { TurnsCentres field.now
         (λ s. IsInContour s (placed_contour turn origin.offset (outline_of points.now))) marks.old marks.new }
 {
     let [first, others @ ..] = points else {
@@ -129,32 +115,23 @@ pub(crate) fn turn_outline(
         offset: ORIGIN,
     };
     let start = placing.point(*first);
-    turn_lines(marks, grid, columns, start, others, placing);
+    turn_lines(marks, field, start, others, placing);
 }
 
 /// Counts the edges of the closed polygon from a point, which is placed, through others.
-fn turn_lines(
-    marks: &mut [u64],
-    grid: &Grid,
-    columns: u32,
-    first: Point,
-    others: &[Point],
-    placing: Placing,
-)
-    requires grid { IsField grid.now columns }
-    requires wide { AreWide columns marks.old }
+fn turn_lines(marks: &mut [u64], field: &Field, first: Point, others: &[Point], placing: Placing)
+    requires wide { AreWide field.now.columns marks.old }
     requires first { IsOnBoard first }
     requires offset { IsOffset placing.offset }
     requires others { All (IsPlaceablePoint placing.turn placing.offset) others.now }
-    ensures { TurnsCentres grid.now columns (λ s. IsTrue (change_side s first first
+    ensures { TurnsCentres field.now (λ s. IsTrue (change_side s first first
         (map (placed_seg placing.turn placing.offset) (lines_to others.now)))) marks.old marks.new }
 {
-    let rows = row_heights(grid);
     let mut here = first;
     for point in others {
         let next = placing.point(*point);
-        turn_line(marks, grid, columns, rows, here, next);
+        turn_line(marks, field, here, next);
         here = next;
     }
-    turn_edge(marks, grid, columns, here, first);
+    turn_edge(marks, field, here, first);
 }

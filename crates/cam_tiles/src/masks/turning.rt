@@ -8,12 +8,11 @@ ghost use Rattle.cam_shapes.specs.Cap.{IsSoundCap, is_in_cap};
 ghost use Rattle.cam_shapes.specs.Contour.{IsSoundSeg};
 ghost use Rattle.cam_shapes.specs.Edge.{crosses_ray, edge, is_above};
 ghost use Rattle.cam_shapes.specs.Sides.{changes_side};
-ghost use Rattle.cam_tiles.specs.Machinery.Levels.{AreLevels, IsOnRow, levels_of};
+ghost use Rattle.cam_tiles.specs.Machinery.Levels.{IsOnRow, levels_of};
 ghost use Rattle.cam_tiles.specs.Machinery.Masks.{IsWithin};
-ghost use Rattle.cam_tiles.specs.Machinery.Turning.{AreWide, IsField, TurnsCentres};
-ghost use Rattle.cam_tiles.specs.Tiles.{centre_in};
+ghost use Rattle.cam_tiles.specs.Machinery.Turning.{AreWide, TurnsCentres};
 
-use crate::grid::Grid;
+use crate::masks::field::Field;
 use crate::masks::heights::{HasHeights, Heights};
 use crate::masks::marks::{mark_column, mark_ends, mark_runs};
 use crate::masks::segments::crossed_heights;
@@ -22,37 +21,16 @@ use cam_rows::{Centres, cap_runs, edge_runs};
 use cam_shapes::{Cap, Seg};
 use cam_units::Point;
 
-/// The heights of all rows of a grid, by which lines are passed over that lie above or below them.
-#[inline]
-pub(crate) fn row_heights(grid: &Grid) -> Heights
-    requires { AreLevels (levels_of grid.now) }
-    ensures { (column row : ℕ) → row < grid.now.rows → IsWithin result (centre_in grid.now column row) }
-{
-    Heights {
-        low: grid.levels().bottom(),
-        high: grid.y,
-    }
-}
-
 /// Counts what a segment from a point changes.
 #[inline]
-pub(crate) fn turn_segment(
-    marks: &mut [u64],
-    grid: &Grid,
-    columns: u32,
-    rows: Heights,
-    here: Point,
-    seg: Seg,
-)
-    requires grid { IsField grid.now columns }
-    requires wide { AreWide columns marks.old }
-    requires rows { (column row : ℕ) → row < grid.now.rows → IsWithin rows (centre_in grid.now column row) }
+pub(crate) fn turn_segment(marks: &mut [u64], field: &Field, here: Point, seg: Seg)
+    requires wide { AreWide field.now.columns marks.old }
     requires here { IsOnBoard here }
     requires seg { IsSoundSeg seg }
-    ensures { TurnsCentres grid.now columns (λ s. IsTrue (changes_side s here seg)) marks.old marks.new }
+    ensures { TurnsCentres field.now (λ s. IsTrue (changes_side s here seg)) marks.old marks.new }
 {
     match seg {
-        Seg::Line { to } => turn_line(marks, grid, columns, rows, here, to),
+        Seg::Line { to } => turn_line(marks, field, here, to),
         Seg::Curve { to, centre, ccw } => {
             let cap = Cap {
                 from: here,
@@ -60,8 +38,8 @@ pub(crate) fn turn_segment(
                 centre,
                 ccw,
             };
-            turn_line(marks, grid, columns, rows, here, to);
-            turn_cap(marks, grid, columns, &cap);
+            turn_line(marks, field, here, to);
+            turn_cap(marks, field, &cap);
         }
     }
 }
@@ -78,73 +56,61 @@ fn is_beyond(rows: Heights, from: Point, to: Point) -> bool
 
 /// Counts a line: most of a long contour are passed over by their heights alone.
 #[inline]
-pub(crate) fn turn_line(
-    marks: &mut [u64],
-    grid: &Grid,
-    columns: u32,
-    rows: Heights,
-    from: Point,
-    to: Point,
-)
-    requires grid { IsField grid.now columns }
-    requires wide { AreWide columns marks.old }
-    requires rows { (column row : ℕ) → row < grid.now.rows → IsWithin rows (centre_in grid.now column row) }
+pub(crate) fn turn_line(marks: &mut [u64], field: &Field, from: Point, to: Point)
+    requires wide { AreWide field.now.columns marks.old }
     requires from { IsOnBoard from }
     requires to { IsOnBoard to }
-    ensures { TurnsCentres grid.now columns (λ s. IsTrue (crosses_ray s (edge from to))) marks.old marks.new }
+    ensures { TurnsCentres field.now (λ s. IsTrue (crosses_ray s (edge from to))) marks.old marks.new }
 {
-    if is_beyond(rows, from, to) {
+    if is_beyond(field.rows, from, to) {
         return;
     }
-    turn_edge(marks, grid, columns, from, to);
+    turn_edge(marks, field, from, to);
 }
 
 /// Counts an edge: in each row that it crosses by one mark, where it does not lie left of all columns.
-pub(crate) fn turn_edge(marks: &mut [u64], grid: &Grid, columns: u32, from: Point, to: Point)
-    requires grid { IsField grid.now columns }
-    requires wide { AreWide columns marks.old }
+pub(crate) fn turn_edge(marks: &mut [u64], field: &Field, from: Point, to: Point)
+    requires wide { AreWide field.now.columns marks.old }
     requires from { IsOnBoard from }
     requires to { IsOnBoard to }
-    ensures { TurnsCentres grid.now columns (λ s. IsTrue (crosses_ray s (edge from to))) marks.old marks.new }
+    ensures { TurnsCentres field.now (λ s. IsTrue (crosses_ray s (edge from to))) marks.old marks.new }
 {
-    if 2 * from.x.max(to.x) <= grid.x {
+    if 2 * from.x.max(to.x) <= field.grid.x {
         return;
     }
-    let band = grid.levels().band(crossed_heights(from, to));
+    let band = field.grid.levels().band(crossed_heights(from, to));
     if band.end <= band.first {
         return;
     }
     let mut ends = [0u32; 64];
     let ends = &mut ends[..(band.end - band.first) as usize];
-    turn_crossed(marks, grid, columns, from, to, band, ends);
+    turn_crossed(marks, field, from, to, band, ends);
 }
 
 /// Counts an edge in the rows that it crosses, of which each takes up one of some numbers.
 fn turn_crossed(
     marks: &mut [u64],
-    grid: &Grid,
-    columns: u32,
+    field: &Field,
     from: Point,
     to: Point,
     band: Span,
     ends: &mut [u32],
 )
-    requires grid { IsField grid.now columns }
-    requires wide { AreWide columns marks.old }
+    requires wide { AreWide field.now.columns marks.old }
     requires from { IsOnBoard from }
     requires to { IsOnBoard to }
     requires some { band.first < band.end }
-    requires low { band.end ≤ grid.now.rows }
-    requires rows { (row : ℕ) (s : Spot) → IsOnRow (levels_of grid.now) row s
+    requires low { band.end ≤ field.now.grid.rows }
+    requires rows { (row : ℕ) (s : Spot) → IsOnRow (levels_of field.now.grid) row s
         → ((band.first ≤ row) × (row < band.end)) ↔ (is_above from s ≢ is_above to s) }
     requires size { length ends.old ≡ band.end - band.first }
-    ensures { TurnsCentres grid.now columns (λ s. IsTrue (crosses_ray s (edge from to))) marks.old marks.new }
+    ensures { TurnsCentres field.now (λ s. IsTrue (crosses_ray s (edge from to))) marks.old marks.new }
 {
     let top = Centres {
-        x: grid.x,
-        y: grid.levels().height(band.first),
-        step: grid.step,
-        n: columns,
+        x: field.grid.x,
+        y: field.grid.levels().height(band.first),
+        step: field.grid.step,
+        n: field.columns,
     };
     match edge_runs(from, to, &top, ends) {
         Some(end) => mark_column(marks, band.first, ends.len(), end),
@@ -153,13 +119,12 @@ fn turn_crossed(
 }
 
 /// Counts a cap: in each row that it may reach by its run.
-fn turn_cap(marks: &mut [u64], grid: &Grid, columns: u32, cap: &Cap)
-    requires grid { IsField grid.now columns }
-    requires wide { AreWide columns marks.old }
+fn turn_cap(marks: &mut [u64], field: &Field, cap: &Cap)
+    requires wide { AreWide field.now.columns marks.old }
     requires cap { IsSoundCap cap.now }
-    ensures { TurnsCentres grid.now columns (λ s. IsTrue (is_in_cap s cap.now)) marks.old marks.new }
+    ensures { TurnsCentres field.now (λ s. IsTrue (is_in_cap s cap.now)) marks.old marks.new }
 {
-    let band = grid.levels().band(cap.heights());
+    let band = field.grid.levels().band(cap.heights());
     if band.end <= band.first {
         return;
     }
@@ -167,35 +132,33 @@ fn turn_cap(marks: &mut [u64], grid: &Grid, columns: u32, cap: &Cap)
     let mut ends = [0u32; 64];
     let firsts = &mut firsts[..(band.end - band.first) as usize];
     let ends = &mut ends[..(band.end - band.first) as usize];
-    turn_reached(marks, grid, columns, cap, band, firsts, ends);
+    turn_reached(marks, field, cap, band, firsts, ends);
 }
 
 /// Counts a cap in the rows that it may reach, of which each takes up one of some numbers.
 fn turn_reached(
     marks: &mut [u64],
-    grid: &Grid,
-    columns: u32,
+    field: &Field,
     cap: &Cap,
     band: Span,
     firsts: &mut [u32],
     ends: &mut [u32],
 )
-    requires grid { IsField grid.now columns }
-    requires wide { AreWide columns marks.old }
+    requires wide { AreWide field.now.columns marks.old }
     requires cap { IsSoundCap cap.now }
     requires some { band.first < band.end }
-    requires low { band.end ≤ grid.now.rows }
-    requires rows { (row : ℕ) (s : Spot) → IsOnRow (levels_of grid.now) row s → IsTrue (is_in_cap s cap.now)
+    requires low { band.end ≤ field.now.grid.rows }
+    requires rows { (row : ℕ) (s : Spot) → IsOnRow (levels_of field.now.grid) row s → IsTrue (is_in_cap s cap.now)
         → (band.first ≤ row) × (row < band.end) }
     requires size { length firsts.old ≡ band.end - band.first }
     requires ends { length ends.old ≡ length firsts.old }
-    ensures { TurnsCentres grid.now columns (λ s. IsTrue (is_in_cap s cap.now)) marks.old marks.new }
+    ensures { TurnsCentres field.now (λ s. IsTrue (is_in_cap s cap.now)) marks.old marks.new }
 {
     let top = Centres {
-        x: grid.x,
-        y: grid.levels().height(band.first),
-        step: grid.step,
-        n: columns,
+        x: field.grid.x,
+        y: field.grid.levels().height(band.first),
+        step: field.grid.step,
+        n: field.columns,
     };
     cap_runs(cap, &top, firsts, ends);
     mark_runs(marks, band.first, firsts, ends);

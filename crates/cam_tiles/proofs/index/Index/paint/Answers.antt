@@ -7,8 +7,7 @@ use Rattle.cam_units.specs.Boxes.{Holds, IsInBox}
 use Rattle.cam_objects.specs.Leaves.{Leaf}
 use Rattle.cam_tiles.specs.declared.index.Boxed.{Boxed}
 use Rattle.cam_tiles.specs.declared.window.Window.{Window}
-use Rattle.cam_tiles.specs.Machinery.Indexes.{IsBoxed, IsSeen, numbered_leaves, row_leaves}
-use Rattle.cam_tiles.specs.Machinery.Parts.{IsPartsOf}
+use Rattle.cam_tiles.specs.Machinery.Indexes.{IsSeen, numbered_leaves, row_leaves}
 use Rattle.cam_tiles.specs.Machinery.RowLists.{AreListed, numbers_from}
 use Rattle.cam_tiles.specs.Machinery.Shown.{leaves_by_item, leaves_of}
 use Rattle.cam_tiles.specs.Machinery.Swaths.{PaintsSwath, place_in}
@@ -36,17 +35,16 @@ go_to-requires c =
       there = omega (arith, below, c.requires.index.rows);
     }
 
-pub paint_all-requires-clause-numbers : goal.paint_all-requires-clause-numbers
-paint_all-requires-clause-numbers c =
+pub paint_listed-requires-clause-numbers : goal.paint_listed-requires-clause-numbers
+paint_listed-requires-clause-numbers c =
     let row : ℕ = c.args.tile / c.across.result in
     let boxed = c.args.self.now.boxed.items in
-    let size = length c.deref-2.result.now in
-    subst (All (λ k. k < size))
-    (sym (c.list-numbers.ensures ∙ c.in_ok-go_to.ensures.reaching ∙ ap (numbers_from row 0) c.deref.ensures.value))
-    (numbers_below row size 0 boxed (omega (arith, ap length c.deref-2.ensures.value)))
+    subst (All (λ k. k < length boxed))
+    (sym (c.in_ok-go_to.ensures.reaching ∙ ap (numbers_from row 0) c.deref.ensures.value))
+    (numbers_below row (length boxed) 0 boxed (omega arith))
 
-pub paint_all-requires-clause-sides : goal.paint_all-requires-clause-sides
-paint_all-requires-clause-sides c = λ column row there.
+pub paint_listed-requires-clause-sides : goal.paint_listed-requires-clause-sides
+paint_listed-requires-clause-sides c = λ column row there.
     let least : FitsSigned w64 c.in-Closed.low.x = search rules in
     let greatest : FitsSigned w64 c.in-Closed.high.x = search rules in
     let between : IsInBox c.in-Closed.low c.in-Closed.high (place_in c.args.swath.now column row) =
@@ -63,12 +61,10 @@ returns-clause-painted c =
     let row : ℕ = c.args.tile / wide in
     let boxed = i.boxed.items in
     let old = c.args.swath.now in
-    let new = c.paint_all.new.swath in
-    let numbers = c.list-numbers.result.now in
+    let new = c.paint_listed.new.swath in
+    let numbers = c.go_to.new.self.reaching.items in
     let leaves =
-    ap (λ (those : List Boxed). numbered_leaves lists those numbers) c.deref-2.ensures.value
-    ∙ ap (numbered_leaves lists boxed)
-    (c.list-numbers.ensures ∙ c.in_ok-go_to.ensures.reaching ∙ ap (numbers_from row 0) c.deref.ensures.value)
+    ap (numbered_leaves lists boxed) (c.in_ok-go_to.ensures.reaching ∙ ap (numbers_from row 0) c.deref.ensures.value)
     ∙ numbered lists row boxed in
     subst (λ (leaves : List Leaf). PaintsSwath old leaves new) (leaves_are shown)
     (painted_alike (IsSeen w i.within row) old new (row_leaves lists row boxed) (flat_map (λ those. those) lists)
@@ -76,15 +72,7 @@ returns-clause-painted c =
     (seen_there w i.within c.bounds.result c.in-Closed.low c.in-Closed.high c.args.tile wide old c.in-Closed.is
     (c.has_place.ensures.0 c.if-not-has_place.false)
     (c.has_place-else-not-has_place.ensures.0 c.if-not-has_place-2.false) c.bounds.ensures c.requires.rows c.across.ensures)
-    (subst (λ (leaves : List Leaf). PaintsSwath old leaves new) leaves c.paint_all.ensures))
-
-pub paint_all-requires-clause-boxed : goal.paint_all-requires-clause-boxed
-paint_all-requires-clause-boxed c =
-    subst (All (IsBoxed (leaves_by_item c.args.shown.now))) (sym c.deref-2.ensures.value) c.requires.index.boxed
-
-pub paint_all-requires-clause-contours : goal.paint_all-requires-clause-contours
-paint_all-requires-clause-contours c =
-    subst (All (IsPartsOf (leaves_by_item c.args.shown.now))) (sym c.deref-3.ensures.value) c.requires.index.contours
+    (subst (λ (leaves : List Leaf). PaintsSwath old leaves new) leaves c.paint_listed.ensures))
 
 pub returns-in_default-clause-painted : goal.returns-in_default-clause-painted
 returns-in_default-clause-painted c = painted_nowhere c.args.swath.now (leaves_of c.args.shown.now) c.in_default.ensures

@@ -17,17 +17,16 @@ turn_outline-requires-clause-points c =
 
 pub returns : goal.returns
 returns c =
-    let grid = c.args.grid.now in
-    let columns = c.args.columns in
+    let f = c.args.field.now in
     let IsHeld : Spot → Type 0 =
     λ s. IsInContour s (placed_contour c.args.turn origin.offset (outline_of c.args.points.now)) in
     let blank = c.fill.new.self in
     let turned = c.turn_outline.new.marks in
     let spread = c.spread_marks.new.marks in
-    columns_joined grid columns (length c.args.marks.now) c.args.how (λ row column. IsTrue (is_marked spread row column))
-    IsHeld c.args.marks.now c.join_words.new.words c.requires.grid.rows c.requires.wide.room
-    (spread_inside grid columns IsHeld blank turned spread
-    (λ k within. c.fill.ensures.clones k 0 (rw c.fill.ensures.len at within) refl) c.requires.grid.rows
+    columns_joined f.grid f.columns (length c.args.marks.now) c.args.how (λ row column. IsTrue (is_marked spread row column))
+    IsHeld c.args.marks.now c.join_words.new.words f.seen.rows c.requires.wide.room
+    (spread_inside f IsHeld blank turned spread
+    (λ k within. c.fill.ensures.clones k 0 (rw c.fill.ensures.len at within) refl)
     (omega (arith, c.requires.wide.room, c.requires.same, c.turn_outline.auto.marks, c.fill.ensures.len))
     c.turn_outline.ensures c.spread_marks.ensures)
     c.join_words.ensures

@@ -10,7 +10,7 @@ loop-seg-init c = record {
   on_board = c.requires.from;
   wide = c.requires.wide;
   end = refl;
-  turned = none_of_part (TurnsSo c.args.grid.now c.args.columns) (turning c.args.grid.now c.args.columns) c.args.from
+  turned = none_of_part (TurnsSo c.args.field.now) (turning c.args.field.now) c.args.from
       c.args.part.now c.args.marks.now;
 }
 
@@ -21,10 +21,10 @@ loop-seg-preserved c =
     let there = c.end_of-here.result in
     record {
       on_board = subst IsOnBoard (sym c.end_of-here.ensures) (sound_end _ (c.requires.part k _ c.loop-seg-test.true));
-      wide = still_wide c.args.columns c.loop-seg.marks c.turn_segment.new.marks c.turn_segment.auto.marks
+      wide = still_wide c.args.field.now.columns c.loop-seg.marks c.turn_segment.new.marks c.turn_segment.auto.marks
           c.loop-seg.invariant.wide;
       end = end_more c.loop-seg.here there part k _ c.loop-seg-test.true c.end_of-here.ensures ∙ c.loop-seg.invariant.end;
-      turned = next_of_part (TurnsSo c.args.grid.now c.args.columns) (turning c.args.grid.now c.args.columns) c.args.from
+      turned = next_of_part (TurnsSo c.args.field.now) (turning c.args.field.now) c.args.from
           c.loop-seg.here there part k _ c.loop-seg-test.true c.end_of-here.ensures c.loop-seg.invariant.turned
           c.turn_segment.ensures;
     }
@@ -32,6 +32,6 @@ loop-seg-preserved c =
 pub returns : goal.returns
 returns c = record {
   end = sym (end_all c.loop-seg.here c.args.part.now c.loop-seg.seg-index c.loop-seg-test.false) ∙ c.loop-seg.invariant.end;
-  turned = all_of_part (TurnsSo c.args.grid.now c.args.columns) (turning c.args.grid.now c.args.columns) c.args.from
+  turned = all_of_part (TurnsSo c.args.field.now) (turning c.args.field.now) c.args.from
       c.loop-seg.here c.args.part.now c.loop-seg.seg-index c.loop-seg-test.false c.loop-seg.invariant.turned;
 }

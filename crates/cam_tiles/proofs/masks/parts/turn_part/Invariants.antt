@@ -10,8 +10,8 @@ use Rattle.cam_tiles.proofs.masks.parts.turn_part.Given as goal
 abbrev pub invariant-loop-seg : goal.invariant-loop-seg
 invariant-loop-seg l = record {
   on_board : IsOnBoard l.here;
-  wide : AreWide l.columns l.marks;
+  wide : AreWide l.field.columns l.marks;
   end : end_from l.here (drop l.seg-index l.part) ≡ end_from l.fn.from l.part;
-  turned : TurnsPartBut (TurnsSo l.grid l.columns) (turning l.grid l.columns) l.fn.from l.here (drop l.seg-index l.part) l.part
+  turned : TurnsPartBut (TurnsSo l.field) (turning l.field) l.fn.from l.here (drop l.seg-index l.part) l.part
       l.fn.marks l.marks;
 }

@@ -18,8 +18,7 @@ turn_met-here-requires-clause-part c =
 
 pub loop-part_heights-preserved : goal.loop-part_heights-preserved
 loop-part_heights-preserved c =
-    let g = c.args.grid.now in
-    let columns = c.args.columns in
+    let f = c.args.field.now in
     let contour = c.args.contour.now in
     let here = c.loop-part_heights.here in
     let rest = c.loop-part_heights.rest.now in
@@ -30,21 +29,21 @@ loop-part_heights-preserved c =
     let marks = c.turn_met-here.new.marks in
     let end : there ≡ end_from here (first_part rest) = c.turn_met-here.ensures.end ∙ ap (end_from here) first in
     let left : List Heights = drop (c.loop-part_heights.part_heights-index + 1) c.args.heights.now in
-    let turned = subst (λ (part : List Seg). TurnsSo g columns (λ s. change_sides s here part) c.loop-part_heights.marks marks)
+    let turned = subst (λ (part : List Seg). TurnsSo f (λ s. change_sides s here part) c.loop-part_heights.marks marks)
     first c.turn_met-here.ensures.turned in
     record {
       on_board = subst IsOnBoard (sym end)
           (ends_on_board here (first_part rest) so_far.on_board (sound_first rest so_far.sound));
       sound = subst (All IsSoundSeg) behind (sound_behind rest so_far.sound);
-      wide = still_wide columns c.loop-part_heights.marks marks c.turn_met-here.auto.marks so_far.wide;
+      wide = still_wide f.columns c.loop-part_heights.marks marks c.turn_met-here.auto.marks so_far.wide;
       heights = subst (λ (segs : List Seg). AreHeightsOf there segs left) behind
           (subst (λ (p : Point). AreHeightsOf p (behind_part rest) left) (sym end)
           (next_heights here rest c.args.heights.now c.loop-part_heights.part_heights-index
-          c.row_heights-rows.result c.loop-part_heights-test.true
+          c.args.field.now.rows c.loop-part_heights-test.true
           so_far.heights).1);
-      turned = subst (λ (segs : List Seg). TurnsBut (TurnsSo g columns) contour.start there segs contour.segs c.args.marks.now marks)
+      turned = subst (λ (segs : List Seg). TurnsBut (TurnsSo f) contour.start there segs contour.segs c.args.marks.now marks)
           behind
-          (part_turned (TurnsSo g columns) (turning g columns) contour.start here there rest contour.segs end so_far.turned turned);
+          (part_turned (TurnsSo f) (turning f) contour.start here there rest contour.segs end so_far.turned turned);
     }
 
 pub turn_edge-requires-clause-from : goal.turn_edge-requires-clause-from
@@ -57,7 +56,7 @@ pub returns : goal.returns
 returns c =
     let contour = c.args.contour.now in
     let here = c.loop-part_heights in
-    marked_inside c.args.grid.now c.args.columns contour c.args.marks.now c.turn_edge.new.marks
-    (rest_turned (TurnsSo c.args.grid.now c.args.columns) (turning c.args.grid.now c.args.columns) contour.start here.here
+    marked_inside c.args.field.now contour c.args.marks.now c.turn_edge.new.marks
+    (rest_turned (TurnsSo c.args.field.now) (turning c.args.field.now) contour.start here.here
     c.turn_part-end.result here.rest.now contour.segs c.turn_part-end.ensures.end here.invariant.turned
     c.turn_part-end.ensures.turned c.turn_edge.ensures)

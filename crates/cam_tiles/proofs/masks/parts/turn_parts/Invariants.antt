@@ -13,7 +13,7 @@ abbrev pub invariant-loop-part_heights : goal.invariant-loop-part_heights
 invariant-loop-part_heights l = record {
   on_board : IsOnBoard l.here;
   sound : All IsSoundSeg l.rest;
-  wide : AreWide l.columns l.marks;
+  wide : AreWide l.field.columns l.marks;
   heights : AreHeightsOf l.here l.rest (drop l.part_heights-index l.heights);
-  turned : TurnsBut (TurnsSo l.grid l.columns) l.contour.start l.here l.rest l.contour.segs l.fn.marks l.marks;
+  turned : TurnsBut (TurnsSo l.field) l.contour.start l.here l.rest l.contour.segs l.fn.marks l.marks;
 }

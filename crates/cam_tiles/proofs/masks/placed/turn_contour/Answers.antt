@@ -18,7 +18,7 @@ pub loop-seg-init : goal.loop-seg-init
 loop-seg-init c = record {
   on_board = subst IsOnBoard (sym c.point-start.ensures) c.requires.contour.start.there;
   wide = c.requires.wide;
-  turned = none_turned (TurnsSo c.args.grid.now c.args.columns) (turning c.args.grid.now c.args.columns)
+  turned = none_turned (TurnsSo c.args.field.now) (turning c.args.field.now)
       c.point-start.result (placed c.args.placing.turn c.args.placing.offset c.as_slice-seg-items.result.now)
       c.args.marks.now;
 }
@@ -26,9 +26,9 @@ loop-seg-init c = record {
 pub loop-seg-preserved : goal.loop-seg-preserved
 loop-seg-preserved c = record {
   on_board = c.turn_placed-here.ensures.board;
-  wide = still_wide c.args.columns c.loop-seg.marks c.turn_placed-here.new.marks c.turn_placed-here.auto.marks
+  wide = still_wide c.args.field.now.columns c.loop-seg.marks c.turn_placed-here.new.marks c.turn_placed-here.auto.marks
       c.loop-seg.invariant.wide;
-  turned = segment_turned (TurnsSo c.args.grid.now c.args.columns) (turning c.args.grid.now c.args.columns)
+  turned = segment_turned (TurnsSo c.args.field.now) (turning c.args.field.now)
       c.args.placing.turn c.args.placing.offset c.point-start.result c.loop-seg.here c.turn_placed-here.result
       _ c.as_slice-seg-items.result.now c.loop-seg.seg-index _ c.loop-seg-test.true
       refl c.turn_placed-here.ensures.end c.loop-seg.invariant.turned c.turn_placed-here.ensures.turned;
@@ -36,9 +36,9 @@ loop-seg-preserved c = record {
 
 pub returns : goal.returns
 returns c =
-    marked_inside c.args.grid.now c.args.columns
+    marked_inside c.args.field.now
     (placed_contour c.args.placing.turn c.args.placing.offset c.args.contour.now) c.args.marks.now c.turn_edge.new.marks
-    (contour_turned (TurnsSo c.args.grid.now c.args.columns) (turning c.args.grid.now c.args.columns)
+    (contour_turned (TurnsSo c.args.field.now) (turning c.args.field.now)
     c.args.placing.turn c.args.placing.offset c.args.contour.now c.point-start.result c.loop-seg.here
     c.as_slice-seg-items.result.now c.loop-seg.seg-index c.loop-seg-test.false c.point-start.ensures
     c.as_slice-seg-items.ensures c.loop-seg.invariant.turned c.turn_edge.ensures)

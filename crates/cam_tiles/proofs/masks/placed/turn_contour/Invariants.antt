@@ -12,7 +12,7 @@ invariant-loop-seg l =
     let segs : List Seg → List Seg = placed l.placing.turn l.placing.offset in
     record {
       on_board : IsOnBoard l.here;
-      wide : AreWide l.columns l.marks;
-      turned : TurnsBut (TurnsSo l.grid l.columns) l.start l.here (segs (drop l.seg-index l.seg-items))
+      wide : AreWide l.field.columns l.marks;
+      turned : TurnsBut (TurnsSo l.field) l.start l.here (segs (drop l.seg-index l.seg-items))
           (segs l.seg-items) l.fn.marks l.marks;
     }

@@ -13,7 +13,7 @@ invariant-loop-point l =
     let edges : List Point → List Seg = lines l.placing.turn l.placing.offset in
     record {
       on_board : IsOnBoard l.here;
-      wide : AreWide l.columns l.marks;
-      turned : TurnsBut (TurnsSo l.grid l.columns) l.first l.here (edges (drop l.point-index l.others)) (edges l.others)
+      wide : AreWide l.field.columns l.marks;
+      turned : TurnsBut (TurnsSo l.field) l.first l.here (edges (drop l.point-index l.others)) (edges l.others)
           l.fn.marks l.marks;
     }

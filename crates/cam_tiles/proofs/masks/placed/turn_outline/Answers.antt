@@ -9,9 +9,9 @@ use Rattle.cam_tiles.proofs.masks.placed.turn_outline.Goals as goal
 
 pub returns : goal.returns
 returns c =
-    marked_inside c.args.grid.now c.args.columns (placed_contour c.args.turn origin.offset (outline_of c.args.points.now))
+    marked_inside c.args.field.now (placed_contour c.args.turn origin.offset (outline_of c.args.points.now))
     c.args.marks.now c.turn_lines.new.marks
-    (outline_turned (TurnsSo c.args.grid.now c.args.columns) (turning c.args.grid.now c.args.columns) c.args.turn _
+    (outline_turned (TurnsSo c.args.field.now) (turning c.args.field.now) c.args.turn _
     c.args.points.now _ c.point-start.result c.in-len1-up.len_at_least c.point-start.ensures c.turn_lines.ensures)
 
 pub turn_lines-requires-clause-first : goal.turn_lines-requires-clause-first
@@ -20,7 +20,7 @@ turn_lines-requires-clause-first c =
 
 pub returns-in_default : goal.returns-in_default
 returns-in_default c =
-    marked_inside c.args.grid.now c.args.columns (placed_contour c.args.turn origin.offset (outline_of c.args.points.now))
+    marked_inside c.args.field.now (placed_contour c.args.turn origin.offset (outline_of c.args.points.now))
     c.args.marks.now c.args.marks.now
-    (empty_turned (TurnsSo c.args.grid.now c.args.columns) (turning c.args.grid.now c.args.columns) c.args.turn origin.offset
+    (empty_turned (TurnsSo c.args.field.now) (turning c.args.field.now) c.args.turn origin.offset
     c.args.points.now c.args.marks.now c.in_default.len_below)

@@ -24,7 +24,7 @@ returns-in-Line-clause-end c =
 pub returns-in-Line-clause-turned : goal.returns-in-Line-clause-turned
 returns-in-Line-clause-turned c =
     let stays : IsTrue c.args.stays = search rules in
-    subst (λ (seg : Seg). TurnsCentres c.args.grid.now c.args.columns
+    subst (λ (seg : Seg). TurnsCentres c.args.field.now
     (λ s. IsTrue (changes_side s c.args.here seg)) c.args.marks.now c.turn_line.new.marks)
     (sym (c.requires.stays stays c.args.seg.now ∙ c.in-Line.is)) c.turn_line.ensures
 

@@ -5,7 +5,7 @@ use Rattle.cam_tiles.proofs.masks.turning.turn_cap.Goals as goal
 
 pub returns-then-band : goal.returns-then-band
 returns-then-band c =
-    no_rows c.args.grid.now c.args.columns c.band-band.result.first c.band-band.result.end c.heights.result
+    no_rows c.args.field.now c.band-band.result.first c.band-band.result.end c.heights.result
     (λ s. IsTrue (is_in_cap s c.args.cap.now)) c.args.marks.now c.if-band.true
     (rw c.levels.ensures.value at c.band-band.ensures.rows) c.heights.ensures
 

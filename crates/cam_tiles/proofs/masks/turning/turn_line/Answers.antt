@@ -6,6 +6,6 @@ use Rattle.cam_tiles.proofs.masks.turning.turn_line.Goals as goal
 
 pub returns-then-is_beyond : goal.returns-then-is_beyond
 returns-then-is_beyond c =
-    let g = c.args.grid.now in
-    turns_nothing g c.args.columns (λ s. IsTrue (crosses_ray s (edge c.args.from c.args.to))) c.args.marks.now
-    (λ column row within. c.if-is_beyond.ensures refl (centre_in g column row) (c.requires.rows column row within))
+    let f = c.args.field.now in
+    turns_nothing f (λ s. IsTrue (crosses_ray s (edge c.args.from c.args.to))) c.args.marks.now
+    (λ column row within. c.if-is_beyond.ensures refl (centre_in f.grid column row) (f.within column row within))

@@ -3,7 +3,7 @@ use Rattle.cam_tiles.proofs.masks.turning.turn_segment.Goals as goal
 
 pub returns-in-Curve : goal.returns-in-Curve
 returns-in-Curve c =
-    curve_counted c.args.grid.now c.args.columns c.args.here c.in-Curve.to c.in-Curve.centre c.in-Curve.ccw c.args.seg
+    curve_counted c.args.field.now c.args.here c.in-Curve.to c.in-Curve.centre c.in-Curve.ccw c.args.seg
     c.args.marks.now c.turn_line-in-Curve.new.marks c.turn_cap.new.marks c.in-Curve.is c.turn_line-in-Curve.ensures
     c.turn_cap.ensures
 

@@ -5,13 +5,14 @@ use Rattle.cam_tiles.proofs.Fields.{field_of_wide}
 use Rattle.cam_tiles.proofs.TurnedMarks.{marks_before}
 use Rattle.cam_tiles.proofs.masks.parts.PartedContourMarkShape.mark.Goals as goal
 
-pub turn_parts-requires-clause-grid : goal.turn_parts-requires-clause-grid
-turn_parts-requires-clause-grid c = field_of_wide c.args.grid.now c.args.columns c.requires.grid
+pub new-field-requires : goal.new-field-requires
+new-field-requires c = field_of_wide c.args.grid.now c.args.columns c.requires.grid
 
 pub returns : goal.returns
 returns c =
-    marks_before c.args.grid.now c.args.columns (λ s. IsInContour s c.args.self.now.contour.now) c.div_ceil.result
+    rw (c.new-field.ensures.grid, c.new-field.ensures.columns) at
+    (marks_before c.new-field.result (λ s. IsInContour s c.args.self.now.contour.now) c.div_ceil.result
     c.fill.new.self c.turn_parts.new.marks c.spread_marks.new.marks
-    (drop (64 * c.div_ceil.result) c.args.marks.now) c.requires.grid.grid.rows.1 (omega (arith, c.div_ceil.ensures))
+    (drop (64 * c.div_ceil.result) c.args.marks.now) (omega (arith, c.div_ceil.ensures, c.new-field.ensures.columns))
     (search (rules, places)) (λ k within. c.fill.ensures.clones k 0 (rw c.fill.ensures.len at within) refl)
-    c.turn_parts.auto.marks c.spread_marks.auto.marks c.turn_parts.ensures c.spread_marks.ensures
+    c.turn_parts.auto.marks c.spread_marks.auto.marks c.turn_parts.ensures c.spread_marks.ensures)

@@ -6,15 +6,16 @@ use Rattle.cam_tiles.proofs.Fields.{field_of_wide}
 use Rattle.cam_tiles.proofs.TurnedMarks.{marks_before}
 use Rattle.cam_tiles.proofs.masks.placed.PlacedContourMarkShape.mark.Goals as goal
 
-pub turn_contour-requires-clause-grid : goal.turn_contour-requires-clause-grid
-turn_contour-requires-clause-grid c = field_of_wide c.args.grid.now c.args.columns c.requires.grid
+pub new-field-requires : goal.new-field-requires
+new-field-requires c = field_of_wide c.args.grid.now c.args.columns c.requires.grid
 
 pub returns : goal.returns
 returns c =
     let placing = c.args.self.now.placing in
-    marks_before c.args.grid.now c.args.columns
+    rw (c.new-field.ensures.grid, c.new-field.ensures.columns) at
+    (marks_before c.new-field.result
     (λ s. IsInContour s (placed_contour placing.turn placing.offset c.args.self.now.contour.now)) c.div_ceil.result
     c.fill.new.self c.turn_contour.new.marks c.spread_marks.new.marks
-    (drop (64 * c.div_ceil.result) c.args.marks.now) c.requires.grid.grid.rows.1 (omega (arith, c.div_ceil.ensures))
+    (drop (64 * c.div_ceil.result) c.args.marks.now) (omega (arith, c.div_ceil.ensures, c.new-field.ensures.columns))
     (search (rules, places)) (λ k within. c.fill.ensures.clones k 0 (rw c.fill.ensures.len at within) refl)
-    c.turn_contour.auto.marks c.spread_marks.auto.marks c.turn_contour.ensures c.spread_marks.ensures
+    c.turn_contour.auto.marks c.spread_marks.auto.marks c.turn_contour.ensures c.spread_marks.ensures)

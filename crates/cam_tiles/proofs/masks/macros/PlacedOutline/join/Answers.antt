@@ -6,16 +6,16 @@ use Rattle.cam_shapes.specs.Placing.{placed_contour}
 use Rattle.cam_objects.specs.Image.{relative}
 use Rattle.cam_objects.specs.Leaves.{origin}
 use Rattle.cam_tiles.specs.declared.grid.Grid.{Grid}
-use Rattle.cam_tiles.specs.Machinery.Turning.{IsField}
+use Rattle.cam_tiles.specs.Machinery.Fields.{IsField}
 use Rattle.cam_tiles.proofs.JoinedCentres.{none_joined, part_joined}
 use Rattle.cam_tiles.proofs.SeenParts.{part_field}
 use Rattle.cam_tiles.proofs.TurnedBands.{part_length}
-use Rattle.cam_tiles.proofs.masks.macros.join_outline.Goals as goal
+use Rattle.cam_tiles.proofs.masks.macros.PlacedOutline.join.Goals as goal
 
 pub returns-then-tiles : goal.returns-then-tiles
 returns-then-tiles c =
     none_joined c.args.grid.now c.args.columns c.args.how
-    (λ s. IsInContour (relative c.args.at s) (placed_contour c.args.turn origin.offset (outline_of c.args.points.now)))
+    (λ s. IsInContour (relative c.args.self.now.at s) (placed_contour c.args.self.now.turn origin.offset (outline_of c.args.self.now.points.now)))
     c.args.marks.now
     (λ column row near below held.
     let on = c.reached_tiles-tiles.ensures.each column row near below (c.turned_bounds-bounds.ensures _ held) in
@@ -26,25 +26,25 @@ part_seen-part-requires-clause-there c =
     c.requires.grid.centres (64 * c.reached_tiles-tiles.result.first) 0
     (omega (arith, c.reached_tiles-tiles.ensures.end, c.if-tiles.false)) c.requires.grid.grid.rows.0
 
-pub join_inside-requires-clause-grid : goal.join_inside-requires-clause-grid
-join_inside-requires-clause-grid c =
+pub new-field-requires : goal.new-field-requires
+new-field-requires c =
     let tiles = c.reached_tiles-tiles.result in
     subst (λ (g : Grid). IsField g (c.min.result - 64 * tiles.first)) (sym c.part_seen-part.ensures)
-    (part_field c.args.grid.now tiles.first c.args.at c.args.columns c.min.result c.requires.grid c.requires.at
+    (part_field c.args.grid.now tiles.first c.args.self.now.at c.args.columns c.min.result c.requires.grid c.requires.at
     (omega (arith, c.min.ensures, c.reached_tiles-tiles.ensures.end, c.if-tiles.false)) (omega (arith, c.min.ensures)))
 
 pub returns : goal.returns
 returns c =
     let tiles = c.reached_tiles-tiles.result in
     let IsHeld : Spot → Type 0 =
-    λ s. IsInContour s (placed_contour c.args.turn origin.offset (outline_of c.args.points.now)) in
+    λ s. IsInContour s (placed_contour c.args.self.now.turn origin.offset (outline_of c.args.self.now.points.now)) in
     let long : 64 * tiles.end ≤ length c.args.marks.now =
     omega (arith, c.reached_tiles-tiles.ensures.end, c.requires.wide.room, c.requires.wide.tiles) in
-    part_joined c.args.grid.now c.args.columns c.args.how c.args.at tiles.first tiles.end c.min.result IsHeld c.args.marks.now
+    part_joined c.args.grid.now c.args.columns c.args.how c.args.self.now.at tiles.first tiles.end c.min.result IsHeld c.args.marks.now
     c.join_inside.new.marks c.if-tiles.false long c.requires.grid.grid.rows.1
     (c.join_inside.auto.marks
     ∙ part_length (64 * tiles.first) (64 * tiles.end) c.args.marks.now (omega (arith, c.if-tiles.false)) long)
     c.min.ensures
     (λ column row near below held.
     c.reached_tiles-tiles.ensures.each column row near below (c.turned_bounds-bounds.ensures _ held))
-    (rw c.part_seen-part.ensures at c.join_inside.ensures)
+    (rw (c.part_seen-part.ensures, c.new-field.ensures.columns) at (rw c.new-field.ensures.grid at c.join_inside.ensures))

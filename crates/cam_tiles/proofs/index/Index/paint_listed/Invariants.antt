@@ -2,9 +2,9 @@ use Rattle.std.proofs.Common.{drop}
 use Rattle.cam_tiles.specs.Machinery.Indexes.{numbered_leaves}
 use Rattle.cam_tiles.specs.Machinery.Shown.{leaves_by_item}
 use Rattle.cam_tiles.specs.Machinery.Swaths.{PaintsSwath}
-use Rattle.cam_tiles.proofs.index.paint_all.Given as goal
+use Rattle.cam_tiles.proofs.index.Index.paint_listed.Given as goal
 
 -- the items of the numbers from this one on are painted
 abbrev pub invariant-loop-k : goal.invariant-loop-k
 invariant-loop-k l =
-    PaintsSwath l.fn.swath (numbered_leaves (leaves_by_item l.shown) l.boxed (drop l.k l.numbers)) l.swath
+    PaintsSwath l.fn.swath (numbered_leaves (leaves_by_item l.shown) l.self.boxed.items (drop l.k l.numbers)) l.swath

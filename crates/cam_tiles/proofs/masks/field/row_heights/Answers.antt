@@ -2,7 +2,7 @@ use Rattle.std.proofs.Common.{◌≡◌, ◌-◌, arith}
 use Rattle.std.proofs.lemmas.Int.{ints}
 use Rattle.cam_tiles.specs.Machinery.Levels.{height, levels_of}
 use Rattle.cam_tiles.proofs.LevelRows.{below_top, over_bottom, top_short}
-use Rattle.cam_tiles.proofs.masks.turning.row_heights.Goals as goal
+use Rattle.cam_tiles.proofs.masks.field.row_heights.Goals as goal
 
 pub returns : goal.returns
 returns c = λ column row within.

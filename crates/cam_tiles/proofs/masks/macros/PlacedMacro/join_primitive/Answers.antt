@@ -4,17 +4,17 @@ use Rattle.cam_apertures.proofs.Outlines.{outline_places}
 use Rattle.cam_objects.specs.Image.{relative}
 use Rattle.cam_tiles.specs.Machinery.Masks.{inked}
 use Rattle.cam_tiles.specs.Machinery.Words.{JoinsCentres}
-use Rattle.cam_tiles.proofs.masks.macros.join_primitive.Goals as goal
+use Rattle.cam_tiles.proofs.masks.macros.PlacedMacro.join_primitive.Goals as goal
 
 pub returns-in-Outline : goal.returns-in-Outline
 returns-in-Outline c =
     let primitive = c.args.primitive.now in
     subst
     (λ (P : Spot → Type 0). JoinsCentres c.args.grid.now c.args.columns (inked primitive.paint) P c.args.marks.now
-    c.join_outline.new.marks)
-    (λ i s. outline_places c.args.turn primitive.shape c.in-Outline.points c.as_slice.result.now (relative c.args.at s)
-    c.in-Outline.is c.as_slice.ensures i)
-    (rw c.inked-how.ensures at c.join_outline.ensures)
+    c.join.new.marks)
+    (λ i s. outline_places c.args.self.now.turn primitive.shape c.in-Outline.points c.as_slice-points.result.now (relative c.args.self.now.at s)
+    c.in-Outline.is c.as_slice-points.ensures i)
+    (rw c.inked-how.ensures at c.join.ensures)
 
 pub returns-in-Rect : goal.returns-in-Rect
 returns-in-Rect c =
