@@ -1,6 +1,6 @@
 -- How edits of a drill layer are judged, and that those without a refusal fit.
 use Rattle.std.proofs.Common.{◌≡◌, ◌↔◌, ℕ, ◌≤◌, Bool, true, false, not, cond, nat_le, nat_lt, IsTrue, List, [], ◌∷◌, ◌++◌}
-use Rattle.std.proofs.Common.{length, sum_by, Option, None, Some, Result, Ok, Err, IfOk, refl, ap, sym, subst, ◌∙◌, arith}
+use Rattle.std.proofs.Common.{length, sum_by, Option, None, Some, Result, Ok, Err, refl, ap, sym, subst, ◌∙◌, arith}
 use Rattle.std.specs.Prelude.{insert, slice_get}
 use Rattle.std.specs.List.{All}
 use Rattle.std.proofs.lemmas.Bool.{false_from_ne_true, leb-true}
@@ -23,8 +23,9 @@ use Rattle.cam_edits.specs.declared.fault.EditFault.{EditFault}
 use Rattle.cam_edits.specs.declared.fault.EditFault.TheVariants.{NoItem, OutOfBoard, TooMuch}
 use Rattle.cam_edits.specs.DrillSteps.{IsDrillFit}
 use Rattle.cam_edits.specs.Editing.{drill_step_checks, drill_step_unless, has_tool, judged_drill, move_drill_checks}
-use Rattle.cam_edits.specs.Machinery.Judging.{insertion_answer}
+use Rattle.cam_edits.specs.Machinery.Judging.{drill_step_answer, insertion_answer}
 use Rattle.cam_edits.specs.Moving.{IsMovableDrillItem, way}
+use Rattle.cam_objects.proofs.SoundItems.{none_told}
 use Rattle.cam_objects.proofs.TestLaws.{all_on_board, limit_law, same_test}
 use Rattle.cam_edits.proofs.EditedLists.{all_here}
 use Rattle.cam_edits.proofs.ItemMoves.{movable_drill_item, shiftable_way, short_drill_item}
@@ -63,21 +64,21 @@ module _ (c : DrillContent) where
     abbrev room_there : Bool
     room_there = keeps_drill_limits (insert c.items k item)
 
-    abbrev by_answer : Result Unit EditFault → Bool → Result DrillStep EditFault
-    by_answer answer room = drill_step_unless c (Insert k item) (limited answer room)
+    abbrev by_answer : Result Unit EditFault → Bool → Result Unit EditFault
+    by_answer answer room = answer_of (limited answer room)
 
-    insertion_is : judged_drill c (Some (Insert k item)) ≡ by_answer (insertion_answer told has_place) room_there
+    insertion_is : drill_step_answer c (Insert k item) ≡ by_answer (insertion_answer told has_place) room_there
     unfolding drill_step_checks drill_item_checks
     insertion_is =
         let points = drill_points_of item in
-        ap (drill_step_unless c (Insert k item))
+        ap answer_of
         (in_one_drill_order (nat_lt 0 (length points)) (nat_le k (length c.items)) (has_tool c (tool_of item))
         (are_on_board points) (nat_le (length points) 1000000) room_there)
         ∙ (ap (λ r. by_answer (insertion_answer r (nat_le k (length c.items))) room_there) (sym tells)
         ∙ ap (λ p. by_answer (insertion_answer told p) room_there) (sym at))
 
     pub insertion_refused : (fault : EditFault) → insertion_answer told has_place ≡ Err fault
-        → Err fault ≡ judged_drill c (Some (Insert k item))
+        → Err fault ≡ drill_step_answer c (Insert k item)
     insertion_refused fault e = sym (insertion_is ∙ ap (λ r. by_answer r room_there) e)
 
     module _ (done : Unit) (e : insertion_answer told has_place ≡ Ok done) (room : Bool)
@@ -90,14 +91,14 @@ module _ (c : DrillContent) where
           let law = limit_law.drill_layer (insert c.items k item) in
           same_test room_there room (λ t. anywhere.1 (law.0 t), λ h. law.1 (anywhere.0 h)) kept
 
-      by_room : (b : Bool) → room ≡ b → by_answer (Ok done) b ≡ judged_drill c (Some (Insert k item))
+      by_room : (b : Bool) → room ≡ b → by_answer (Ok done) b ≡ drill_step_answer c (Insert k item)
       by_room b a =
           sym (insertion_is ∙ (ap (λ r. by_answer r room_there) e ∙ ap (by_answer (Ok done)) (same_room ∙ a)))
 
-      pub insertion_limited : room ≡ false → Err TooMuch ≡ judged_drill c (Some (Insert k item))
+      pub insertion_limited : room ≡ false → Err TooMuch ≡ drill_step_answer c (Insert k item)
       insertion_limited = by_room false
 
-      pub inserted : room ≡ true → Ok (Insert k item) ≡ judged_drill c (Some (Insert k item))
+      pub inserted : room ≡ true → Ok tt ≡ drill_step_answer c (Insert k item)
       inserted = by_room true
 
   -- ---- moves
@@ -107,11 +108,11 @@ module _ (c : DrillContent) where
     move = Move k by.x by.y
 
     by_place : (o : Option DrillItem) → slice_get c.items k ≡ o
-        → judged_drill c (Some move) ≡ drill_step_unless c move (first_holding (move_drill_checks c by o))
+        → drill_step_answer c move ≡ answer_of (first_holding (move_drill_checks c by o))
     unfolding drill_step_checks
-    by_place o = ap (λ o. drill_step_unless c move (first_holding (move_drill_checks c by o)))
+    by_place o = ap (λ o. answer_of (first_holding (move_drill_checks c by o)))
 
-    pub nothing_moved : slice_get c.items k ≡ None → Err NoItem ≡ judged_drill c (Some move)
+    pub nothing_moved : slice_get c.items k ≡ None → Err NoItem ≡ drill_step_answer c move
     nothing_moved e = sym (by_place None e)
 
     module _ (x : DrillItem) (here : slice_get c.items k ≡ Some x) where
@@ -119,12 +120,12 @@ module _ (c : DrillContent) where
       landing = drill_points_of (shifted_drill_item by x)
 
       by_landing : (b : Bool) → are_on_board landing ≡ b
-          → judged_drill c (Some move) ≡ drill_step_unless c move (cond (not b) (Some OutOfBoard) None)
+          → drill_step_answer c move ≡ answer_of (cond (not b) (Some OutOfBoard) None)
       by_landing b e =
-          by_place (Some x) here ∙ ap (λ b. drill_step_unless c move (cond (not b) (Some OutOfBoard) None)) e
+          by_place (Some x) here ∙ ap (λ b. answer_of (cond (not b) (Some OutOfBoard) None)) e
 
       pub moved_too_far : IsSoundDrillContent c.tools c.items → (IsMove by → ⊥)
-          → Err OutOfBoard ≡ judged_drill c (Some move)
+          → Err OutOfBoard ≡ drill_step_answer c move
       moved_too_far h far =
           let sound : IsSoundDrillItem c.tools x = all_here (IsSoundDrillItem c.tools) c.items k x h.items here in
           sym (by_landing false (false_from_ne_true (are_on_board landing)
@@ -134,10 +135,10 @@ module _ (c : DrillContent) where
         same_landing : are_on_board landing ≡ b
         same_landing = same_test (are_on_board landing) b (all_on_board landing) tells
 
-        pub moved_off : b ≡ false → Err OutOfBoard ≡ judged_drill c (Some move)
+        pub moved_off : b ≡ false → Err OutOfBoard ≡ drill_step_answer c move
         moved_off e = sym (by_landing false (same_landing ∙ e))
 
-        pub moved : b ≡ true → Ok move ≡ judged_drill c (Some move)
+        pub moved : b ≡ true → Ok tt ≡ drill_step_answer c move
         moved e = sym (by_landing true (same_landing ∙ e))
 
   -- ---- an edit without a refusal fits
@@ -168,7 +169,20 @@ module _ (c : DrillContent) where
         (ap Some same, subst (λ s. first_holding (drill_step_checks c s) ≡ None) same is)
     go (Some fault) is e = absurd cc
 
-  pub judged_fits : (o : Option DrillStep) (r : Result DrillStep EditFault) → IsSoundDrillContent c.tools c.items
-      → r ≡ judged_drill c o → IfOk r (λ step. IsDrillFit step c)
-  judged_fits o (Ok step) h e = fits step h (drill_met c step (accepted o step (sym e)).1)
-  judged_fits o (Err fault) h e = tt
+  -- an answer of the checks of a step is that of the step
+  pub refused : (step : DrillStep) (fault : EditFault) → Err fault ≡ drill_step_answer c step
+      → Err fault ≡ judged_drill c (Some step)
+  refused step fault e = go (first_holding (drill_step_checks c step)) e where
+    go : (told : Option EditFault) → Err fault ≡ answer_of told → Err fault ≡ drill_step_unless c step told
+    go None e = absurd cc
+    go (Some other) e = cc
+
+  module _ (step : DrillStep) (done : Unit) (e : Ok done ≡ drill_step_answer c step) where
+    none : first_holding (drill_step_checks c step) ≡ None
+    none = none_told (first_holding (drill_step_checks c step)) done e
+
+    pub passes : Ok step ≡ judged_drill c (Some step)
+    passes = sym (ap (drill_step_unless c step) none)
+
+    pub passes_fits : IsSoundDrillContent c.tools c.items → IsDrillFit step c
+    passes_fits h = fits step h (drill_met c step none)

@@ -1,12 +1,13 @@
 -- Edits of a Gerber layer that are not refused: their steps fit.
 use Rattle.std.proofs.Common.{◌≡◌, true}
-use Rattle.std.proofs.Common.{Option, None, Some, Result, Ok, Err, IfOk, refl, ap, sym, subst}
-use Rattle.cam_refusals.specs.Checks.{first_holding}
+use Rattle.std.proofs.Common.{Option, None, Some, Ok, Err, refl, ap, sym, subst}
+use Rattle.cam_refusals.specs.Checks.{answer_of, first_holding}
 use Rattle.cam_objects.specs.Contents.{Content}
 use Rattle.cam_objects.specs.Soundness.{IsSoundContent, IsSoundItem}
 use Rattle.cam_objects.specs.declared.item.Item.{Item}
 use Rattle.cam_objects.specs.declared.item.Item.TheVariants.{One, Repeat}
 use Rattle.cam_objects.specs.declared.object.Object.TheVariants.{Flash, Draw, Arc, Region}
+use Rattle.cam_objects.proofs.SoundItems.{none_told}
 use Rattle.cam_edits.specs.declared.edit.Change.{Change}
 use Rattle.cam_edits.specs.declared.fault.EditFault.{EditFault}
 use Rattle.cam_edits.specs.declared.step.Step.{Step}
@@ -15,6 +16,7 @@ use Rattle.cam_edits.specs.declared.step.Step.TheVariants.{PutAttribute, TakeAtt
 use Rattle.cam_edits.specs.AttributeEdits.{attribute_checks}
 use Rattle.cam_edits.specs.Editing.{has_aperture, has_polarity, judged, judged_change}
 use Rattle.cam_edits.specs.Editing.{judged_unless, step_checks, step_of, step_unless}
+use Rattle.cam_edits.specs.Machinery.Judging.{IsItemStep, step_answer}
 use Rattle.cam_edits.specs.Moving.{IsMovableItem, way}
 use Rattle.cam_edits.specs.Steps.{HasAperture, IsFit, IsOne}
 use Rattle.cam_edits.proofs.EditedLists.{all_here}
@@ -24,17 +26,6 @@ use Rattle.cam_edits.proofs.Refusals.{has_at}
 
 module _ (c : Content) where
   -- ---- an edit of items
-
-  abbrev pub IsItemStep : Step → Type 0
-  IsItemStep (Insert k item) = Unit {0}
-  IsItemStep (Delete k) = Unit {0}
-  IsItemStep (Move k dx dy) = Unit {0}
-  IsItemStep (Reorder k m) = Unit {0}
-  IsItemStep (Aperture k n) = Unit {0}
-  IsItemStep (Polarity k dark) = Unit {0}
-  IsItemStep (PutAttribute k a) = ⊥
-  IsItemStep (TakeAttribute k) = ⊥
-  IsItemStep (SetFields k fields) = ⊥
 
   one_aperture : (x : Item) → has_aperture x ≡ true → IsOne HasAperture x
   one_aperture (One (Flash m at t dark)) e = tt
@@ -75,13 +66,22 @@ module _ (c : Content) where
         (ap Some same, subst (λ s. first_holding (step_checks c s) ≡ None) same is)
     go (Some fault) is e = absurd cc
 
-  pub judged_fits : (asked : Step) → IsItemStep asked → (r : Result Step EditFault) → IsSoundContent c.entries c.items
-      → r ≡ judged c (Some asked) → IfOk r (λ step. IsFit step c)
-  judged_fits asked item (Ok step) h e =
-      let told = accepted (Some asked) step (sym e) in
-      let same : asked ≡ step = cc in
-      fits step (subst IsItemStep same item) h (met c step told.1)
-  judged_fits asked item (Err fault) h e = tt
+  -- an answer of the checks of a step is that of the step
+  pub refused : (step : Step) (fault : EditFault) → Err fault ≡ step_answer c step → Err fault ≡ judged c (Some step)
+  refused step fault e = go (first_holding (step_checks c step)) e where
+    go : (told : Option EditFault) → Err fault ≡ answer_of told → Err fault ≡ step_unless c step told
+    go None e = absurd cc
+    go (Some other) e = cc
+
+  module _ (step : Step) (done : Unit) (e : Ok done ≡ step_answer c step) where
+    none : first_holding (step_checks c step) ≡ None
+    none = none_told (first_holding (step_checks c step)) done e
+
+    pub passes : Ok step ≡ judged c (Some step)
+    passes = sym (ap (step_unless c step) none)
+
+    pub passes_fits : IsItemStep step → IsSoundContent c.entries c.items → IsFit step c
+    passes_fits item h = fits step item h (met c step none)
 
   -- ---- changes
 

@@ -23,9 +23,9 @@ use Rattle.cam_edits.specs.declared.fault.EditFault.TheVariants.{NoItem, HasNone
 use Rattle.cam_edits.specs.declared.fault.EditFault.TheVariants.{OutOfBoard, TooMuch}
 use Rattle.cam_edits.specs.declared.step.Step.{Step}
 use Rattle.cam_edits.specs.declared.step.Step.TheVariants.{Insert, Move, Aperture, Polarity}
-use Rattle.cam_edits.specs.Editing.{aperture_checks, has_aperture, has_polarity, judged, move_checks, polarity_checks}
-use Rattle.cam_edits.specs.Editing.{step_checks, step_unless}
-use Rattle.cam_edits.specs.Machinery.Judging.{insertion_answer, other_aperture, placed, item_refusal}
+use Rattle.cam_edits.specs.Editing.{aperture_checks, has_aperture, has_polarity, move_checks, polarity_checks}
+use Rattle.cam_edits.specs.Editing.{step_checks}
+use Rattle.cam_edits.specs.Machinery.Judging.{insertion_answer, item_refusal, other_aperture, placed, step_answer}
 use Rattle.cam_edits.specs.Places.{changed, changed_to}
 use Rattle.cam_edits.specs.Steps.{with_aperture, with_object}
 use Rattle.cam_objects.proofs.TestLaws.{inside_law, limit_law, same_test}
@@ -98,13 +98,13 @@ module _ (c : Content) where
     abbrev room_there : Bool
     room_there = keeps_limits c.entries (insert c.items k item)
 
-    abbrev by_answer : Result Unit EditFault → Bool → Result Step EditFault
-    by_answer answer room = step_unless c (Insert k item) (limited answer room)
+    abbrev by_answer : Result Unit EditFault → Bool → Result Unit EditFault
+    by_answer answer room = answer_of (limited answer room)
 
-    insertion_is : judged c (Some (Insert k item)) ≡ by_answer (insertion_answer told has_place) room_there
+    insertion_is : step_answer c (Insert k item) ≡ by_answer (insertion_answer told has_place) room_there
     unfolding step_checks item_checks
     insertion_is =
-        ap (step_unless c (Insert k item))
+        ap answer_of
         (in_one_order (is_formed_item item) (nat_le k (length c.items)) (is_known_item c.entries item)
         (is_drawable_item c.entries item) (has_radii item) (is_inside c.entries item) (is_within_limits c.entries item)
         room_there)
@@ -112,7 +112,7 @@ module _ (c : Content) where
         ∙ ap (λ p. by_answer (insertion_answer told p) room_there) (sym at))
 
     pub insertion_refused : (fault : EditFault) → insertion_answer told has_place ≡ Err fault
-        → Err fault ≡ judged c (Some (Insert k item))
+        → Err fault ≡ step_answer c (Insert k item)
     insertion_refused fault e = sym (insertion_is ∙ ap (λ r. by_answer r room_there) e)
 
     module _ (done : Unit) (e : insertion_answer told has_place ≡ Ok done) (room : Bool)
@@ -125,14 +125,14 @@ module _ (c : Content) where
           let law = limit_law.layer c.entries (insert c.items k item) in
           same_test room_there room (λ t. anywhere.1 (law.0 t), λ h. law.1 (anywhere.0 h)) kept
 
-      by_room : (b : Bool) → room ≡ b → by_answer (Ok done) b ≡ judged c (Some (Insert k item))
+      by_room : (b : Bool) → room ≡ b → by_answer (Ok done) b ≡ step_answer c (Insert k item)
       by_room b a =
           sym (insertion_is ∙ (ap (λ r. by_answer r room_there) e ∙ ap (by_answer (Ok done)) (same_room ∙ a)))
 
-      pub insertion_limited : room ≡ false → Err TooMuch ≡ judged c (Some (Insert k item))
+      pub insertion_limited : room ≡ false → Err TooMuch ≡ step_answer c (Insert k item)
       insertion_limited = by_room false
 
-      pub inserted : room ≡ true → Ok (Insert k item) ≡ judged c (Some (Insert k item))
+      pub inserted : room ≡ true → Ok tt ≡ step_answer c (Insert k item)
       inserted = by_room true
 
   -- ---- moves
@@ -142,20 +142,20 @@ module _ (c : Content) where
     move = Move k by.x by.y
 
     by_place : (o : Option Item) → slice_get c.items k ≡ o
-        → judged c (Some move) ≡ step_unless c move (first_holding (move_checks c by o))
+        → step_answer c move ≡ answer_of (first_holding (move_checks c by o))
     unfolding step_checks
-    by_place o = ap (λ o. step_unless c move (first_holding (move_checks c by o)))
+    by_place o = ap (λ o. answer_of (first_holding (move_checks c by o)))
 
-    pub nothing_moved : slice_get c.items k ≡ None → Err NoItem ≡ judged c (Some move)
+    pub nothing_moved : slice_get c.items k ≡ None → Err NoItem ≡ step_answer c move
     nothing_moved e = sym (by_place None e)
 
     module _ (x : Item) (here : slice_get c.items k ≡ Some x) where
       by_landing : (b : Bool) → is_inside c.entries (shifted_item by x) ≡ b
-          → judged c (Some move) ≡ step_unless c move (cond (not b) (Some OutOfBoard) None)
+          → step_answer c move ≡ answer_of (cond (not b) (Some OutOfBoard) None)
       by_landing b e =
-          by_place (Some x) here ∙ ap (λ b. step_unless c move (cond (not b) (Some OutOfBoard) None)) e
+          by_place (Some x) here ∙ ap (λ b. answer_of (cond (not b) (Some OutOfBoard) None)) e
 
-      pub moved_too_far : IsSoundContent c.entries c.items → (IsMove by → ⊥) → Err OutOfBoard ≡ judged c (Some move)
+      pub moved_too_far : IsSoundContent c.entries c.items → (IsMove by → ⊥) → Err OutOfBoard ≡ step_answer c move
       moved_too_far h far =
           let sound : IsSoundItem c.entries x = all_here (IsSoundItem c.entries) c.items k x h.items here in
           let law = inside_law c.entries (shifted_item by x) in
@@ -165,47 +165,47 @@ module _ (c : Content) where
         same_landing : is_inside c.entries (shifted_item by x) ≡ b
         same_landing = same_test _ b (inside_law c.entries (shifted_item by x)) tells
 
-        pub moved_off : b ≡ false → Err OutOfBoard ≡ judged c (Some move)
+        pub moved_off : b ≡ false → Err OutOfBoard ≡ step_answer c move
         moved_off e = sym (by_landing false (same_landing ∙ e))
 
-        pub moved : b ≡ true → Ok move ≡ judged c (Some move)
+        pub moved : b ≡ true → Ok tt ≡ step_answer c move
         moved e = sym (by_landing true (same_landing ∙ e))
 
   -- ---- apertures
+
+  -- what an item that is not malformed is refused for, among those that there are with it
+  abbrev pub of_item : Item → List Item → Option EditFault
+  of_item item items =
+      first_holding
+      ((NoAperture, not (is_known_item c.entries item))
+      ∷ (WrongAperture, not (is_drawable_item c.entries item))
+      ∷ (SizeRefused, not (has_radii item))
+      ∷ (OutOfBoard, not (is_inside c.entries item))
+      ∷ (TooMuch, not (is_within_limits c.entries item && keeps_limits c.entries items)) ∷ [])
 
   module _ (k n : ℕ) where
     abbrev aperture : Step
     aperture = Aperture k n
 
     by_item : (o : Option Item) → slice_get c.items k ≡ o
-        → judged c (Some aperture) ≡ step_unless c aperture (first_holding (aperture_checks c k n o))
+        → step_answer c aperture ≡ answer_of (first_holding (aperture_checks c k n o))
     unfolding step_checks
-    by_item o = ap (λ o. step_unless c aperture (first_holding (aperture_checks c k n o)))
+    by_item o = ap (λ o. answer_of (first_holding (aperture_checks c k n o)))
 
-    pub no_aperture : slice_get c.items k ≡ None → Err NoItem ≡ judged c (Some aperture)
+    pub no_aperture : slice_get c.items k ≡ None → Err NoItem ≡ step_answer c aperture
     no_aperture e = sym (by_item None e)
-
-    -- what the item that becomes another is refused for, among those that there are then
-    abbrev of_set : Item → List Item → Option EditFault
-    of_set item items =
-        first_holding
-        ((NoAperture, not (is_known_item c.entries item))
-        ∷ (WrongAperture, not (is_drawable_item c.entries item))
-        ∷ (SizeRefused, not (has_radii item))
-        ∷ (OutOfBoard, not (is_inside c.entries item))
-        ∷ (TooMuch, not (is_within_limits c.entries item && keeps_limits c.entries items)) ∷ [])
 
     module _ (x : Item) (here : slice_get c.items k ≡ Some x) where
       by_having : (b : Bool) → has_aperture x ≡ b
-          → judged c (Some aperture)
-          ≡ step_unless c aperture (cond (not b) (Some HasNone)
-          (of_set (with_object (with_aperture n) x) (changed (with_object (with_aperture n)) c.items k)))
+          → step_answer c aperture
+          ≡ answer_of (cond (not b) (Some HasNone)
+          (of_item (with_object (with_aperture n) x) (changed (with_object (with_aperture n)) c.items k)))
       by_having b e =
           by_item (Some x) here
-          ∙ ap (λ b. step_unless c aperture (cond (not b) (Some HasNone)
-          (of_set (with_object (with_aperture n) x) (changed (with_object (with_aperture n)) c.items k)))) e
+          ∙ ap (λ b. answer_of (cond (not b) (Some HasNone)
+          (of_item (with_object (with_aperture n) x) (changed (with_object (with_aperture n)) c.items k)))) e
 
-      pub aperture_kept : other_aperture n x ≡ None → Err HasNone ≡ judged c (Some aperture)
+      pub aperture_kept : other_aperture n x ≡ None → Err HasNone ≡ step_answer c aperture
       aperture_kept e = sym (by_having false (has_none n x e))
 
       module _ (y : Item) (is : other_aperture n x ≡ Some y) (told : Result Unit ItemFault)
@@ -213,8 +213,8 @@ module _ (c : Content) where
         abbrev set : List Item
         set = slice_set c.items k y
 
-        abbrev by_check : Result Unit ItemFault → Bool → Result Step EditFault
-        by_check told room = step_unless c aperture (limited (placed told) room)
+        abbrev by_check : Result Unit ItemFault → Bool → Result Unit EditFault
+        by_check told room = answer_of (limited (placed told) room)
 
         y_is : with_object (with_aperture n) x ≡ y
         y_is = sym (set_is n x y is)
@@ -225,32 +225,32 @@ module _ (c : Content) where
         set_there : changed (with_object (with_aperture n)) c.items k ≡ set
         set_there = ap (changed_to (with_object (with_aperture n)) c.items k) here ∙ ap (slice_set c.items k) y_is
 
-        aperture_is : judged c (Some aperture) ≡ by_check told (keeps_limits c.entries set)
+        aperture_is : step_answer c aperture ≡ by_check told (keeps_limits c.entries set)
         unfolding item_checks
         aperture_is =
             by_having true (has_one n x y is)
-            ∙ ((λ i. step_unless c aperture (of_set (y_is i) (set_there i)))
-            ∙ (ap (step_unless c aperture)
+            ∙ ((λ i. answer_of (of_item (y_is i) (set_there i)))
+            ∙ (ap answer_of
             (in_one_order true true (is_known_item c.entries y) (is_drawable_item c.entries y) (has_radii y)
             (is_inside c.entries y) (is_within_limits c.entries y) (keeps_limits c.entries set))
             ∙ (ap (λ b. by_check (checked b true (is_known_item c.entries y) (is_drawable_item c.entries y) (has_radii y)
             (is_inside c.entries y) (is_within_limits c.entries y) true) (keeps_limits c.entries set)) formed
             ∙ ap (λ r. by_check r (keeps_limits c.entries set)) (sym tells))))
 
-        pub aperture_refused : (fault : ItemFault) → told ≡ Err fault → Err (item_refusal fault) ≡ judged c (Some aperture)
+        pub aperture_refused : (fault : ItemFault) → told ≡ Err fault → Err (item_refusal fault) ≡ step_answer c aperture
         aperture_refused fault e = sym (aperture_is ∙ ap (λ r. by_check r (keeps_limits c.entries set)) e)
 
         module _ (done : Unit) (e : told ≡ Ok done) (room : Bool) (kept : IsTrue room ↔ KeepsLimits c.entries set) where
-          by_limits : (b : Bool) → room ≡ b → by_check (Ok done) b ≡ judged c (Some aperture)
+          by_limits : (b : Bool) → room ≡ b → by_check (Ok done) b ≡ step_answer c aperture
           by_limits b a =
               sym (aperture_is
               ∙ (ap (λ r. by_check r (keeps_limits c.entries set)) e
               ∙ ap (by_check (Ok done)) (same_test _ room (limit_law.layer c.entries set) kept ∙ a)))
 
-          pub aperture_limited : room ≡ false → Err TooMuch ≡ judged c (Some aperture)
+          pub aperture_limited : room ≡ false → Err TooMuch ≡ step_answer c aperture
           aperture_limited = by_limits false
 
-          pub aperture_changed : room ≡ true → Ok aperture ≡ judged c (Some aperture)
+          pub aperture_changed : room ≡ true → Ok tt ≡ step_answer c aperture
           aperture_changed = by_limits true
 
   -- ---- polarities
@@ -260,21 +260,21 @@ module _ (c : Content) where
     polarity = Polarity k dark
 
     by_polarity : (o : Option Item) → slice_get c.items k ≡ o
-        → judged c (Some polarity) ≡ step_unless c polarity (first_holding (polarity_checks c o))
+        → step_answer c polarity ≡ answer_of (first_holding (polarity_checks c o))
     unfolding step_checks
-    by_polarity o = ap (λ o. step_unless c polarity (first_holding (polarity_checks c o)))
+    by_polarity o = ap (λ o. answer_of (first_holding (polarity_checks c o)))
 
-    pub no_polarity : slice_get c.items k ≡ None → Err NoItem ≡ judged c (Some polarity)
+    pub no_polarity : slice_get c.items k ≡ None → Err NoItem ≡ step_answer c polarity
     no_polarity e = sym (by_polarity None e)
 
     module _ (x : Item) (here : slice_get c.items k ≡ Some x) where
       by_having_one : (b : Bool) → has_polarity x ≡ b
-          → judged c (Some polarity) ≡ step_unless c polarity (cond (not b) (Some HasNone) None)
+          → step_answer c polarity ≡ answer_of (cond (not b) (Some HasNone) None)
       by_having_one b e =
-          by_polarity (Some x) here ∙ ap (λ b. step_unless c polarity (cond (not b) (Some HasNone) None)) e
+          by_polarity (Some x) here ∙ ap (λ b. answer_of (cond (not b) (Some HasNone) None)) e
 
-      pub polarity_kept : has_polarity x ≡ false → Err HasNone ≡ judged c (Some polarity)
+      pub polarity_kept : has_polarity x ≡ false → Err HasNone ≡ step_answer c polarity
       polarity_kept e = sym (by_having_one false e)
 
-      pub polarity_changed : has_polarity x ≡ true → Ok polarity ≡ judged c (Some polarity)
+      pub polarity_changed : has_polarity x ≡ true → Ok tt ≡ step_answer c polarity
       polarity_changed e = sym (by_having_one true e)

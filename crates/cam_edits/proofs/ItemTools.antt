@@ -80,7 +80,7 @@ module _ (old xs ys : List ℕ) (known : AreToolsOf xs old) where
 pub were_tools : (shift : Shift) (xs ys : List DrillItem) (numbers : List ℕ) → IsShift shift xs ys
     → AreToolsOf (tools_of xs) numbers → WereTools shift numbers (tools_of ys)
 were_tools shift xs ys numbers shifted known =
-    record { before = tools_of xs; known = known; edit = edit_read tool_of shift.from shift.to xs ys shifted.edit }
+    record { before = tools_of xs; known = known; edit = edit_read tool_of shift.from shift.to xs ys shifted }
 
 pub new_within : (to : ℕ) (xs ys : List ℕ) → IsEdited None (Some to) xs ys → to < length ys
 new_within to xs ys edit = omega (arith, length-insert xs to edit.1.0 edit.0, ap length edit.1.1, edit.0)

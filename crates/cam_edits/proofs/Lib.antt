@@ -21,6 +21,7 @@ pub mod Plans
 pub mod ChangedItems
 pub mod EditedLists
 pub mod MetSteps
+pub mod UnrefusedSteps
 pub mod SoundDrillEdits
 pub mod SoundEdits
 pub mod TouchedBoxes

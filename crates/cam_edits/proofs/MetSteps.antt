@@ -21,7 +21,6 @@ use Rattle.cam_objects.proofs.SoundItems.{passed}
 use Rattle.cam_objects.proofs.TestLaws.{all_on_board, inside_law, limit_law}
 use Rattle.cam_edits.specs.declared.drill_step.DrillStep.{DrillStep}
 use Rattle.cam_edits.specs.declared.drill_step.DrillStep.TheVariants as drill_steps
-use Rattle.cam_edits.specs.declared.fault.EditFault.TheVariants.{NoAperture, WrongAperture, SizeRefused, OutOfBoard, TooMuch}
 use Rattle.cam_edits.specs.declared.step.Step.{Step}
 use Rattle.cam_edits.specs.declared.step.Step.TheVariants as steps
 use Rattle.cam_edits.specs.Editing.{aperture_checks, drill_step_checks, has_aperture, has_polarity, has_tool, is_tool_size}
@@ -29,7 +28,7 @@ use Rattle.cam_edits.specs.Editing.{move_checks, move_drill_checks, polarity_che
 use Rattle.cam_edits.specs.Moving.{way}
 use Rattle.cam_edits.specs.Places.{changed}
 use Rattle.cam_edits.specs.Steps.{with_aperture, with_object}
-use Rattle.cam_edits.proofs.GerberEdits.{set_formed}
+use Rattle.cam_edits.proofs.GerberEdits.{of_item, set_formed}
 
 pub both : (a b : Bool) → (a && b) ≡ true → (a ≡ true) × (b ≡ true)
 both true b h = (refl, h)
@@ -63,13 +62,7 @@ module _ (c : GerberContent) where
 
   -- an item that is not malformed, among those that there are with it
   item_met : (item : Item) (items : List Item) → is_formed_item item ≡ true
-      → first_holding
-      ((NoAperture, not (is_known_item c.entries item))
-      ∷ (WrongAperture, not (is_drawable_item c.entries item))
-      ∷ (SizeRefused, not (has_radii item))
-      ∷ (OutOfBoard, not (is_inside c.entries item))
-      ∷ (TooMuch, not (is_within_limits c.entries item && keeps_limits c.entries items)) ∷ []) ≡ None
-      → IsSoundItem c.entries item × KeepsLimits c.entries items
+      → of_item c item items ≡ None → IsSoundItem c.entries item × KeepsLimits c.entries items
   unfolding item_checks
   item_met item items formed none =
       let a = passed _ (is_known_item c.entries item) _ none in

@@ -4,6 +4,8 @@ use Rattle.std.specs.Prelude.{slice_get, slice_set}
 use Rattle.std.specs.declared.vec.Vec.{Vec}
 use Rattle.cam_units.specs.declared.bounds.Bounds.{Bounds}
 use Rattle.cam_objects.specs.Contents.{Content as GerberContent, DrillContent}
+use Rattle.cam_objects.specs.DrillSoundness.{IsSoundDrillContent}
+use Rattle.cam_objects.specs.Soundness.{IsSoundContent}
 use Rattle.cam_edits.specs.declared.board_step.BoardStep.TheVariants as plans
 use Rattle.cam_edits.specs.declared.drill_step.DrillStep.{DrillStep}
 use Rattle.cam_edits.specs.declared.edit.Edit.{Edit}
@@ -12,19 +14,21 @@ use Rattle.cam_edits.specs.declared.fault.EditFault.TheVariants.{NoLayer, Memory
 use Rattle.cam_edits.specs.declared.step.Step.{Step}
 use Rattle.cam_edits.specs.BoardSteps.{IsDrillFitOn, IsFitOn, after_drill_on, after_on}
 use Rattle.cam_edits.specs.Boards.{changed_at, content_at, content_or_empty, place_named, with_content}
-use Rattle.cam_edits.specs.DrillSteps.{IsDrillFit, after_drill_step}
+use Rattle.cam_edits.specs.DrillSteps.{IsDrillFit, IsSoundDrillStep, after_drill_step}
 use Rattle.cam_edits.specs.Editing.{drill_step_of, edited, edited_at, edited_sheet, judged_change}
 use Rattle.cam_edits.specs.Editing.{judged_drill, with_drill_step, with_step}
 use Rattle.cam_edits.specs.Machinery.PlaceLaws.{element_at}
 use Rattle.cam_edits.specs.Places.{changed_to}
 use Rattle.cam_edits.specs.Planning.{IsPlan, IsRefused, IsStepOf}
 use Rattle.cam_edits.specs.Sheets.{AreSound, Content, Gerber, Drill, IsSound, Sheet, sheet}
-use Rattle.cam_edits.specs.Steps.{IsFit, after_step}
+use Rattle.cam_edits.specs.Steps.{IsFit, IsSoundStep, after_step}
 use Rattle.cam_edits.specs.Touched.{drill_touched, touched}
 use Rattle.cam_edits.proofs.DrillEdits as drill_edits
 use Rattle.cam_edits.proofs.EditedLists.{all_here}
 use Rattle.cam_edits.proofs.FittingEdits as fitting_edits
 use Rattle.cam_edits.proofs.Refusals.{has_at}
+use Rattle.cam_edits.proofs.SoundDrillEdits.{drill_step_stays_sound}
+use Rattle.cam_edits.proofs.SoundEdits.{step_stays_sound}
 
 module _ (edit : Edit) (sheets : List Sheet) where
   -- no sheet of the name
@@ -70,18 +74,21 @@ module _ (edit : Edit) (sheets : List Sheet) where
         pub no_memory : (fault : EditFault) → fault ≡ Memory → IsRefused (edited edit sheets) fault
         no_memory fault is = subst (λ r. IsRefused r fault) (sym edited_by) is
 
-        pub planned : (boxes : Vec Bounds Global) → boxes.items ≡ touched step c → IsFit step c
+        pub planned : (boxes : Vec Bounds Global) → boxes.items ≡ touched step c → IsFit step c → IsSoundContent c.entries c.items
             → IsPlan sheets edit (plans.Gerber place step boxes)
-        planned boxes are fit =
+        planned boxes are fit sound =
+            let told = fitting_edits.change_accepted c edit.change step e in
+            let fits : IsSoundStep step c =
+            record { fits = fit; before = sound; after = step_stays_sound c step sound told.1 } in
             let is : there.0.content ≡ Gerber c = holds_there (Gerber c) holds in
             let change : Content → Content = λ _. Gerber (after_step step c) in record {
               edited_is = edited_by ∙ ap Ok (same_change change (after_on step) (ap (after_on step) (sym is)));
               fits =
-                  has_at (λ s. IsFitOn step s.content) sheets place there.0 there.1 (subst (IsFitOn step) (sym is) fit);
+                  has_at (λ s. IsFitOn step s.content) sheets place there.0 there.1 (subst (IsFitOn step) (sym is) fits);
               named = named;
               step_is =
                   subst (λ content. IsStepOf edit.change content (plans.Gerber place step boxes)) (sym holds)
-                  ((fitting_edits.change_accepted c edit.change step e).0, are);
+                  (told.0, are);
             }
 
     -- ---- a drill layer
@@ -101,8 +108,12 @@ module _ (edit : Edit) (sheets : List Sheet) where
         drill_no_memory fault is = subst (λ r. IsRefused r fault) (sym drill_edited_by) is
 
         pub drill_planned : (boxes : Vec Bounds Global) → boxes.items ≡ drill_touched step c → IsDrillFit step c
+            → IsSoundDrillContent c.tools c.items
             → IsPlan sheets edit (plans.Drill place step boxes)
-        drill_planned boxes are fit =
+        drill_planned boxes are fit sound =
+            let told = drill_edits.accepted c (drill_step_of edit.change) step e in
+            let fits : IsSoundDrillStep step c =
+            record { fits = fit; before = sound; after = drill_step_stays_sound c step sound told.1 } in
             let is : there.0.content ≡ Drill c = holds_there (Drill c) holds in
             let change : Content → Content = λ _. Drill (after_drill_step step c) in record {
               edited_is =
@@ -110,9 +121,9 @@ module _ (edit : Edit) (sheets : List Sheet) where
                   ∙ ap Ok (same_change change (after_drill_on step) (ap (after_drill_on step) (sym is)));
               fits =
                   has_at (λ s. IsDrillFitOn step s.content) sheets place there.0 there.1
-                  (subst (IsDrillFitOn step) (sym is) fit);
+                  (subst (IsDrillFitOn step) (sym is) fits);
               named = named;
               step_is =
                   subst (λ content. IsStepOf edit.change content (plans.Drill place step boxes)) (sym holds)
-                  ((drill_edits.accepted c (drill_step_of edit.change) step e).0, are);
+                  (told.0, are);
             }

@@ -135,7 +135,7 @@ empty_sound = record {
   };
 }
 
-held_sound : (sheets : List Sheet) (place : ℕ) (o : Option Sheet) → AreSound sheets → slice_get sheets place ≡ o
+pub held_sound : (sheets : List Sheet) (place : ℕ) (o : Option Sheet) → AreSound sheets → slice_get sheets place ≡ o
     → IsSound (content_or_empty o)
 held_sound sheets place None h e = empty_sound
 held_sound sheets place (Some s) h e = all_here (λ s. IsSound s.content) sheets place s h e

@@ -51,7 +51,7 @@ leaves_of_item ts (Rout tool points) = refl
 pub same_number : (t x y : ℕ) → nat_eq t x ≡ true → nat_eq t y ≡ nat_eq x y
 same_number t x y e = let is : t ≡ x = grind (arith, nat_tests) in ap (λ n. nat_eq n y) is
 
-new_diameter : (ts : List (ℕ × Nm)) (t : ℕ) (d : Nm) → IsSome (diameter_of ts t)
+pub new_diameter : (ts : List (ℕ × Nm)) (t : ℕ) (d : Nm) → IsSome (diameter_of ts t)
     → diameter_of (set_value (nat_eq t) ts d) t ≡ Some d
 new_diameter ts t d there =
     lookup-set_value nat_eq_equiv (nat_eq t) (same_number t) t d ts there

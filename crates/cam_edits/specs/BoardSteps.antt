@@ -1,5 +1,5 @@
 -- What the steps of a board do to its sheets, and which steps lead back: a step changes one sheet, which is of its
--- kind.
+-- kind, and keeps its items sound.
 use Rattle.std.specs.Prelude.{ℕ, ◌==◌, Bool, if◌then◌else◌, List, [], ◌∷◌, MatchOption, slice_get}
 use Rattle.cam_units.specs.declared.bounds.Bounds.{Bounds}
 use Rattle.cam_edits.specs.declared.board.Board.{Board}
@@ -10,10 +10,10 @@ use Rattle.cam_edits.specs.declared.board_step.BoardStep.TheVariants as steps
 use Rattle.cam_edits.specs.declared.drill_step.DrillStep.{DrillStep}
 use Rattle.cam_edits.specs.declared.step.Step.{Step}
 use Rattle.cam_edits.specs.Boards.{changed_at, content_at}
-use Rattle.cam_edits.specs.DrillSteps.{HasDrillRoom, IsDrillFit, after_drill_step, inverse_drill_step}
+use Rattle.cam_edits.specs.DrillSteps.{HasDrillRoom, IsSoundDrillStep, after_drill_step, inverse_drill_step}
 use Rattle.cam_edits.specs.Places.{HasAt}
 use Rattle.cam_edits.specs.Sheets.{Content, Gerber, Drill, Sheet}
-use Rattle.cam_edits.specs.Steps.{HasRoom, IsFit, after_step, inverse_step}
+use Rattle.cam_edits.specs.Steps.{HasRoom, IsSoundStep, after_step, inverse_step}
 
 -- ---- one sheet
 
@@ -34,12 +34,12 @@ inverse_drill_on step (Gerber c) = step
 inverse_drill_on step (Drill c) = inverse_drill_step step c
 
 abbrev pub IsFitOn : Step → Content → Type 0
-IsFitOn step (Gerber c) = IsFit step c
+IsFitOn step (Gerber c) = IsSoundStep step c
 IsFitOn step (Drill c) = ⊥
 
 abbrev pub IsDrillFitOn : DrillStep → Content → Type 0
 IsDrillFitOn step (Gerber c) = ⊥
-IsDrillFitOn step (Drill c) = IsDrillFit step c
+IsDrillFitOn step (Drill c) = IsSoundDrillStep step c
 
 -- ---- the board
 

@@ -6,7 +6,7 @@ use Rattle.cam_units.specs.declared.length.Nm.{Nm}
 use Rattle.cam_shapes.specs.Shifting.{IsShiftable}
 use Rattle.cam_objects.specs.Contents.{DrillContent}
 use Rattle.cam_objects.specs.Drilling.{diameter_of}
-use Rattle.cam_objects.specs.DrillSoundness.{tool_of}
+use Rattle.cam_objects.specs.DrillSoundness.{IsSoundDrillContent, tool_of}
 use Rattle.cam_objects.specs.Shifting.{shifted_drill_item}
 use Rattle.cam_objects.specs.declared.drill_item.DrillItem.{DrillItem}
 use Rattle.cam_objects.specs.declared.drill_item.DrillItem.TheVariants.{Hit, Rout}
@@ -64,6 +64,12 @@ IsDrillFit (Move k dx dy) c = IsShiftable (way dx dy) × HasAt (IsMovableDrillIt
 IsDrillFit (Reorder k m) c = (k < length c.items) × (m < length c.items)
 IsDrillFit (Tool k t) c = k < length c.items
 IsDrillFit (Diameter t d) c = IsSome (diameter_of c.tools t)
+
+-- it fits, and leads from sound tools and items to sound ones
+pub record IsSoundDrillStep (step : DrillStep) (c : DrillContent) : Type 0 where
+  pub fits : IsDrillFit step c
+  pub before : IsSoundDrillContent c.tools c.items
+  pub after : IsSoundDrillContent (tools_after step c.tools) (drill_items_after step c.items)
 
 abbrev pub is_drill_insertion : DrillStep → Bool
 is_drill_insertion (Insert k item) = true

@@ -5,6 +5,7 @@ use Rattle.cam_shapes.specs.Shifting.{IsShiftable}
 use Rattle.cam_objects.specs.Attributes.{attribute_of}
 use Rattle.cam_objects.specs.Contents.{Content}
 use Rattle.cam_objects.specs.Shifting.{shifted_item}
+use Rattle.cam_objects.specs.Soundness.{IsSoundContent}
 use Rattle.cam_objects.specs.declared.attribute.Attribute.{Attribute}
 use Rattle.cam_objects.specs.declared.object.Object.{Object}
 use Rattle.cam_objects.specs.declared.object.Object.TheVariants.{Flash, Draw, Arc, Region}
@@ -118,6 +119,12 @@ IsFit (Polarity k dark) c = HasAt (IsOne (λ _. Unit {0})) c.items k
 IsFit (PutAttribute k a) c = k ≤ length c.attributes
 IsFit (TakeAttribute k) c = k < length c.attributes
 IsFit (SetFields k fields) c = k < length c.attributes
+
+-- it fits, and leads from sound items to sound items
+pub record IsSoundStep (step : Step) (c : Content) : Type 0 where
+  pub fits : IsFit step c
+  pub before : IsSoundContent c.entries c.items
+  pub after : IsSoundContent c.entries (items_after step c.items)
 
 abbrev pub is_insertion : Step → Bool
 is_insertion (Insert k item) = true

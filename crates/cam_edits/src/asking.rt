@@ -32,8 +32,8 @@ impl SheetContent {
         ensures { PointsAt (sheet_lists (content_of self.now)) at before result }
     {
         match self {
-            SheetContent::Gerber(layer) => layer.layer().item_at(layer.cells(), at, before),
-            SheetContent::Drill(layer) => layer.layer().item_at(layer.cells(), at, before),
+            SheetContent::Gerber(layer) => layer.layer().item_at(Some(layer.cells()), at, before),
+            SheetContent::Drill(layer) => layer.layer().item_at(Some(layer.cells()), at, before),
         }
     }
 

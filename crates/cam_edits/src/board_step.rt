@@ -177,7 +177,7 @@ fn fits_sheet(step: &Step, content: &SheetContent) -> bool
     ensures { IsTrue result ↔ IsFitOn step.now (content_of content.now) }
 {
     match content {
-        SheetContent::Gerber(layer) => step.fits(layer.layer()),
+        SheetContent::Gerber(layer) => layer.fits(step),
         SheetContent::Drill(_) => false,
     }
 }
@@ -188,7 +188,7 @@ fn fits_drill_sheet(step: &DrillStep, content: &SheetContent) -> bool
 {
     match content {
         SheetContent::Gerber(_) => false,
-        SheetContent::Drill(layer) => step.fits(layer.layer()),
+        SheetContent::Drill(layer) => layer.fits(step),
     }
 }
 

@@ -1,6 +1,5 @@
 //! The first copies of the repeats of a layer, which follow its items.
 
-ghost use Rattle.std.specs.Prelude.{◌≡◌, IsTrue};
 ghost use Rattle.cam_objects.specs.Cells.{AreFirstCopiesOf};
 ghost use Rattle.cam_objects.specs.Soundness.{HasSoundItems};
 ghost use Rattle.cam_edits.specs.Machinery.Shifts.{WereFirstCopies};
@@ -21,15 +20,15 @@ fn follow(copies: &mut FirstCopies, layer: &Layer, shift: Shift)
     }
 }
 
-/// Lets the first copies follow a step. In a layer that is known to be sound, that of an item that changed at its place
-/// is read anew. Takes no memory.
-pub(crate) fn mend_copies(copies: &mut FirstCopies, layer: &Layer, shift: Shift, sound: bool)
-    requires sound { IsTrue sound → HasSoundItems layer.now }
+/// Lets the first copies follow a step to a sound layer. That of an item that changed at its place is read anew. Takes
+/// no memory.
+pub(crate) fn mend_copies(copies: &mut FirstCopies, layer: &Layer, shift: Shift)
+    requires sound { HasSoundItems layer.now }
     requires was { WereFirstCopies shift layer.now copies.old }
     ensures { AreFirstCopiesOf layer.now.apertures layer.now.items.items copies.new }
 {
     match (shift.from, shift.to) {
-        (Some(from), Some(to)) if sound && from == to => copies.renew(layer, to),
+        (Some(from), Some(to)) if from == to => copies.renew(layer, to),
         _ => follow(copies, layer, shift),
     }
 }

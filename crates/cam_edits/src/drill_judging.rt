@@ -6,6 +6,7 @@ ghost use Rattle.cam_objects.specs.Drilling.{diameter_of};
 ghost use Rattle.cam_objects.specs.DrillSoundness.{IsSoundDrillLayer};
 ghost use Rattle.cam_edits.specs.DrillSteps.{IsDrillFit};
 ghost use Rattle.cam_edits.specs.Editing.{drill_step_of, is_tool_size, judged_drill};
+ghost use Rattle.cam_edits.specs.Machinery.Judging.{drill_step_answer};
 ghost use Rattle.cam_edits.specs.Machinery.Shifts.{drill_leaves_in};
 ghost use Rattle.cam_edits.specs.declared.drill_step.DrillStep.TheVariants.{
   Delete,
@@ -23,7 +24,7 @@ use crate::item_refusal::check_insertion;
 use crate::moving::{is_move, way};
 use cam_objects::{DrillItem, DrillLayer};
 use cam_refusals::limits::SIZE_LIMIT;
-use cam_units::Nm;
+use cam_units::{Nm, Point};
 
 /// The step of an edit of the drill layer, which has so many holes and slots; it fits the layer. Or the edit's first
 /// refusal.
@@ -40,67 +41,97 @@ pub(crate) fn judged_drill(
     match change {
         Change::Insert { k, item } => match item {
             NewItem::Gerber(_) => Err(EditFault::WrongKind),
-            NewItem::Drill(item) => insertion(layer, leaves, k, item),
+            NewItem::Drill(item) => checked(layer, leaves, DrillStep::Insert { k, item }),
         },
-        Change::Delete { k } => deletion(layer, k),
-        Change::Move { k, dx, dy } => shift(layer, k, dx, dy),
-        Change::Reorder { k, m } => reordering(layer, k, m),
+        Change::Delete { k } => checked(layer, leaves, DrillStep::Delete { k }),
+        Change::Move { k, dx, dy } => checked(layer, leaves, DrillStep::Move { k, dx, dy }),
+        Change::Reorder { k, m } => checked(layer, leaves, DrillStep::Reorder { k, m }),
         Change::Aperture { .. } => Err(EditFault::WrongKind),
         Change::Polarity { .. } => Err(EditFault::WrongKind),
-        Change::Tool { k, t } => tool_change(layer, k, t),
-        Change::Diameter { t, d } => diameter_change(layer, t, d),
+        Change::Tool { k, t } => checked(layer, leaves, DrillStep::Tool { k, t }),
+        Change::Diameter { t, d } => checked(layer, leaves, DrillStep::Diameter { t, d }),
         Change::SetAttribute { .. } => Err(EditFault::WrongKind),
         Change::DropAttribute { .. } => Err(EditFault::WrongKind),
     }
 }
 
-fn insertion(
+/// The step, which fits the layer, or its first refusal.
+fn checked(layer: &DrillLayer, leaves: u64, step: DrillStep) -> Result<DrillStep, EditFault>
+    requires sound { IsSoundDrillLayer layer.now }
+    requires leaves { leaves ≡ drill_leaves_in layer.now }
+    ensures value { result ≡ judged_drill (drill_content_of layer.now) (Some step) }
+    ensures fits { IfOk result (λ step. IsDrillFit step (drill_content_of layer.now)) }
+{
+    check_drill(layer, leaves, &step)?;
+    Ok(step)
+}
+
+/// Whether a step of the sound drill layer, which has so many holes and slots, is refused, and why.
+pub(crate) fn check_drill(
+    layer: &DrillLayer,
+    leaves: u64,
+    step: &DrillStep,
+) -> Result<(), EditFault>
+    requires sound { IsSoundDrillLayer layer.now }
+    requires leaves { leaves ≡ drill_leaves_in layer.now }
+    ensures { result ≡ drill_step_answer (drill_content_of layer.now) step.now }
+{
+    match step {
+        DrillStep::Insert { k, item } => check_insert(layer, leaves, *k, item),
+        DrillStep::Delete { k } => check_delete(layer, *k),
+        DrillStep::Move { k, dx, dy } => check_move(layer, *k, way(*dx, *dy)),
+        DrillStep::Reorder { k, m } => check_reorder(layer, *k, *m),
+        DrillStep::Tool { k, t } => check_tool(layer, *k, *t),
+        DrillStep::Diameter { t, d } => check_diameter(layer, *t, *d),
+    }
+}
+
+fn check_insert(
     layer: &DrillLayer,
     leaves: u64,
     k: usize,
-    item: DrillItem,
-) -> Result<DrillStep, EditFault>
+    item: &DrillItem,
+) -> Result<(), EditFault>
     requires sound { IsSoundDrillLayer layer.now }
     requires leaves { leaves ≡ drill_leaves_in layer.now }
-    ensures { result ≡ judged_drill (drill_content_of layer.now) (Some (Insert k item)) }
+    ensures { result ≡ drill_step_answer (drill_content_of layer.now) (Insert k item.now) }
 {
-    check_insertion(layer.check_item(&item), k <= layer.items.len())?;
-    if !layer.has_room_beside(leaves, &item) {
+    check_insertion(layer.check_item(item), k <= layer.items.len())?;
+    if !layer.has_room_beside(leaves, item) {
         return Err(EditFault::TooMuch);
     }
-    Ok(DrillStep::Insert { k, item })
+    Ok(())
 }
 
 #[tactic(auto, unfolding(crate::specs::Editing::drill_step_checks))]
-fn deletion(layer: &DrillLayer, k: usize) -> Result<DrillStep, EditFault>
-    ensures { result ≡ judged_drill (drill_content_of layer.now) (Some (Delete k)) }
+fn check_delete(layer: &DrillLayer, k: usize) -> Result<(), EditFault>
+    ensures { result ≡ drill_step_answer (drill_content_of layer.now) (Delete k) }
 {
     if k >= layer.items.len() {
         return Err(EditFault::NoItem);
     }
-    Ok(DrillStep::Delete { k })
+    Ok(())
 }
 
-fn shift(layer: &DrillLayer, k: usize, dx: i64, dy: i64) -> Result<DrillStep, EditFault>
+fn check_move(layer: &DrillLayer, k: usize, by: Point) -> Result<(), EditFault>
     requires { IsSoundDrillLayer layer.now }
-    ensures { result ≡ judged_drill (drill_content_of layer.now) (Some (Move k dx dy)) }
+    ensures { result ≡ drill_step_answer (drill_content_of layer.now) (Move k by.x by.y) }
 {
     let Some(item) = layer.items.get(k) else {
         return Err(EditFault::NoItem);
     };
-    let by = way(dx, dy);
     if !is_move(by) {
         return Err(EditFault::OutOfBoard);
     }
     if !layer.can_move(item, by) {
         return Err(EditFault::OutOfBoard);
     }
-    Ok(DrillStep::Move { k, dx, dy })
+    Ok(())
 }
 
 #[tactic(auto, unfolding(crate::specs::Editing::drill_step_checks))]
-fn reordering(layer: &DrillLayer, k: usize, m: usize) -> Result<DrillStep, EditFault>
-    ensures { result ≡ judged_drill (drill_content_of layer.now) (Some (Reorder k m)) }
+fn check_reorder(layer: &DrillLayer, k: usize, m: usize) -> Result<(), EditFault>
+    ensures { result ≡ drill_step_answer (drill_content_of layer.now) (Reorder k m) }
 {
     if k >= layer.items.len() {
         return Err(EditFault::NoItem);
@@ -108,12 +139,12 @@ fn reordering(layer: &DrillLayer, k: usize, m: usize) -> Result<DrillStep, EditF
     if m >= layer.items.len() {
         return Err(EditFault::NoItem);
     }
-    Ok(DrillStep::Reorder { k, m })
+    Ok(())
 }
 
 #[tactic(auto, unfolding(crate::specs::Editing::drill_step_checks))]
-fn tool_change(layer: &DrillLayer, k: usize, t: u16) -> Result<DrillStep, EditFault>
-    ensures { result ≡ judged_drill (drill_content_of layer.now) (Some (Tool k t)) }
+fn check_tool(layer: &DrillLayer, k: usize, t: u16) -> Result<(), EditFault>
+    ensures { result ≡ drill_step_answer (drill_content_of layer.now) (Tool k t) }
 {
     if k >= layer.items.len() {
         return Err(EditFault::NoItem);
@@ -121,12 +152,12 @@ fn tool_change(layer: &DrillLayer, k: usize, t: u16) -> Result<DrillStep, EditFa
     if !has_tool(layer, t) {
         return Err(EditFault::NoTool);
     }
-    Ok(DrillStep::Tool { k, t })
+    Ok(())
 }
 
 #[tactic(auto, unfolding(crate::specs::Editing::drill_step_checks))]
-fn diameter_change(layer: &DrillLayer, t: u16, d: Nm) -> Result<DrillStep, EditFault>
-    ensures { result ≡ judged_drill (drill_content_of layer.now) (Some (Diameter t d)) }
+fn check_diameter(layer: &DrillLayer, t: u16, d: Nm) -> Result<(), EditFault>
+    ensures { result ≡ drill_step_answer (drill_content_of layer.now) (Diameter t d) }
 {
     if !has_tool(layer, t) {
         return Err(EditFault::NoTool);
@@ -134,7 +165,7 @@ fn diameter_change(layer: &DrillLayer, t: u16, d: Nm) -> Result<DrillStep, EditF
     if !is_tool_size(d) {
         return Err(EditFault::SizeRefused);
     }
-    Ok(DrillStep::Diameter { t, d })
+    Ok(())
 }
 
 /// Whether the layer has a tool of the number.
@@ -145,7 +176,7 @@ fn has_tool(layer: &DrillLayer, t: u16) -> bool
 }
 
 /// Whether a tool may have this diameter.
-pub(crate) fn is_tool_size(d: Nm) -> bool
+fn is_tool_size(d: Nm) -> bool
     ensures { result ≡ is_tool_size d }
 {
     1 <= d.0 && d.0 <= SIZE_LIMIT as i64

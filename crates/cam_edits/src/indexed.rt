@@ -1,12 +1,26 @@
 //! Layers beside which it is kept what their items reach.
 
-ghost use Rattle.std.specs.Prelude.{◌≡◌, ◌+◌, ◌≤◌, ◌∷◌, ◌++◌, [], IfSome, List, OnOk, length, vec_capacity};
+ghost use Rattle.std.specs.Prelude.{
+  ◌≡◌,
+  ◌↔◌,
+  ◌+◌,
+  ◌≤◌,
+  ◌∷◌,
+  ◌++◌,
+  [],
+  IsTrue,
+  List,
+  OnOk,
+  length,
+  vec_capacity,
+};
 ghost use Rattle.cam_objects.specs.Cells.{AreCellsOf, AreFirstCopiesOf, item_boxes};
 ghost use Rattle.cam_objects.specs.Contents.{content_of};
 ghost use Rattle.cam_objects.specs.Soundness.{HasSoundItems};
-ghost use Rattle.cam_edits.specs.Steps.{HasRoom, IsFit, after_step, inverse_step};
+ghost use Rattle.cam_edits.specs.Steps.{HasRoom, IsSoundStep, after_step, inverse_step};
 
 use crate::copies::mend_copies;
+use crate::judging::check;
 use crate::mending::{leaves_at, mend_kept};
 use crate::reversible::Reversible;
 use crate::shift::Shift;
@@ -27,7 +41,7 @@ pub(crate) struct Kept {
 #[derive(Drop)]
 pub struct IndexedLayer {
     layer: Layer,
-    kept: Option<Kept>,
+    kept: Kept,
     copies: FirstCopies,
 }
 
@@ -55,7 +69,7 @@ impl IndexedLayer {
         let copies = first_copies(alloc, &layer, leaves);
         IndexedLayer {
             layer,
-            kept: Some(Kept { cells, leaves }),
+            kept: Kept { cells, leaves },
             copies,
         }
     }
@@ -68,14 +82,10 @@ impl IndexedLayer {
     }
 
     /// What its items reach, where it is known.
-    pub fn cells(&self) -> Option<&ItemCells>
-        ensures { IfSome result
-            (λ cells. AreCellsOf (item_boxes self.now.apertures self.now.items.items) cells.now) }
+    pub fn cells(&self) -> &ItemCells
+        ensures { AreCellsOf (item_boxes self.now.apertures self.now.items.items) result.now }
     {
-        match &self.kept {
-            Some(kept) => Some(&kept.cells),
-            None => None,
-        }
+        &self.kept.cells
     }
 
     /// The first copies of its repeats of many objects, as far as they are known.
@@ -87,13 +97,9 @@ impl IndexedLayer {
 
     /// How many leaves it has.
     pub(crate) fn leaves(&self) -> u64
-        requires { HasSoundItems self.now }
         ensures { result ≡ leaves_in self.now }
     {
-        match &self.kept {
-            Some(kept) => kept.leaves,
-            None => self.layer.leaf_count(),
-        }
+        self.kept.leaves
     }
 
     /// Makes room for so many items more, and for so many attributes; refused for want of memory alone. The layer
@@ -104,24 +110,34 @@ impl IndexedLayer {
         ensures attributes { OnOk result
             (length self.new.attributes.items + attributes ≤ vec_capacity self.new.attributes) }
     {
-        reserve_cells(&mut self.kept, items);
+        self.kept.cells.reserve(items);
         self.layer.items.reserve(items)?;
         self.layer.attributes.reserve(attributes)
     }
 
+    /// Whether a step may be played on it: it fits the layer, and leads to a sound one.
+    pub(crate) fn fits(&self, step: &Step) -> bool
+        ensures { IsTrue result ↔ IsSoundStep step.now (content_of self.now) }
+    {
+        if !step.fits(&self.layer) {
+            return false;
+        }
+        check(&self.layer, self.kept.leaves, step).is_ok()
+    }
+
     /// Plays a step. The answer leads back. Takes no memory: the first copy of a repeat that comes is not known.
     pub(crate) fn play(&mut self, step: Step) -> Step
-        requires fits { IsFit step (content_of self.old) }
+        requires fits { IsSoundStep step (content_of self.old) }
         requires room { HasRoom (step ∷ []) self.old }
         ensures content { content_of self.new ≡ after_step step (content_of self.old) }
         ensures answer { result ≡ inverse_step step (content_of self.old) }
         ensures room { (rest : List Step) → HasRoom (rest ++ step ∷ []) self.old → HasRoom rest self.new }
     {
         let shift = Shift::of(&step);
-        let gone = leaves_at(&self.layer, shift.from, self.kept.is_some());
+        let gone = leaves_at(&self.layer, shift.from);
         let answer = step.play(&mut self.layer);
         mend_kept(&mut self.kept, shift, gone, &self.layer);
-        mend_copies(&mut self.copies, &self.layer, shift, self.kept.is_some());
+        mend_copies(&mut self.copies, &self.layer, shift);
         answer
     }
 }
@@ -136,14 +152,5 @@ fn first_copies(alloc: Global, layer: &Layer, leaves: u64) -> FirstCopies
         layer.first_copies(alloc)
     } else {
         FirstCopies::none(alloc)
-    }
-}
-
-/// Makes room for what so many items more reach; where memory for it is refused, it will not be known.
-pub(crate) fn reserve_cells(kept: &mut Option<Kept>, items: usize)
-    ensures { kept.new ≡ kept.old }
-{
-    if let Some(kept) = kept {
-        kept.cells.reserve(items);
     }
 }

@@ -1,14 +1,28 @@
 //! Drill layers beside which it is kept what their items reach.
 
-ghost use Rattle.std.specs.Prelude.{◌≡◌, ◌+◌, ◌≤◌, ◌∷◌, ◌++◌, [], IfSome, List, OnOk, length, vec_capacity};
+ghost use Rattle.std.specs.Prelude.{
+  ◌≡◌,
+  ◌↔◌,
+  ◌+◌,
+  ◌≤◌,
+  ◌∷◌,
+  ◌++◌,
+  [],
+  IsTrue,
+  List,
+  OnOk,
+  length,
+  vec_capacity,
+};
 ghost use Rattle.cam_objects.specs.Cells.{AreCellsOf, drill_item_boxes};
 ghost use Rattle.cam_objects.specs.Contents.{drill_content_of};
 ghost use Rattle.cam_objects.specs.DrillSoundness.{IsSoundDrillLayer};
-ghost use Rattle.cam_edits.specs.DrillSteps.{HasDrillRoom, IsDrillFit, after_drill_step, inverse_drill_step};
+ghost use Rattle.cam_edits.specs.DrillSteps.{HasDrillRoom, IsSoundDrillStep, after_drill_step, inverse_drill_step};
 
+use crate::drill_judging::check_drill;
 use crate::drill_mending::{leaves_at, mend_kept};
 use crate::drill_step::DrillStep;
-use crate::indexed::{Kept, reserve_cells};
+use crate::indexed::Kept;
 use crate::item_tools::{follow, tools_of};
 use crate::reversible::Reversible;
 use crate::shift::Shift;
@@ -21,7 +35,7 @@ use std::marker::Model;
 #[derive(Drop)]
 pub struct IndexedDrillLayer {
     layer: DrillLayer,
-    kept: Option<Kept>,
+    kept: Kept,
     tools: ItemNumbers,
 }
 
@@ -48,7 +62,7 @@ impl IndexedDrillLayer {
         let tools = tools_of(alloc, &layer);
         IndexedDrillLayer {
             layer,
-            kept: Some(Kept { cells, leaves }),
+            kept: Kept { cells, leaves },
             tools,
         }
     }
@@ -61,25 +75,17 @@ impl IndexedDrillLayer {
     }
 
     /// What its items reach, where it is known.
-    pub fn cells(&self) -> Option<&ItemCells>
-        ensures { IfSome result
-            (λ cells. AreCellsOf (drill_item_boxes self.now.tools self.now.items.items) cells.now) }
+    pub fn cells(&self) -> &ItemCells
+        ensures { AreCellsOf (drill_item_boxes self.now.tools self.now.items.items) result.now }
     {
-        match &self.kept {
-            Some(kept) => Some(&kept.cells),
-            None => None,
-        }
+        &self.kept.cells
     }
 
     /// How many holes and slots it has.
     pub(crate) fn leaves(&self) -> u64
-        requires { IsSoundDrillLayer self.now }
         ensures { result ≡ drill_leaves_in self.now }
     {
-        match &self.kept {
-            Some(kept) => kept.leaves,
-            None => self.layer.leaf_count(),
-        }
+        self.kept.leaves
     }
 
     /// The tools of its items, from the first on, as far as there was memory for them.
@@ -95,14 +101,24 @@ impl IndexedDrillLayer {
         ensures content { drill_content_of self.new ≡ drill_content_of self.old }
         ensures items { OnOk result (length self.new.items.items + items ≤ vec_capacity self.new.items) }
     {
-        reserve_cells(&mut self.kept, items);
+        self.kept.cells.reserve(items);
         self.tools.reserve(items);
         self.layer.items.reserve(items)
     }
 
+    /// Whether a step may be played on it: it fits the layer, and leads to a sound one.
+    pub(crate) fn fits(&self, step: &DrillStep) -> bool
+        ensures { IsTrue result ↔ IsSoundDrillStep step.now (drill_content_of self.now) }
+    {
+        if !step.fits(&self.layer) {
+            return false;
+        }
+        check_drill(&self.layer, self.kept.leaves, step).is_ok()
+    }
+
     /// Plays a step. The answer leads back. Takes no memory.
     pub(crate) fn play(&mut self, step: DrillStep) -> DrillStep
-        requires fits { IsDrillFit step (drill_content_of self.old) }
+        requires fits { IsSoundDrillStep step (drill_content_of self.old) }
         requires room { HasDrillRoom (step ∷ []) self.old }
         ensures content { drill_content_of self.new ≡ after_drill_step step (drill_content_of self.old) }
         ensures answer { result ≡ inverse_drill_step step (drill_content_of self.old) }

@@ -1,10 +1,10 @@
 //! Judges edits of a Gerber layer.
 
-ghost use Rattle.std.specs.Prelude.{◌≡◌, IfOk, Some};
+ghost use Rattle.std.specs.Prelude.{◌≡◌, Bool, IfOk, Some};
 ghost use Rattle.cam_objects.specs.Contents.{content_of};
 ghost use Rattle.cam_objects.specs.Soundness.{HasSoundItems};
 ghost use Rattle.cam_edits.specs.Editing.{judged, judged_change};
-ghost use Rattle.cam_edits.specs.Machinery.Judging.{other_aperture};
+ghost use Rattle.cam_edits.specs.Machinery.Judging.{IsItemStep, other_aperture, step_answer};
 ghost use Rattle.cam_edits.specs.Machinery.Shifts.{leaves_in};
 ghost use Rattle.cam_edits.specs.Sheets.{IsSoundGerber};
 ghost use Rattle.cam_edits.specs.Steps.{IsFit};
@@ -18,6 +18,7 @@ use crate::item_refusal::{check_insertion, item_refusal};
 use crate::moving::{is_move, way};
 use crate::step::Step;
 use cam_objects::{Item, Layer, Object};
+use cam_units::Point;
 
 /// The step of an edit of the layer, which has so many leaves; it fits the layer. Or the edit's first refusal.
 pub(crate) fn judged(layer: &Layer, leaves: u64, change: Change) -> Result<Step, EditFault>
@@ -28,14 +29,14 @@ pub(crate) fn judged(layer: &Layer, leaves: u64, change: Change) -> Result<Step,
 {
     match change {
         Change::Insert { k, item } => match item {
-            NewItem::Gerber(item) => insertion(layer, leaves, k, item),
+            NewItem::Gerber(item) => checked(layer, leaves, Step::Insert { k, item }),
             NewItem::Drill(_) => Err(EditFault::WrongKind),
         },
-        Change::Delete { k } => deletion(layer, k),
-        Change::Move { k, dx, dy } => shift(layer, k, dx, dy),
-        Change::Reorder { k, m } => reordering(layer, k, m),
-        Change::Aperture { k, n } => aperture_change(layer, leaves, k, n),
-        Change::Polarity { k, dark } => polarity_change(layer, k, dark),
+        Change::Delete { k } => checked(layer, leaves, Step::Delete { k }),
+        Change::Move { k, dx, dy } => checked(layer, leaves, Step::Move { k, dx, dy }),
+        Change::Reorder { k, m } => checked(layer, leaves, Step::Reorder { k, m }),
+        Change::Aperture { k, n } => checked(layer, leaves, Step::Aperture { k, n }),
+        Change::Polarity { k, dark } => checked(layer, leaves, Step::Polarity { k, dark }),
         Change::Tool { .. } => Err(EditFault::WrongKind),
         Change::Diameter { .. } => Err(EditFault::WrongKind),
         Change::SetAttribute { key, fields } => setting(layer, key, fields),
@@ -43,47 +44,78 @@ pub(crate) fn judged(layer: &Layer, leaves: u64, change: Change) -> Result<Step,
     }
 }
 
-fn insertion(layer: &Layer, leaves: u64, k: usize, item: Item) -> Result<Step, EditFault>
-    requires { leaves ≡ leaves_in layer.now }
-    ensures { result ≡ judged (content_of layer.now) (Some (Insert k item)) }
+/// The step of items, which fits the layer, or its first refusal.
+fn checked(layer: &Layer, leaves: u64, step: Step) -> Result<Step, EditFault>
+    requires sound { HasSoundItems layer.now }
+    requires leaves { leaves ≡ leaves_in layer.now }
+    requires items { IsItemStep step }
+    ensures value { result ≡ judged (content_of layer.now) (Some step) }
+    ensures fits { IfOk result (λ step. IsFit step (content_of layer.now)) }
 {
-    check_insertion(layer.check_item(&item), k <= layer.items.len())?;
-    if !layer.has_room_beside(leaves, &item) {
+    check(layer, leaves, &step)?;
+    Ok(step)
+}
+
+/// Whether a step of the sound layer, which has so many leaves, is refused, and why.
+#[tactic(auto, unfolding(crate::specs::Editing::step_checks))]
+pub(crate) fn check(layer: &Layer, leaves: u64, step: &Step) -> Result<(), EditFault>
+    requires sound { HasSoundItems layer.now }
+    requires leaves { leaves ≡ leaves_in layer.now }
+    ensures { result ≡ step_answer (content_of layer.now) step.now }
+{
+    match step {
+        Step::Insert { k, item } => check_insert(layer, leaves, *k, item),
+        Step::Delete { k } => check_delete(layer, *k),
+        Step::Move { k, dx, dy } => check_move(layer, *k, way(*dx, *dy)),
+        Step::Reorder { k, m } => check_reorder(layer, *k, *m),
+        Step::Aperture { k, n } => check_aperture(layer, leaves, *k, *n),
+        Step::Polarity { k, .. } => check_polarity(layer, *k),
+        Step::PutAttribute { .. } => Ok(()),
+        Step::TakeAttribute { .. } => Ok(()),
+        Step::SetFields { .. } => Ok(()),
+    }
+}
+
+fn check_insert(layer: &Layer, leaves: u64, k: usize, item: &Item) -> Result<(), EditFault>
+    requires { leaves ≡ leaves_in layer.now }
+    ensures { result ≡ step_answer (content_of layer.now) (Insert k item.now) }
+{
+    check_insertion(layer.check_item(item), k <= layer.items.len())?;
+    if !layer.has_room_beside(leaves, item) {
         return Err(EditFault::TooMuch);
     }
-    Ok(Step::Insert { k, item })
+    Ok(())
 }
 
 #[tactic(auto, unfolding(crate::specs::Editing::step_checks))]
-fn deletion(layer: &Layer, k: usize) -> Result<Step, EditFault>
-    ensures { result ≡ judged (content_of layer.now) (Some (Delete k)) }
+fn check_delete(layer: &Layer, k: usize) -> Result<(), EditFault>
+    ensures { result ≡ step_answer (content_of layer.now) (Delete k) }
 {
     if k >= layer.items.len() {
         return Err(EditFault::NoItem);
     }
-    Ok(Step::Delete { k })
+    Ok(())
 }
 
-fn shift(layer: &Layer, k: usize, dx: i64, dy: i64) -> Result<Step, EditFault>
+fn check_move(layer: &Layer, k: usize, by: Point) -> Result<(), EditFault>
     requires { HasSoundItems layer.now }
-    ensures { result ≡ judged (content_of layer.now) (Some (Move k dx dy)) }
+    ensures { result ≡ step_answer (content_of layer.now) (Move k by.x by.y) }
 {
     let Some(item) = layer.items.get(k) else {
         return Err(EditFault::NoItem);
     };
-    let by = way(dx, dy);
     if !is_move(by) {
         return Err(EditFault::OutOfBoard);
     }
     if !layer.can_move(item, by) {
         return Err(EditFault::OutOfBoard);
     }
-    Ok(Step::Move { k, dx, dy })
+    Ok(())
 }
 
 #[tactic(auto, unfolding(crate::specs::Editing::step_checks))]
-fn reordering(layer: &Layer, k: usize, m: usize) -> Result<Step, EditFault>
-    ensures { result ≡ judged (content_of layer.now) (Some (Reorder k m)) }
+fn check_reorder(layer: &Layer, k: usize, m: usize) -> Result<(), EditFault>
+    ensures { result ≡ step_answer (content_of layer.now) (Reorder k m) }
 {
     if k >= layer.items.len() {
         return Err(EditFault::NoItem);
@@ -91,13 +123,13 @@ fn reordering(layer: &Layer, k: usize, m: usize) -> Result<Step, EditFault>
     if m >= layer.items.len() {
         return Err(EditFault::NoItem);
     }
-    Ok(Step::Reorder { k, m })
+    Ok(())
 }
 
-fn aperture_change(layer: &Layer, leaves: u64, k: usize, n: u32) -> Result<Step, EditFault>
+fn check_aperture(layer: &Layer, leaves: u64, k: usize, n: u32) -> Result<(), EditFault>
     requires sound { HasSoundItems layer.now }
     requires leaves { leaves ≡ leaves_in layer.now }
-    ensures { result ≡ judged (content_of layer.now) (Some (Aperture k n)) }
+    ensures { result ≡ step_answer (content_of layer.now) (Aperture k n) }
 {
     let Some(item) = layer.items.get(k) else {
         return Err(EditFault::NoItem);
@@ -111,14 +143,14 @@ fn aperture_change(layer: &Layer, leaves: u64, k: usize, n: u32) -> Result<Step,
     if !layer.has_room_at_beside(leaves, k, &item) {
         return Err(EditFault::TooMuch);
     }
-    Ok(Step::Aperture { k, n })
+    Ok(())
 }
 
-fn polarity_change(layer: &Layer, k: usize, dark: bool) -> Result<Step, EditFault>
-    ensures { result ≡ judged (content_of layer.now) (Some (Polarity k dark)) }
+fn check_polarity(layer: &Layer, k: usize) -> Result<(), EditFault>
+    ensures { (dark : Bool) → result ≡ step_answer (content_of layer.now) (Polarity k dark) }
 {
     match layer.items.get(k) {
-        Some(Item::One(_)) => Ok(Step::Polarity { k, dark }),
+        Some(Item::One(_)) => Ok(()),
         Some(Item::Repeat { .. }) => Err(EditFault::HasNone),
         None => Err(EditFault::NoItem),
     }

@@ -4,6 +4,28 @@
 //! that makes it, as `specs/Editing.antt` says. [`Reversible`] says what a step is: playing it changes its document and
 //! answers the step that leads back. [`Step`] edits the items and the file attributes of a layer, [`DrillStep`] the
 //! items and the tools of a drill layer.
+//!
+//! ```rust
+//! use cam_edits::{Board, BoardStep, Change, Edit, IndexedLayer, Name, Reversible, Sheet, SheetContent, plan};
+//! use cam_gerber::read_gerber;
+//! use std::slice::from_ref;
+//!
+//! let layer = read_gerber(alloc, b"%FSLAX46Y46*%%MOMM*%%ADD10C,1*%D10*X0Y0D03*X2000000D03*M02*")?;
+//! let content = SheetContent::Gerber(IndexedLayer::new(alloc, layer));
+//! let mut board = Board::new(alloc);
+//! board.add(Sheet { name: Name::from_string(String::from_str(alloc, "top")?), content })?;
+//!
+//! let name = Name::from_string(String::from_str(alloc, "top")?);
+//! let step = plan(alloc, &board, Edit { name, change: Change::Delete { k: 0 } })?;
+//! // room is made before a step is played; the answer leads back
+//! BoardStep::room(from_ref(&step), &mut board)?;
+//! let back = step.play(&mut board);
+//! assert!(rt; board.sheet(0).map(|sheet| sheet.content.item_count()) == Some(1));
+//! BoardStep::room(from_ref(&back), &mut board)?;
+//! assert!(rt; back.fits(&board));
+//! back.play(&mut board);
+//! assert!(rt; board.sheet(0).map(|sheet| sheet.content.item_count()) == Some(2));
+//! ```
 #![tactic(auto)]
 
 mod apertures;

@@ -16,7 +16,7 @@ use Rattle.cam_edits.specs.Places.{changed, changed_to}
 use Rattle.cam_edits.specs.Sheets.{Content, Sheet}
 use Rattle.cam_edits.specs.Touches.{Touch}
 use Rattle.cam_station.specs.TileTables.{AreTables, drawn, redrawn_in, touched_in, with_blank}
-use Rattle.cam_station.proofs.SoundContents.{all_here}
+use Rattle.cam_edits.proofs.EditedLists.{all_here}
 
 -- ---- one table
 

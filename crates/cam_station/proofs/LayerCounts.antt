@@ -13,7 +13,7 @@ use Rattle.circular_buffer.specs.Buffer.{last_item}
 use Rattle.cam_undo.specs.Machine.{Timeline, aborted, aborted_in, accepted, accepted_in, redone, redone_to, undone, undone_to}
 use Rattle.cam_undo.specs.Timelines.{after_group, after_groups, contents, group_of, start_of, timeline_at}
 use Rattle.cam_station.proofs.KeptTables.{length-changed}
-use Rattle.cam_station.proofs.SoundContents.{all_here}
+use Rattle.cam_edits.proofs.EditedLists.{all_here}
 
 pub board_count : (step : BoardStep) (sheets : List Sheet) → length (after_board_step step sheets) ≡ length sheets
 board_count (steps.Gerber place step boxes) sheets = length-changed (with_content (after_on step)) sheets place

@@ -1,11 +1,7 @@
 -- What a load reads is sound, and so is what stands at a place among sound layers.
-use Rattle.std.proofs.Common.{◌≡◌, ℕ, List, [], Option, None, Some, Result, Ok, Err, refl, subst, arith}
-use Rattle.std.specs.Prelude.{All, slice_get}
-use Rattle.std.proofs.lemmas.List.Elements.{All-get_or, All-nil}
-use Rattle.std.proofs.lemmas.Option.{get_or_from_slice_get, slice_get_within}
+use Rattle.std.proofs.Common.{◌≡◌, ℕ, List, Result, Ok, Err, refl, subst}
+use Rattle.std.specs.Prelude.{slice_get}
 use Rattle.cam_objects.specs.Contents.{Content as GerberContent, DrillContent}
-use Rattle.cam_objects.specs.Soundness.{IsSoundItem}
-use Rattle.cam_objects.proofs.EditedAttributes.{none_set}
 use Rattle.cam_refusals.specs.declared.read_fault.ReadFault.{ReadFault}
 use Rattle.cam_gerber.specs.Computing.{reading_of as gerber_reading}
 use Rattle.cam_gerber.proofs.Computed.{attributes_are_sound, reading_is_sound as gerber_is_sound}
@@ -13,8 +9,9 @@ use Rattle.cam_xnc.specs.Reading.{drill_reading_of as drill_reading}
 use Rattle.cam_xnc.proofs.SoundReadings.{reading_is_sound as drill_is_sound}
 use Rattle.cam_script.specs.declared.command.FileKind.{FileKind}
 use Rattle.cam_script.specs.declared.command.FileKind.TheVariants as kinds
-use Rattle.cam_edits.specs.Boards.{content_at, content_or_empty, empty_content}
+use Rattle.cam_edits.specs.Boards.{content_at}
 use Rattle.cam_edits.specs.Sheets.{AreSound, Content, Gerber, Drill, IsSound, Sheet}
+use Rattle.cam_edits.proofs.SoundEdits.{held_sound}
 use Rattle.cam_station.specs.declared.fault.Fault.{Fault}
 use Rattle.cam_station.specs.Meanings.{drill_meaning, gerber_meaning, meaning_of}
 
@@ -49,27 +46,6 @@ pub content_read : (kind : FileKind) (bytes : List ℕ) (c : Content) → meanin
 content_read kind bytes c e = answer_sound (meaning_of kind bytes) c (meaning_sound kind bytes) e
 
 -- ---- documents
-
--- what holds of all holds of the one at a place
-pub all_here : {X : Type 0} (P : X → Type 0) (xs : List X) (k : ℕ) (x : X) → All P xs → slice_get xs k ≡ Some x → P x
-all_here P xs k x h here =
-    subst P (get_or_from_slice_get xs k x x here) (All-get_or P xs k x (slice_get_within xs k x here) h)
-
-empty_sound : IsSound empty_content
-empty_sound =
-    record {
-      attributes = none_set;
-      content = record {
-        entries = λ k d lt. absurd (omega (arith, lt));
-        items = All-nil (IsSoundItem []);
-        limits = record { few = omega arith; leaves = omega arith };
-      };
-    }
-
-held_sound : (sheets : List Sheet) (place : ℕ) (o : Option Sheet) → AreSound sheets → slice_get sheets place ≡ o
-    → IsSound (content_or_empty o)
-held_sound sheets place None h e = empty_sound
-held_sound sheets place (Some s) h e = all_here (λ s. IsSound s.content) sheets place s h e
 
 -- what stands at a place is sound
 pub place_sound : (sheets : List Sheet) (place : ℕ) → AreSound sheets → IsSound (content_at sheets place)

@@ -13,9 +13,10 @@ use Rattle.cam_station.specs.Machine.{State, MemoryGrant, unedited, fresh, step,
 use Rattle.cam_station.specs.Sound.{IsSoundGroup, IsSoundTimeline}
 use Rattle.cam_station.specs.Touches.{Touches}
 use Rattle.cam_station.specs.Calls.{Call, state_after}
+use Rattle.cam_edits.proofs.EditedLists.{all_here}
 use Rattle.cam_edits.proofs.SoundEdits.{edits_stay_sound}
 use Rattle.cam_station.proofs.Refusing.{AfterEach as EachWay, AfterOthers, after_each as each_command}
-use Rattle.cam_station.proofs.SoundContents.{all_here, content_read}
+use Rattle.cam_station.proofs.SoundContents.{content_read}
 
 -- ---- documents moved about
 

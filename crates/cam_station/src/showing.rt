@@ -127,12 +127,7 @@ fn painter(alloc: Global, layer: &IndexedLayer) -> Source<'_>
     requires { HasSoundItems layer.now }
     ensures { result ≡ unasked (content_leaves (gerber_content_of layer.now)) }
 {
-    match layer.cells() {
-        Some(cells) => {
-            Source::gerber_by_cells(alloc, layer.layer(), cells, layer.first_copies())
-        }
-        None => Source::gerber(layer.layer()),
-    }
+    Source::gerber_by_cells(alloc, layer.layer(), layer.cells(), layer.first_copies())
 }
 
 /// Paints a sound drill layer in the same way.
@@ -140,10 +135,7 @@ fn drill_painter(alloc: Global, layer: &IndexedDrillLayer) -> Source<'_>
     requires { IsSoundDrillLayer layer.now }
     ensures { result ≡ unasked (drill_content_leaves (drill_content_of layer.now)) }
 {
-    match layer.cells() {
-        Some(cells) => Source::drill_by_cells(alloc, layer.layer(), cells),
-        None => Source::drill(layer.layer()),
-    }
+    Source::drill_by_cells(alloc, layer.layer(), layer.cells())
 }
 
 /// The canonical text of a layer, as a file of its kind.

@@ -2,6 +2,9 @@ use Rattle.std.specs.Prelude.{◌≡◌, ℕ, ◌+◌, ◌==◌, Bool, true, fal
 use Rattle.std.specs.Prelude.{Option, None, Some, MatchOption, count_by, slice_get}
 use Rattle.std.proofs.Common.{refl, ap, sym, subst, ◌∙◌, arith}
 use Rattle.std.proofs.lemmas.List.Sums.{sum_by-append}
+use Rattle.cam_objects.specs.Contents.{Content as GerberContent, DrillContent}
+use Rattle.cam_objects.specs.DrillSoundness.{IsSoundDrillContent}
+use Rattle.cam_objects.specs.Soundness.{IsSoundContent}
 use Rattle.cam_edits.specs.declared.board.Board.{Board}
 use Rattle.cam_edits.specs.declared.board.Sheet.{Sheet as KeptSheet}
 use Rattle.cam_edits.specs.declared.board.SheetContent.{SheetContent}
@@ -26,32 +29,41 @@ use Rattle.cam_edits.specs.Steps.{is_insertion, puts_attribute}
 
 -- ---- one sheet
 fits_back_on : (step : Step) (c : Content) → IsFitOn step c → IsFitOn (inverse_on step c) (after_on step c)
-fits_back_on step (Gerber c) h = answer_fits step c h
+fits_back_on step (Gerber c) h = record {
+  fits = answer_fits step c h.fits;
+  before = h.after;
+  after = subst (λ (d : GerberContent). IsSoundContent d.entries d.items) (sym (gives_back_content step c h.fits)) h.before;
+}
 fits_back_on step (Drill c) h = absurd h
 
 fits_back_drill_on : (step : DrillStep) (c : Content) → IsDrillFitOn step c
     → IsDrillFitOn (inverse_drill_on step c) (after_drill_on step c)
 fits_back_drill_on step (Gerber c) h = absurd h
-fits_back_drill_on step (Drill c) h = drill_answer_fits step c h
+fits_back_drill_on step (Drill c) h = record {
+  fits = drill_answer_fits step c h.fits;
+  before = h.after;
+  after = subst (λ (d : DrillContent). IsSoundDrillContent d.tools d.items)
+      (sym (drill_gives_back_content step c h.fits)) h.before;
+}
 
 content_back_on : (step : Step) (c : Content) → IsFitOn step c → after_on (inverse_on step c) (after_on step c) ≡ c
-content_back_on step (Gerber c) h = ap Gerber (gives_back_content step c h)
+content_back_on step (Gerber c) h = ap Gerber (gives_back_content step c h.fits)
 content_back_on step (Drill c) h = refl
 
 content_back_drill_on : (step : DrillStep) (c : Content) → IsDrillFitOn step c
     → after_drill_on (inverse_drill_on step c) (after_drill_on step c) ≡ c
 content_back_drill_on step (Gerber c) h = refl
-content_back_drill_on step (Drill c) h = ap Drill (drill_gives_back_content step c h)
+content_back_drill_on step (Drill c) h = ap Drill (drill_gives_back_content step c h.fits)
 
 step_back_on : (step : Step) (c : Content) → IsFitOn step c
     → inverse_on (inverse_on step c) (after_on step c) ≡ step
-step_back_on step (Gerber c) h = gives_back_step step c h
+step_back_on step (Gerber c) h = gives_back_step step c h.fits
 step_back_on step (Drill c) h = refl
 
 step_back_drill_on : (step : DrillStep) (c : Content) → IsDrillFitOn step c
     → inverse_drill_on (inverse_drill_on step c) (after_drill_on step c) ≡ step
 step_back_drill_on step (Gerber c) h = refl
-step_back_drill_on step (Drill c) h = drill_gives_back_step step c h
+step_back_drill_on step (Drill c) h = drill_gives_back_step step c h.fits
 
 -- ---- a sheet of a board
 -- X is the type of steps of one kind of sheets

@@ -30,7 +30,7 @@ tool_back : (t : ℕ) (item : DrillItem) → with_tool (tool_of item) (with_tool
 tool_back t (Hit tool at) = refl
 tool_back t (Rout tool points) = refl
 
-tool_set : (t : ℕ) (item : DrillItem) → tool_of (with_tool t item) ≡ t
+pub tool_set : (t : ℕ) (item : DrillItem) → tool_of (with_tool t item) ≡ t
 tool_set t (Hit tool at) = refl
 tool_set t (Rout tool points) = refl
 

@@ -1,5 +1,7 @@
 -- How edits are judged by the checks of items.
 use Rattle.std.specs.Prelude.{ℕ, Bool, if◌then◌else◌, Option, None, Some, Result, Ok, Err}
+use Rattle.cam_refusals.specs.Checks.{answer_of, first_holding}
+use Rattle.cam_objects.specs.Contents.{Content, DrillContent}
 use Rattle.cam_objects.specs.declared.item.Item.{Item}
 use Rattle.cam_objects.specs.declared.item.Item.TheVariants.{One}
 use Rattle.cam_objects.specs.declared.item_fault.ItemFault.{ItemFault}
@@ -7,9 +9,26 @@ use Rattle.cam_objects.specs.declared.item_fault.ItemFault.TheVariants.{Malforme
 use Rattle.cam_objects.specs.declared.item_fault.ItemFault.TheVariants.{ZeroRadius}
 use Rattle.cam_objects.specs.declared.item_fault.ItemFault.TheVariants as items
 use Rattle.cam_objects.specs.declared.object.Object.TheVariants.{Flash, Draw, Arc}
+use Rattle.cam_edits.specs.declared.drill_step.DrillStep.{DrillStep}
 use Rattle.cam_edits.specs.declared.fault.EditFault.{EditFault}
 use Rattle.cam_edits.specs.declared.fault.EditFault.TheVariants.{WrongKind, NoItem, NoAperture, NoTool, WrongAperture}
 use Rattle.cam_edits.specs.declared.fault.EditFault.TheVariants.{SizeRefused, OutOfBoard, TooMuch}
+use Rattle.cam_edits.specs.declared.step.Step.{Step}
+use Rattle.cam_edits.specs.declared.step.Step.TheVariants.{PutAttribute, TakeAttribute, SetFields}
+use Rattle.cam_edits.specs.Editing.{drill_step_checks, step_checks}
+
+-- the first refusal of a step, if there is one
+abbrev pub step_answer : Content → Step → Result Unit EditFault
+step_answer c step = answer_of (first_holding (step_checks c step))
+
+abbrev pub drill_step_answer : DrillContent → DrillStep → Result Unit EditFault
+drill_step_answer c step = answer_of (first_holding (drill_step_checks c step))
+
+abbrev pub IsItemStep : Step → Type 0
+IsItemStep (PutAttribute k a) = ⊥
+IsItemStep (TakeAttribute k) = ⊥
+IsItemStep (SetFields k fields) = ⊥
+IsItemStep _ = Unit {0}
 
 -- the refusal of an edit whose item has that fault
 abbrev pub item_refusal : ItemFault → EditFault

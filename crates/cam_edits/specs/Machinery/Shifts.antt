@@ -1,5 +1,5 @@
 -- Where a step moves the items of a layer, and what is kept beside them.
-use Rattle.std.specs.Prelude.{◌≡◌, ℕ, ◌+◌, ◌<◌, ◌≤◌, ◌⊎◌, List, length, Option, None, Some, IsSome, map, nat_eq, slice_get, sum_by}
+use Rattle.std.specs.Prelude.{◌≡◌, ℕ, ◌+◌, ◌<◌, ◌≤◌, List, length, Option, None, Some, IsSome, map, nat_eq, slice_get, sum_by}
 use Rattle.std.specs.Prelude.{insert, remove, slice_index}
 use Rattle.std.specs.Map.{set_value}
 use Rattle.cam_units.specs.declared.bounds.Bounds.{Bounds}
@@ -31,11 +31,6 @@ there xs (Some k) = slice_get xs k
 abbrev pub count_at : {X : Type 0} → (X → ℕ) → List X → Option ℕ → ℕ
 count_at f xs place = count_of f (there xs place)
 
--- the element at a place stood somewhere
-pub record StoodBefore {X : Type 0} (before after : List X) (k : ℕ) : Type 0 where
-  pub was : ℕ
-  pub same : slice_get before was ≡ slice_get after k
-
 -- an element left its place, and then one came to a place
 abbrev pub IsEdited : {X : Type 0} → Option ℕ → Option ℕ → List X → List X → Type 0
 IsEdited None None before after = after ≡ before
@@ -44,10 +39,8 @@ IsEdited (Some k) None before after = (k < length before) × (after ≡ remove b
 IsEdited {X = X} (Some k) (Some m) before after =
     (k < length before) × (m < length before) × ((x : X) × (after ≡ insert (remove before k) m x))
 
-pub record IsShift {X : Type 0} (shift : Shift) (before after : List X) : Type 0 where
-  pub stood : (k : ℕ) → k < length after → (shift.to ≡ Some k) ⊎ StoodBefore before after k
-  pub sums : (f : X → ℕ) → sum_by f after + count_at f before shift.from ≡ sum_by f before + count_at f after shift.to
-  pub edit : IsEdited shift.from shift.to before after
+abbrev pub IsShift : {X : Type 0} → Shift → List X → List X → Type 0
+IsShift shift before after = IsEdited shift.from shift.to before after
 
 -- they were the cells of boxes of which an edit with this shift made others
 pub record WereCells (shift : Shift) (cells : Reaches) (after : List Bounds) : Type 0 where
@@ -73,7 +66,7 @@ abbrev pub IsKeptOf : Layer → Kept → Type 0
 IsKeptOf layer = IsKept (HasSoundItems layer) (leaves_in layer) (item_boxes layer.apertures layer.items.items)
 
 pub record IsIndexed (c : Inside) : Type 0 where
-  pub kept : (kept : Kept) → c.kept ≡ Some kept → IsKeptOf c.layer kept
+  pub kept : IsKeptOf c.layer c.kept
   pub copies : AreFirstCopiesOf c.layer.apertures c.layer.items.items c.copies
 
 -- they were the first copies of the repeats among items from which a shift leads to those of this layer
@@ -82,10 +75,11 @@ pub record WereFirstCopies (shift : Shift) (layer : Layer) (copies : List FirstC
   pub known : AreFirstCopiesOf layer.apertures before copies
   pub edit : IsEdited shift.from shift.to before layer.items.items
 
--- it was kept of a layer from whose items a shift leads to those of this one, which has the same dictionary
+-- it was kept of a layer from whose items a shift leads to those of this one, which is sound and has the same dictionary
 pub record WasKept (kept : Kept) (shift : Shift) (gone : ℕ) (layer : Layer) : Type 0 where
   pub before : Layer
   pub known : IsKeptOf before kept
+  pub sound : HasSoundItems layer
   pub entries : before.apertures ≡ layer.apertures
   pub shifted : IsShift shift before.items.items layer.items.items
   pub left : gone ≡ leaves_at before shift.from
@@ -125,7 +119,7 @@ pub record IsNextOfTool (tools : List ℕ) (t place next : ℕ) : Type 0 where
   pub found : next < length tools → slice_index tools next ≡ t
 
 pub record IsIndexedDrill (c : DrillInside) : Type 0 where
-  pub kept : (kept : Kept) → c.kept ≡ Some kept → IsKeptOfDrill c.layer kept
+  pub kept : IsKeptOfDrill c.layer c.kept
   pub tools : AreToolsOf (tools_of c.layer.items.items) c.tools
 
 -- they are the cells of boxes that are those of the layer's items as far as a place, and of all items of other tools
@@ -138,18 +132,20 @@ pub record AreRenewedUntil (place t : ℕ) (layer : DrillLayer) (cells : Reaches
   pub others : (k : ℕ) → k < length layer.items.items → (slice_index (tools_of layer.items.items) k ≡ t → ⊥)
       → box_at boxes k ≡ box_at (drill_item_boxes layer.tools layer.items.items) k
 
--- it was kept of a drill layer from whose items a shift leads to those of this one, which has the same tools
+-- it was kept of a drill layer from whose items a shift leads to those of this one, which is sound and has the same tools
 pub record WasKeptOfDrill (kept : Kept) (shift : Shift) (gone : ℕ) (layer : DrillLayer) : Type 0 where
   pub before : DrillLayer
   pub known : IsKeptOfDrill before kept
+  pub sound : IsSoundDrillLayer layer
   pub tools : before.tools ≡ layer.tools
   pub shifted : IsShift shift before.items.items layer.items.items
   pub left : gone ≡ drill_leaves_at before shift.from
 
--- it was kept of a drill layer that lists the same items, where a tool now has that diameter
+-- it was kept of a drill layer that lists the same items as this sound one, where a tool now has that diameter
 pub record WasKeptUnsized (kept : Kept) (t : ℕ) (d : Nm) (layer : DrillLayer) : Type 0 where
   pub before : DrillLayer
   pub known : IsKeptOfDrill before kept
+  pub sound : IsSoundDrillLayer layer
   pub there : IsSome (diameter_of before.tools t)
   pub tools : layer.tools ≡ set_value (nat_eq t) before.tools d
   pub items : layer.items.items ≡ before.items.items

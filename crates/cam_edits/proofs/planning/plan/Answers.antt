@@ -20,13 +20,6 @@ pub returns-in_default-clause-refused : goal.returns-in_default-clause-refused
 returns-in_default-clause-refused c =
     no_layer c.args.edit (sheets_of c.args.board.now) (sym c.in_default.ensures.value)
 
-pub leaves-requires : goal.leaves-requires
-leaves-requires c =
-    let sheets = sheets_of c.args.board.now in
-    let holds = held kept.Gerber _ _ _ _ c.content.ensures c.in-Gerber.is refl in
-    (sound_there c.args.edit sheets c.in-Some.sheet (sym c.in-Some.ensures.value) c.in-Some.ensures.within c.requires
-    (Gerber (gerber_content c.in-Gerber.kept)) holds).content
-
 pub judged-requires-clause-leaves : goal.judged-requires-clause-leaves
 judged-requires-clause-leaves c = c.leaves.ensures ∙ sym (ap leaves_in c.layer-layer.ensures)
 
@@ -77,13 +70,8 @@ returns-in-Gerber-clause-planned c =
     planned c.args.edit sheets c.in-Some.sheet (sym c.in-Some.ensures.value) c.in-Some.ensures.within
     (gerber_content c.layer-layer.result.now) holds c.in_ok-step-in-Gerber.step (sym c.in_ok-step-in-Gerber.ensures.value)
     c.in_ok-boxes-in-Gerber.boxes c.in_ok-boxes-in-Gerber.ensures c.in_ok-step-in-Gerber.ensures.fits
-
-pub leaves-requires-in-Drill : goal.leaves-requires-in-Drill
-leaves-requires-in-Drill c =
-    let sheets = sheets_of c.args.board.now in
-    let holds = held kept.Drill _ _ _ _ c.content.ensures c.in-Drill.is refl in
-    sound_there c.args.edit sheets c.in-Some.sheet (sym c.in-Some.ensures.value) c.in-Some.ensures.within c.requires
-    (Drill (drill_content c.in-Drill.kept)) holds
+    (sound_there c.args.edit sheets c.in-Some.sheet (sym c.in-Some.ensures.value) c.in-Some.ensures.within c.requires
+    (Gerber (gerber_content c.layer-layer.result.now)) holds).content
 
 pub judged_drill-requires-clause-leaves : goal.judged_drill-requires-clause-leaves
 judged_drill-requires-clause-leaves c =
@@ -135,3 +123,5 @@ returns-clause-planned c =
     drill_planned c.args.edit sheets c.in-Some.sheet (sym c.in-Some.ensures.value) c.in-Some.ensures.within
     (drill_content c.layer-layer-in-Drill.result.now) holds c.in_ok-step-in-Drill.step (sym c.in_ok-step-in-Drill.ensures.value)
     c.in_ok-boxes-in-Drill.boxes c.in_ok-boxes-in-Drill.ensures c.in_ok-step-in-Drill.ensures.fits
+    (sound_there c.args.edit sheets c.in-Some.sheet (sym c.in-Some.ensures.value) c.in-Some.ensures.within c.requires
+    (Drill (drill_content c.layer-layer-in-Drill.result.now)) holds)

@@ -8,19 +8,19 @@ use Rattle.cam_edits.proofs.indexed.IndexedLayer.reserve.Goals as goal
 pub invariant_of-self : goal.invariant_of-self
 invariant_of-self c =
     let l = c.self.inside.layer in
-    let m : Layer = record { attributes = l.attributes; apertures = l.apertures; items = c.reserve.new.self } in record {
-      kept = λ kept is. kept_alike l m kept refl c.reserve.ensures.items
-          (c.self.invariant.kept kept (sym c.reserve_cells.ensures ∙ is));
+    let m : Layer = record { attributes = l.attributes; apertures = l.apertures; items = c.reserve-2.new.self } in record {
+      kept = kept_alike l m c.self.inside.kept c.reserve.new.self c.self.invariant.kept c.reserve.ensures refl
+          c.reserve-2.ensures.items;
       copies = subst (λ (items : List Item). AreFirstCopiesOf l.apertures items c.self.inside.copies)
-          (sym c.reserve.ensures.items) c.self.invariant.copies;
+          (sym c.reserve-2.ensures.items) c.self.invariant.copies;
     }
 
 pub invariant_of-self-2 : goal.invariant_of-self-2
 invariant_of-self-2 c =
     let l = c.self.inside.layer in
-    let m : Layer = record { attributes = c.reserve-2.new.self; apertures = l.apertures; items = c.reserve.new.self } in record {
-      kept = λ kept is. kept_alike l m kept refl c.reserve.ensures.items
-          (c.self.invariant.kept kept (sym c.reserve_cells.ensures ∙ is));
+    let m : Layer = record { attributes = c.reserve-3.new.self; apertures = l.apertures; items = c.reserve-2.new.self } in record {
+      kept = kept_alike l m c.self.inside.kept c.reserve.new.self c.self.invariant.kept c.reserve.ensures refl
+          c.reserve-2.ensures.items;
       copies = subst (λ (items : List Item). AreFirstCopiesOf l.apertures items c.self.inside.copies)
-          (sym c.reserve.ensures.items) c.self.invariant.copies;
+          (sym c.reserve-2.ensures.items) c.self.invariant.copies;
     }

@@ -7,11 +7,11 @@ use Rattle.cam_edits.proofs.indexed_drill.IndexedDrillLayer.reserve.Goals as goa
 pub invariant_of-self : goal.invariant_of-self
 invariant_of-self c =
     let l = c.self.inside.layer in
-    let m : DrillLayer = record { tools = l.tools; items = c.reserve-2.new.self } in
+    let m : DrillLayer = record { tools = l.tools; items = c.reserve-3.new.self } in
     record {
-      kept = λ kept is.
-          kept_alike l m kept refl c.reserve-2.ensures.items (c.self.invariant.kept kept (sym c.reserve_cells.ensures ∙ is));
-      tools = subst (AreToolsOf (tools_of m.items.items)) (sym c.reserve.ensures)
-          (subst (λ items. AreToolsOf (tools_of items) c.self.inside.tools) (sym c.reserve-2.ensures.items)
+      kept = kept_alike l m c.self.inside.kept c.reserve.new.self c.self.invariant.kept c.reserve.ensures refl
+          c.reserve-3.ensures.items;
+      tools = subst (AreToolsOf (tools_of m.items.items)) (sym c.reserve-2.ensures)
+          (subst (λ items. AreToolsOf (tools_of items) c.self.inside.tools) (sym c.reserve-3.ensures.items)
           c.self.invariant.tools);
     }

@@ -1,19 +1,20 @@
+use Rattle.std.proofs.Common.{refl}
 use Rattle.cam_objects.specs.Shifting.{shifted_item}
 use Rattle.cam_edits.specs.Moving.{IsMovableItem, way}
 use Rattle.cam_edits.specs.Steps.{HasAperture, IsOne, with_aperture, with_object, with_polarity}
-use Rattle.cam_edits.proofs.ShiftedItems.{deleted_shift, inserted_shift, reordered_shift, shift_at, stayed}
+use Rattle.cam_edits.proofs.ShiftedItems.{reordered_shift, shift_at}
 use Rattle.cam_edits.proofs.shift.Shift.of.Goals as goal
 
 pub returns-in-Insert : goal.returns-in-Insert
 returns-in-Insert c = λ content fit.
     let fits = rw c.in-Insert.is at fit in
     rw (c.between.ensures, c.in-Insert.is)
-    (inserted_shift content.items c.in-Insert.k c.in-Insert.item fits)
+    (fits, (c.in-Insert.item, refl))
 
 pub returns-in-Delete : goal.returns-in-Delete
 returns-in-Delete c = λ content fit.
     let fits = rw c.in-Delete.is at fit in
-    rw (c.between-in-Delete.ensures, c.in-Delete.is) (deleted_shift content.items c.in-Delete.k fits)
+    rw (c.between-in-Delete.ensures, c.in-Delete.is) (fits, refl)
 
 pub returns-in-Reorder : goal.returns-in-Reorder
 returns-in-Reorder c = λ content fit.
@@ -40,10 +41,10 @@ returns-in-Polarity c = λ content fit.
     (shift_at (IsOne (λ _. Unit {0})) (with_object (with_polarity c.in-Polarity.dark)) content.items c.in-Polarity.k fits)
 
 pub returns-in-PutAttribute : goal.returns-in-PutAttribute
-returns-in-PutAttribute c = λ content fit. rw (c.between-in-PutAttribute.ensures, c.in-PutAttribute.is) (stayed content.items)
+returns-in-PutAttribute c = λ content fit. rw (c.between-in-PutAttribute.ensures, c.in-PutAttribute.is) refl
 
 pub returns-in-TakeAttribute : goal.returns-in-TakeAttribute
-returns-in-TakeAttribute c = λ content fit. rw (c.between-in-TakeAttribute.ensures, c.in-TakeAttribute.is) (stayed content.items)
+returns-in-TakeAttribute c = λ content fit. rw (c.between-in-TakeAttribute.ensures, c.in-TakeAttribute.is) refl
 
 pub returns-in-SetFields : goal.returns-in-SetFields
-returns-in-SetFields c = λ content fit. rw (c.between-in-SetFields.ensures, c.in-SetFields.is) (stayed content.items)
+returns-in-SetFields c = λ content fit. rw (c.between-in-SetFields.ensures, c.in-SetFields.is) refl

@@ -1,19 +1,20 @@
+use Rattle.std.proofs.Common.{refl}
 use Rattle.cam_objects.specs.Shifting.{shifted_drill_item}
 use Rattle.cam_edits.specs.DrillSteps.{with_tool}
 use Rattle.cam_edits.specs.Moving.{IsMovableDrillItem, way}
-use Rattle.cam_edits.proofs.ShiftedItems.{deleted_shift, inserted_shift, reordered_shift, shift_at, shift_there, stayed}
+use Rattle.cam_edits.proofs.ShiftedItems.{reordered_shift, shift_at, shift_there}
 use Rattle.cam_edits.proofs.shift.Shift.of_drill.Goals as goal
 
 pub returns-in-Insert : goal.returns-in-Insert
 returns-in-Insert c = λ content fit.
     let fits = rw c.in-Insert.is at fit in
     rw (c.between.ensures, c.in-Insert.is)
-    (inserted_shift content.items c.in-Insert.k c.in-Insert.item fits)
+    (fits, (c.in-Insert.item, refl))
 
 pub returns-in-Delete : goal.returns-in-Delete
 returns-in-Delete c = λ content fit.
     let fits = rw c.in-Delete.is at fit in
-    rw (c.between-in-Delete.ensures, c.in-Delete.is) (deleted_shift content.items c.in-Delete.k fits)
+    rw (c.between-in-Delete.ensures, c.in-Delete.is) (fits, refl)
 
 pub returns-in-Reorder : goal.returns-in-Reorder
 returns-in-Reorder c = λ content fit.
@@ -34,4 +35,4 @@ returns-in-Tool c = λ content fit.
     (shift_there (with_tool c.in-Tool.t) content.items c.in-Tool.k fits)
 
 pub returns-in-Diameter : goal.returns-in-Diameter
-returns-in-Diameter c = λ content fit. rw (c.between-in-Diameter.ensures, c.in-Diameter.is) (stayed content.items)
+returns-in-Diameter c = λ content fit. rw (c.between-in-Diameter.ensures, c.in-Diameter.is) refl
