@@ -9,7 +9,7 @@ ghost use Rattle.cam_writers.specs.DrillTexts.{Lines, declaration, drill_text, l
 ghost use Rattle.cam_writers.specs.DrillTexts.{with_cut, with_drill_mode, with_item, with_rout, with_selected, with_tool};
 ghost use Rattle.cam_writers.specs.Machinery.Tracking.{Tracks};
 
-use crate::lengths::{push_mm, push_decimal};
+use crate::lengths::{push_decimal, push_mm};
 use cam_objects::{DrillItem, DrillLayer, Tools};
 use cam_units::{Nm, Point};
 use std::alloc::{AllocError, Global};

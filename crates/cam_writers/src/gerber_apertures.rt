@@ -4,7 +4,7 @@ ghost use Rattle.std.specs.Prelude.{◌≡◌, ◌++◌, OnOk};
 ghost use Rattle.cam_writers.specs.Phrases.{NameAperture, hole_text, line_of, macro_name, spelled, template_text};
 ghost use Rattle.cam_writers.specs.Machinery.Tracking.{sides_text};
 
-use crate::lengths::{push_mm, push_decimal};
+use crate::lengths::{push_decimal, push_mm};
 use cam_apertures::Aperture;
 use cam_units::Nm;
 use std::alloc::AllocError;

@@ -7,7 +7,7 @@ ghost use Rattle.cam_writers.specs.Phrases.{UseMirror, UseMode, UsePolarity, Use
 ghost use Rattle.cam_writers.specs.Phrases.{offsets, spelled, word};
 ghost use Rattle.cam_writers.specs.Machinery.Tracking.{attribute_lines, steps_text};
 
-use crate::lengths::{push_mm, push_decimal, push_whole};
+use crate::lengths::{push_decimal, push_mm, push_whole};
 use cam_commands::Mode;
 use cam_objects::Attribute;
 use cam_units::{Nm, Point, Turn};

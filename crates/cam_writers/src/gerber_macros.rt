@@ -10,7 +10,7 @@ ghost use Rattle.cam_writers.specs.Machinery.Tracking.{behind_comma, fields_text
 ghost use Rattle.cam_writers.specs.Machinery.Tracking.{primitive_lines};
 
 use crate::gerber_apertures::push_macro_name;
-use crate::lengths::{push_mm, push_decimal};
+use crate::lengths::{push_decimal, push_mm};
 use cam_apertures::Primitives;
 use cam_macros::{Prim, PrimShape};
 use cam_units::{Nm, Point};
