@@ -3,7 +3,7 @@
 
 import { button, byId, redraw } from "./dom.js";
 import { faultWords } from "./kept.js";
-import { firstState } from "./machine/state.js";
+import { firstState, isBlank, isIdle } from "./machine/state.js";
 import { step } from "./machine/step.js";
 
 // What the names of a board's files have in common, or else the name of its first file.
@@ -45,12 +45,15 @@ export class Boards {
     this.last = Promise.resolve();
     // Whether the first one was closed next to others: its journal, which knows the others, stays.
     this.isFirstGone = false;
+    // The board that is to be shown when the page has begun.
+    /** @type {Page.Board | null} */
+    this.wanted = null;
   }
 
   // What is kept of which boards there are.
   /** @returns {Page.Registry} */
   get registry() {
-    return { boards: this.list.slice(1).map(({ key, number, title }) => ({ key, number, title })), shown: this.shown.key,
+    return { boards: this.list.slice(1).map(({ key, number, title }) => ({ key, number, title })), shown: (this.wanted ?? this.shown).key,
       count: this.count, isFirstGone: this.isFirstGone };
   }
 
@@ -65,16 +68,21 @@ export class Boards {
     if (kept?.looks) kept.keepLooks({ ...kept.looks, registry: this.registry });
   }
 
-  // The boards as they were left; then the one that was shown.
+  // Which boards there were when the page was left. It is known before anything is kept, since that has the boards too.
   /** @param {Page.Registry | undefined} registry */
-  async restore(registry) {
-    this.park();
+  know(registry) {
     if (!registry) return;
     const { boards, shown, count, isFirstGone } = registry;
     this.list.push(...boards.map((board) => ({ ...board, state: null })));
-    Object.assign(this, { count, isFirstGone });
-    const wanted = this.list.find(({ key }) => key === shown);
+    Object.assign(this, { count, isFirstGone, wanted: this.list.find(({ key }) => key === shown) ?? null });
+  }
+
+  // Shows the board that was shown, unless a person chose one meanwhile.
+  async restore() {
+    const { wanted } = this;
+    this.park();
     if (wanted && wanted !== this.shown) await this.show(wanted);
+    this.wanted = null;
     this.draw();
   }
 
@@ -111,14 +119,18 @@ export class Boards {
     });
   }
 
+  // What is kept of a board that was not shown yet is read before, so that what a person does meanwhile is done to the board that is
+  // shown, and nothing of it between the two.
   /** @param {Page.Board} board */
   async change(board) {
     const { machine, view } = this;
     if (board === this.shown) return;
+    const kept = board.state ? board.kept : await this.openJournal(board.key), journal = board.state ? null : await kept.read();
     await this.atRest();
     this.keepLooks();
     this.park();
     this.shown = board;
+    this.wanted = null;
     for (const name of [...view.pictures.keys()]) view.forget(name);
     if (board.state) {
       Object.assign(machine, { state: board.state, link: board.link, kept: board.kept });
@@ -127,41 +139,46 @@ export class Boards {
       view.show(board.view);
       machine.draw();
     } else {
-      await this.begin(board);
+      Object.assign(board, { kept });
+      Object.assign(machine, { state: firstState(), link: null, kept });
+      machine.send({ kind: "begin", kept: journal, contents: null });
+      await this.begin();
     }
     this.keepRegistry();
     this.draw();
   }
 
-  // A board that was not shown yet: what a person does meanwhile comes behind what is kept of it.
-  /** @param {Page.Board} board */
-  async begin(board) {
+  // Starts the station of a board that was not shown yet.
+  async begin() {
     const { machine } = this;
-    const kept = await this.openJournal(board.key);
-    Object.assign(machine, { state: firstState(), link: null, hasBegun: false, kept });
-    Object.assign(board, { kept });
-    machine.send({ kind: "begin", kept: await kept.read(), contents: null });
-    await this.openStation();
-    machine.send({ kind: "started" });
+    try {
+      await this.openStation();
+      machine.send({ kind: "started" });
+    } catch (fault) {
+      machine.send({ kind: "stopped", why: faultWords(fault) });
+    }
     await machine.begun();
     this.park();
   }
 
-  // Done when nothing is under way in the board that is shown, and its station does not just begin.
+  // Done when nothing is under way in the board that is shown, no refused file of it is tried, and its station does not just begin:
+  // what is answered then would be taken for an answer to another board.
   atRest() {
     const { machine } = this;
     /** @param {Page.State} state */
-    const isAtRest = ({ work, queue, station: { isOpen, why } }) => work === null && (isOpen ? queue.length === 0 : why !== null);
+    const isAtRest = (state) => isIdle(state) && (state.station.isOpen || state.station.why !== null);
     return new Promise((done) => {
       const look = () => isAtRest(machine.state) && machine.inbox.length === 0 ? done() : setTimeout(look, 5);
       look();
     });
   }
 
-  // The board that is shown was closed: its tab goes, where there is another one.
+  // The board that is shown was closed: its tab goes, where there is another one, but not with what was opened in it meanwhile.
   left() {
     if (this.visible.length < 2) return this.draw();
     return this.inTurn(async () => {
+      await this.atRest();
+      if (!isBlank(this.machine.state)) return this.draw();
       const gone = this.shown, at = this.visible.indexOf(gone), next = this.visible[at + 1] ?? this.visible[at - 1];
       await this.change(next);
       if (gone === this.list[0]) this.isFirstGone = true;
@@ -197,11 +214,11 @@ export class Boards {
   }
 
   draw() {
-    const { visible, shown } = this;
+    const { visible, shown } = this, chosen = this.wanted ?? shown;
     byId("tabs").hidden = visible.length < 2;
     redraw(byId("tabs"), ...visible.map((board) => {
       const title = (board === shown ? titleOf(this.machine.state) : board.title) ?? `board ${board.number}`;
-      return button(title, () => this.show(board), { role: "tab", "aria-selected": String(board === shown), "data-row": board.key, title });
+      return button(title, () => this.show(board), { role: "tab", "aria-selected": String(board === chosen), "data-row": board.key, title });
     }));
   }
 

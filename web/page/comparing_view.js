@@ -9,14 +9,18 @@ export class ComparingView {
   constructor(machine, view) {
     this.machine = machine;
     this.view = view;
+    // The window that was tried last; and that of the comparison, since one of another window came for it where the view moved on.
     this.tried = "";
+    /** @type {string | null} */
+    this.found = null;
     view.onDrawn = () => this.look();
     machine.panel(({ comparison }) => [comparison], () => this.look());
   }
 
   look() {
     const { machine, view } = this, { comparison, work, queue } = machine.state;
-    if (!comparison) this.tried = "";
+    if (!comparison || comparison.window !== this.found) this.tried = "";
+    this.found = comparison?.window ?? null;
     if (!comparison || !view.isWhole || view.isWanted || comparison.pair?.some(({ isOpened }) => isOpened)) return;
     const window = view.window(), isAsked = [work?.gesture, ...queue].some((gesture) => gesture?.kind === "compareView");
     if (comparison.pair && pitchOf(window) >= pitchOf(comparison.whole)) this.showWhole(comparison);

@@ -197,9 +197,11 @@ export class Kept {
       records.forEach((entries, at) => store("lines").add({ entries }, at + 1));
       for (const [id, bytes] of files) store("files").put(bytes, id);
       store("looks").put(waiting, "waiting");
+      // (these know the other boards of the page)
+      if (this.looks) store("looks").put(this.looks, "looks");
     });
     this.isLost &&= !answer.isKept;
-    // (the page is at rest only when these are written too)
+    // What changed of them meanwhile; the page is at rest only when that is written too.
     if (answer.isKept && this.looks) await this.keepLooks(this.looks);
     return answer;
   }

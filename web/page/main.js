@@ -204,14 +204,17 @@ function listenToChanges() {
 }
 
 // What is heard of a journal. A page in which nothing was done yet, and nothing meanwhile, goes on with what another one had,
-// which was closed.
+// which was closed, with its boards where it has no others itself.
 /** @type {Page.Warn} */
 async function hear({ isFreed = false, ...event }, kept) {
   if (kept !== machine.kept) return boards.happened((board) => board.kept === kept, event);
   const found = isFreed && isBlank(machine.state) ? await machine.kept.succeed() : null;
   if (!found || !isBlank(machine.state)) return machine.send(event);
   machine.kept.goOn();
-  return machine.send({ kind: "begin", kept: found, contents: null });
+  if (boards.list.length === 1) boards.know(found.looks?.registry);
+  machine.send({ kind: "begin", kept: found, contents: null });
+  await machine.begun();
+  return boards.restore();
 }
 
 async function start() {
@@ -234,6 +237,7 @@ async function start() {
   Object.assign(machine, { kept: opened });
   const kept = await opened.read();
   Object.assign(opened, { looks: kept.looks });
+  boards.know(kept.looks?.registry);
   machine.send({ kind: "begin", kept, contents });
   listenToChanges();
   try {
@@ -243,7 +247,7 @@ async function start() {
     stopped(fault);
   }
   await machine.begun();
-  await boards.restore(kept.looks?.registry);
+  await boards.restore();
   going.listen();
   document.body.dataset.ready = "yes";
 }

@@ -52,9 +52,10 @@ export class Link {
     if (!this.isOver) this.worker.postMessage(message, over);
   }
 
-  // A message with an answer of its own, past the machine: to open the station.
+  // A message with an answer of its own, past the machine: to open the station. A worker that ended answers nothing any more.
   /** @template T @param {string} kind @param {object} message @returns {Promise<T>} */
   call(kind, message = {}) {
+    if (this.isOver) return Promise.reject(new Error("it ended"));
     const call = ++this.number;
     return new Promise((done, fail) => {
       this.waiting.set(call, { done, fail });

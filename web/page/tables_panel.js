@@ -2,6 +2,7 @@
 // all of them.
 
 import { button, byId, element, redraw } from "./dom.js";
+import { filesOf } from "./machine/attributes.js";
 import { isOpening, layerOf } from "./machine/state.js";
 import { lengthText, seen, wordsIn } from "./units.js";
 import { platingOf } from "./plating.js";
@@ -25,12 +26,25 @@ const cells = (...contents) => contents.map((content) => element("td", {}, conte
 /** @param {string[]} words */
 const heads = (...words) => element("thead", {}, element("tr", {}, ...words.map((word) => element("th", { scope: "col" }, word))));
 
+// The bytes of a layer's file.
+/** @param {Page.State} state @param {string | undefined} name */
+const fileOf = (state, name) => state.files[filesOf(state).get(name)]?.bytes;
+
+// The shape of an aperture as the station paints it.
+/** @param {ImageBitmap | undefined} bitmap @param {string} words */
+function canvasOf(bitmap, words) {
+  const canvas = element("canvas", { width: SIDE, height: SIDE, role: "img", "aria-label": words });
+  if (bitmap) canvas.getContext("2d").drawImage(bitmap, 0, 0);
+  return canvas;
+}
+
 export class TablesPanel {
   /** @param {Page.Runner} machine */
   constructor(machine) {
     this.machine = machine;
-    /** @type {Map<string, Map<number, ImageBitmap>>} */
-    this.shapes = new Map();
+    // The shapes of layers by the bytes of their files: another layer may get a name, and another board has it too.
+    /** @type {WeakMap<Uint8Array, Map<number, ImageBitmap>>} */
+    this.shapes = new WeakMap();
     /** @type {Map<HTMLElement, string>} */
     this.shown = new Map();
     for (const [id, key] of /** @type {const} */ ([["drills-panel", "isDrill"], ["apertures-panel", "isApertures"]])) {
@@ -121,41 +135,32 @@ export class TablesPanel {
 
   /** @param {Page.State} state @param {string | undefined} name */
   showApertures(state, name) {
-    const panel = byId("apertures"), found = state.tables.found[name];
-    if (!this.isNew(panel, state, name ? this.shapes.get(name)?.size : null)) return undefined;
+    const panel = byId("apertures"), found = state.tables.found[name], bytes = fileOf(state, name), shapes = this.shapes.get(bytes);
+    if (!this.isNew(panel, state, filesOf(state).get(name), shapes?.size)) return undefined;
     if (!name) return redraw(panel, element("p", { className: "hint" }, "Choose a Gerber layer: a drill layer has tools."));
     if (!found) return undefined;
-    this.draw(state, name);
+    this.draw(state, name, bytes);
     const rows = found.entries.map(({ number, words }) => {
       const counts = found.counts[number] ?? {}, [light, pick] = this.buttons(state, name, number, `D${number}`, sum(counts));
       return element("tr", { "data-row": number },
-        ...cells(light, this.canvas(name, number, words), wordsIn(words, state.unit), countWords(counts), pick));
+        ...cells(light, canvasOf(shapes?.get(number), words), wordsIn(words, state.unit), countWords(counts), pick));
     });
     const without = found.counts.none ? [element("p", { className: "hint" }, `without an aperture: ${countWords(found.counts.none)}`)] : [];
     return redraw(panel, element("h3", {}, layerOf(state, name).label), element("table", { className: "tally" },
       heads("", "shape", "size", "items", ""), element("tbody", {}, ...rows)), ...without);
   }
 
-  // The shape of an aperture as the station paints it.
-  /** @param {string} name @param {number} number @param {string} words */
-  canvas(name, number, words) {
-    const canvas = element("canvas", { width: SIDE, height: SIDE, role: "img", "aria-label": words });
-    const bitmap = this.shapes.get(name)?.get(number);
-    if (bitmap) canvas.getContext("2d").drawImage(bitmap, 0, 0);
-    return canvas;
-  }
-
   // Asks for the shapes of a layer once: nothing changes a definition.
-  /** @param {Page.State} state @param {string} name */
-  draw(state, name) {
+  /** @param {Page.State} state @param {string} name @param {Uint8Array | undefined} bytes */
+  draw(state, name, bytes) {
     const { machine } = this;
-    if (this.shapes.has(name) || !state.station.isOpen) return;
+    if (!bytes || this.shapes.has(bytes) || !state.station.isOpen) return;
     const shapes = new Map(), isLight = document.documentElement.dataset.look === "light";
-    this.shapes.set(name, shapes);
+    this.shapes.set(bytes, shapes);
     const colour = seen(layerOf(state, name).colour, isLight);
     machine.await(machine.link.call("shapes", { name, side: SIDE, colour }).then((found) => {
       for (const { number, bitmap } of found.shapes) shapes.set(number, bitmap);
       this.show(machine.state);
-    }, () => this.shapes.delete(name)));
+    }, () => this.shapes.delete(bytes)));
   }
 }

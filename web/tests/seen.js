@@ -16,13 +16,20 @@ const REST = `(() => {
     };
     look();
   });
+  // (what a question converts is none of the page's own)
+  const isWorking = () => document.querySelector("#question[open] .working") !== null;
+  const converted = () => new Promise((done) => {
+    const look = () => isWorking() ? setTimeout(look, 10) : done();
+    look();
+  });
   const { idle } = globalThis.camplot ?? {};
   // (what a timer of the page begins comes a moment later)
   const pause = () => new Promise((done) => setTimeout(done, 20));
-  return idle ? Promise.race([idle().then(pause).then(idle), still(() => document.getElementById("question").open)]) : still(() => true);
+  const isAsking = () => document.getElementById("question").open && !isWorking();
+  return idle ? Promise.race([idle().then(pause).then(idle).then(converted), still(isAsking)]) : still(() => true);
 })()`;
 
-export async function rest(tab, seconds = 60) {
+export async function rest(tab, seconds = 120) {
   let timer = null;
   const late = new Promise((_, fail) => {
     timer = setTimeout(() => fail(new Error(`the page did not come to rest in ${seconds} seconds`)), 1000 * seconds);
@@ -35,7 +42,7 @@ export async function rest(tab, seconds = 60) {
 }
 
 // The same of a page that is opened again: it may have to wait until the browser has closed the one before.
-export async function restAgain(tab, seconds = 60) {
+export async function restAgain(tab, seconds = 120) {
   await rest(tab, seconds);
   await tab.wait("!/Another page/.test(document.getElementById('kept').textContent)", seconds);
   await rest(tab, seconds);

@@ -3,7 +3,7 @@
 import { onPage } from "./support.js";
 
 // The station has answered what lies near the pointer.
-export const answered = (browser) => browser.wait("!camplot.pointer.snaps.isUnderWay", 20);
+export const answered = (browser) => browser.wait("!camplot.pointer.snaps.isUnderWay", 60);
 
 export const sign = async (browser) => {
   const snap = await browser.ask("camplot.marks.signs.snap");

@@ -67,7 +67,7 @@ export class Tab extends Browser {
   }
 
   // Waits for an event of this tab that comes after the first `from` of the browser.
-  async heard(method, from, seconds = 20) {
+  async heard(method, from, seconds = 60) {
     for (const until = Date.now() + 1000 * seconds; Date.now() < until;) {
       const found = this.browser.events.slice(from).find((event) => event.method === method && event.sessionId === this.session);
       if (found) return found.params;

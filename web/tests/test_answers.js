@@ -30,7 +30,7 @@ suite("files that ask for the same", () => {
   test("are answered for at once, and no longer stand as refused", async () => {
     const tab = await open();
     await drop(tab, onDisk({ "one.drl": drill("010000"), "two.drl": drill("015000"), "three.drl": drill("020000"), "a.gtl": gerber("X0Y0D03*") }));
-    await tab.wait("camplot.state.layers.length === 1", 20);
+    await tab.wait("camplot.state.layers.length === 1", 60);
     await rest(tab);
     assert.equal((await seen(tab)).refused.length, 3);
     assert.deepEqual(await groups(tab), ["3 drill files ask for the same: unit. answer for all .."]);
@@ -42,11 +42,11 @@ suite("files that ask for the same", () => {
     await fill(tab, "unit", "mm");
     await fill(tab, "digits", "3:3");
     await fill(tab, "zeros that are written", "leading");
-    await tab.wait(isAllowed, 20);
+    await tab.wait(isAllowed, 60);
     assert.match((await seen(tab)).question.body, /All of them can be converted so/);
     assert.equal(await tab.ask("document.querySelectorAll('#outcomes > li').length"), 3);
     await answer(tab, /^Convert/);
-    await tab.wait("camplot.state.layers.length === 4", 20);
+    await tab.wait("camplot.state.layers.length === 4", 60);
     await rest(tab);
     const { refused, told } = await seen(tab);
     assert.deepEqual([refused, told], [[], "3 layers opened. 3 files converted."]);
@@ -64,7 +64,7 @@ suite("files that ask for the same", () => {
   test("are left as they are by Escape, and asked again by the button", async () => {
     const tab = await open();
     await drop(tab, onDisk({ "one.gtl": unitless("0100"), "two.gbl": unitless("0200") }));
-    await tab.wait("document.querySelector('#refused-groups button')", 20);
+    await tab.wait("document.querySelector('#refused-groups button')", 60);
     await rest(tab);
     assert.deepEqual(await groups(tab), ["2 Gerber files ask for the same: unit. answer for all .."]);
     await press(tab, "#refused-groups button");
@@ -74,12 +74,12 @@ suite("files that ask for the same", () => {
     assert.equal((await seen(tab)).refused.length, 2);
     await press(tab, "#refused-groups button");
     // The ways to read them are buttons, as for one file.
-    await tab.wait("document.querySelectorAll('#ways button').length === 2", 20);
+    await tab.wait("document.querySelectorAll('#ways button').length === 2", 60);
     await rest(tab);
     await press(tab, "#ways button", 1);
-    await tab.wait(isAllowed, 20);
+    await tab.wait(isAllowed, 60);
     await answer(tab, /^Convert/);
-    await tab.wait("camplot.state.layers.length === 2", 20);
+    await tab.wait("camplot.state.layers.length === 2", 60);
     await rest(tab);
     assert.deepEqual((await seen(tab)).refused, []);
     assert.deepEqual(tab.complaints(), []);
@@ -88,7 +88,7 @@ suite("files that ask for the same", () => {
   test("of which one cannot be read so: the others are opened, and it stays", async () => {
     const tab = await open();
     await drop(tab, onDisk({ "one.drl": drill("010000"), "two.drl": `M48\nT01C0.800\n%\nT01\nX010000Y020000\nG99\nM30\n` }));
-    await tab.wait("document.querySelectorAll('#refused > li').length === 2", 20);
+    await tab.wait("document.querySelectorAll('#refused > li').length === 2", 60);
     await rest(tab);
     const found = await groups(tab);
     if (!found.length) return;
@@ -97,10 +97,10 @@ suite("files that ask for the same", () => {
     await fill(tab, "unit", "mm");
     await fill(tab, "digits", "3:3");
     await fill(tab, "zeros that are written", "leading");
-    await tab.wait(isAllowed, 20);
+    await tab.wait(isAllowed, 60);
     assert.match((await seen(tab)).question.body, /1 file can be converted so; 1 file would stay refused/);
     await answer(tab, /^Convert/);
-    await tab.wait("camplot.state.layers.length === 1", 20);
+    await tab.wait("camplot.state.layers.length === 1", 60);
     await rest(tab);
     const { refused } = await seen(tab);
     assert.equal(refused.length, 1);
@@ -112,15 +112,15 @@ suite("old files of one opening", () => {
   test("are asked about once, each with its changes", async () => {
     const tab = await open();
     await drop(tab, onDisk({ "one.gtl": old("0"), "two.gbl": old("1000000"), "three.gto": old("2000000") }));
-    await tab.wait(isAllowed, 20);
+    await tab.wait(isAllowed, 60);
     const { question } = await seen(tab);
     assert.equal(question.title, "Convert 3 files?");
     for (const name of ["one.gtl", "two.gbl", "three.gto"]) assert.ok(question.body.includes(name), name);
     await tab.reload();
-    await tab.wait(isAllowed, 20);
+    await tab.wait(isAllowed, 60);
     assert.equal((await seen(tab)).question.title, "Convert 3 files?");
     await answer(tab, /^Convert/);
-    await tab.wait("camplot.state.layers.length === 3", 20);
+    await tab.wait("camplot.state.layers.length === 3", 60);
     await rest(tab);
     const { refused, told } = await seen(tab);
     assert.deepEqual([refused, told], [[], "3 layers opened. 3 files converted."]);

@@ -18,7 +18,7 @@ const ALL = ["bottom", "bottom-mask", "nonplated", "outline", "plated", "top", "
 const pads = (count) => gerber(...Array.from({ length: count }, (_, at) => `X${at * 2000000}Y0D03*`));
 
 async function opened(tab, count) {
-  await tab.wait(`camplot.state.layers.length >= ${count}`, 20);
+  await tab.wait(`camplot.state.layers.length >= ${count}`, 60);
   await rest(tab);
 }
 
@@ -101,7 +101,7 @@ suite("a ZIP file", () => {
       + "board.zip: ../out.gts is not read: its name is no path in the archive.");
     const whole = archive([{ name: "x.gts", bytes: pads(40) }]);
     await drop(tab, onDisk({ "half.zip": whole.subarray(0, whole.length - 30) }));
-    await tab.wait("/half/.test(document.getElementById('told').textContent)", 10);
+    await tab.wait("/half/.test(document.getElementById('told').textContent)", 60);
     await rest(tab);
     assert.equal((await seen(tab)).told, "half.zip is not read: it has no end, so it is not whole.");
     assert.deepEqual(await names(tab), ["bottom", "top"]);
@@ -117,7 +117,7 @@ suite("a ZIP file", () => {
     await rest(tab);
     await toBoard(tab);
     await drop(tab, zipped([{ name: "a.gbl", bytes: pads(2) }, { name: "b.gto", bytes: pads(2) }]));
-    await tab.wait("document.getElementById('question').open", 10);
+    await tab.wait("document.getElementById('question').open", 60);
     await tab.key("Escape");
     await rest(tab);
     assert.match((await seen(tab)).told, /2 files left closed/);

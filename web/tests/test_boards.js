@@ -76,7 +76,7 @@ async function closedInAnEdit(tab, name) {
 async function savedBy(tab) {
   const plots = await saving(tab, async () => {
     await tab.key("p", CTRL);
-    await tab.wait("document.getElementById('question').open", 10);
+    await tab.wait("document.getElementById('question').open", 60);
     await tab.ask(`document.querySelectorAll("#question-body select").forEach((choice) => {
       for (const value of ["pbm", "shown"]) if ([...choice.options].some((option) => option.value === value)) choice.value = value; })`);
     await tab.ask("document.querySelectorAll('#question-body input').forEach((input) => { input.value = '150'; })");
@@ -104,7 +104,7 @@ suite("a board", () => {
     test(board, async () => {
       let tab = await open({ first: [WRITES] });
       await (paths.length % 2 ? drop : openFiles)(tab, paths);
-      await tab.wait("camplot.state.layers.length > 0 || document.getElementById('question').open || !document.getElementById('refused-panel').hidden", 20);
+      await tab.wait("camplot.state.layers.length > 0 || document.getElementById('question').open || !document.getElementById('refused-panel').hidden", 60);
       await answered(tab);
       const opened = await seen(tab);
       if (!opened.layers.length) {

@@ -47,7 +47,7 @@ async function isTold(tab, lines, waiting = []) {
     && button.getBoundingClientRect().width > 0)`;
   assert.ok(await tab.ask(again) >= 0, "there is no button to open again");
   await press(tab, "button", await tab.ask(again));
-  await tab.wait(`${again} < 0 && document.body?.dataset.ready === "yes" && camplot.state.layers.length === 1`, 20);
+  await tab.wait(`${again} < 0 && document.body?.dataset.ready === "yes" && camplot.state.layers.length === 1`, 60);
   await rest(tab);
   const found = (await linesNow(tab)).filter((line) => !line.startsWith("#")).slice(1);
   assert.deepEqual(found, found.length > lines.length ? [...lines, ...waiting] : lines);
@@ -95,14 +95,14 @@ suite("the page", () => {
     const tab = await withPads();
     await toBoard(tab);
     await tab.ask("setTimeout(() => { Promise.reject(new Error('lost in the test')); }, 0); 0");
-    await tab.wait("/lost in the test/.test(document.body.textContent)", 5);
+    await tab.wait("/lost in the test/.test(document.body.textContent)", 60);
     assert.match(await said(tab), /lost in the test/);
   });
 
   test("tells an error of one of its handlers", async () => {
     const tab = await withPads();
     await tab.ask("setTimeout(() => { throw new Error('thrown in the test'); }, 0); 0");
-    await tab.wait("/thrown in the test/.test(document.body.textContent)", 5);
+    await tab.wait("/thrown in the test/.test(document.body.textContent)", 60);
     assert.match(await said(tab), /thrown in the test/);
   });
 
@@ -112,7 +112,7 @@ suite("the page", () => {
       await tab.ask(`${failing(name)}; 0`);
       await tab.key("p", CTRL);
       await answer(tab, /Save/);
-      await tab.wait("/it fails by the test/.test(document.body.textContent)", 10);
+      await tab.wait("/it fails by the test/.test(document.body.textContent)", 60);
       assert.match(await said(tab), /it fails by the test/);
       await type(tab, "move top 0 0 1000");
       await rest(tab);
@@ -127,7 +127,7 @@ suite("the page", () => {
     await tab.ask(`${failing("URL.createObjectURL")}; 0`);
     await toBoard(tab);
     await tab.key("s", CTRL);
-    await tab.wait("/it fails by the test/.test(document.body.textContent)", 10);
+    await tab.wait("/it fails by the test/.test(document.body.textContent)", 60);
     await rest(tab);
     const { unsaved, told } = await seen(tab);
     assert.match(unsaved, /1 unsaved change/);

@@ -91,7 +91,7 @@ async function editByHand(browser) {
 // Plots of a resolution in a form, as a person asks for them.
 const plots = (browser, form) => browser.saving(async () => {
   await browser.key("p", CTRL);
-  await browser.wait("document.getElementById('question').open", 10);
+  await browser.wait("document.getElementById('question').open", 60);
   await browser.ask(`document.querySelectorAll("#question-body select").forEach((choice) => {
     for (const value of ["${form}", "shown"]) if ([...choice.options].some((option) => option.value === value)) choice.value = value; })`);
   await browser.ask("document.querySelectorAll('#question-body input').forEach((input) => { input.value = '150'; })");

@@ -16,7 +16,7 @@ const names = async (tab) => (await seen(tab)).layers.map(({ name }) => name);
 async function withLayers(files = { "a.gtl": pads(3), "b.gbl": pads(4), "c.gto": pads(5) }) {
   const tab = await open();
   await drop(tab, onDisk(files));
-  await tab.wait(`camplot.state.layers.length === ${Object.keys(files).length}`, 20);
+  await tab.wait(`camplot.state.layers.length === ${Object.keys(files).length}`, 60);
   await rest(tab);
   await tab.ask("document.getElementById('layer-panel').open = true");
   return tab;
@@ -71,7 +71,7 @@ suite("a layer that is closed", () => {
     assert.deepEqual(await names(tab), ["top", "top-silk"]);
     // It can be opened again, under its name.
     await drop(tab, onDisk({ "b.gbl": pads(4) }));
-    await tab.wait("camplot.state.layers.length === 3", 20);
+    await tab.wait("camplot.state.layers.length === 3", 60);
     await rest(tab);
     assert.deepEqual((await names(tab)).sort(), ["bottom", "top", "top-silk"]);
     await isAsTheProgram(tab);
@@ -164,7 +164,7 @@ suite("a board that is closed", () => {
     await rest(tab);
     assert.deepEqual(await names(tab), []);
     await drop(tab, onDisk({ "b.gbl": pads(4) }));
-    await tab.wait("camplot.state.layers.length === 1", 20);
+    await tab.wait("camplot.state.layers.length === 1", 60);
     await rest(tab);
     await isAsTheProgram(tab);
     assert.deepEqual(tab.complaints(), []);

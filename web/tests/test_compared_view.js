@@ -71,6 +71,34 @@ suite("a comparison with before", () => {
     assert.ok(red > green && green > blue && red > 150, `${red} ${green} ${blue}`);
     assert.deepEqual(browser.complaints(), []);
   });
+
+  test("follows a view that went elsewhere and came back while it was made", async () => {
+    const browser = await openPage();
+    await give(browser, [{ name: "a.gtl", bytes: gerber("X0Y0D03*", "X60000000Y0D03*") }]);
+    const at = (x) => browser.ask(`camplot.view.fit({ left: ${x} - 2000000, right: ${x} + 2000000, low: -2000000, high: 2000000 })`);
+    await at(0);
+    await settle(browser);
+    await run(browser, "delete top 1");
+    await browser.ask("camplot.compare(1)");
+    await compared(browser);
+    // The worker is late: it compares the view that it has by then.
+    await browser.ask(`{
+      const { link } = camplot.machine, send = link.send, held = [];
+      link.send = (message, ...rest) => message.kind === "compareView" && held ? held.push(message) : send.call(link, message, ...rest);
+      globalThis.letGo = () => { link.send = send; for (const message of held) link.send(message); };
+      globalThis.isHeld = () => held.length > 0;
+    }`);
+    await at(30000000);
+    await settle(browser);
+    await browser.wait("isHeld()");
+    await at(60000000);
+    await settle(browser);
+    await browser.ask("letGo()");
+    await browser.wait("camplot.state.comparison.window === camplot.view.window()");
+    await at(30000000);
+    await compared(browser);
+    assert.deepEqual(browser.complaints(), []);
+  });
 });
 
 suite("a comparison of two layers", () => {

@@ -45,7 +45,7 @@ suite("a day's work", () => {
     const tab = await open(), came = kicad(), isNew = (from) => async () => (await linesNow(tab)).slice(from);
 
     await drop(tab, onDisk({ "nightlight.zip": archive(came.map(({ name, bytes }) => ({ name: `gerbers/${name}`, bytes, method: 8 }))) }));
-    await tab.wait("camplot.state.layers.length === 8", 20);
+    await tab.wait("camplot.state.layers.length === 8", 60);
     await rest(tab);
 
     // The connector: what lies in a box around it, its pads, their holes and the openings of the masks, and the track that
@@ -87,7 +87,7 @@ suite("a day's work", () => {
     // All that the silk screen draws with its widest pen: a text.
     await alone(tab, "top-silk");
     await press(tab, "#apertures-panel summary");
-    await tab.wait("document.querySelector('#apertures tbody tr') !== null", 20);
+    await tab.wait("document.querySelector('#apertures tbody tr') !== null", 60);
     const widest = await tab.ask("[...document.querySelectorAll('#apertures tbody tr')].findIndex((row) => /0\\.18/.test(row.textContent))");
     await press(tab, "#apertures .only", widest);
     await rest(tab);

@@ -104,11 +104,11 @@ suite("20 layers", () => {
       };
       camplot.view.pan(300, 150);
     })()`);
-    await browser.wait("camplot.view.isWhole && camplot.view.composed.making", 30);
+    await browser.wait("camplot.view.isWhole && camplot.view.composed.making", 60);
     await browser.ask("camplot.run(['move top 0 1000000 0'])");
-    await browser.wait("camplot.view.isWhole && !camplot.view.isWanted", 30);
+    await browser.wait("camplot.view.isWhole && !camplot.view.isWanted", 60);
     assert.ok(await browser.ask("camplot.view.isStale"));
-    await browser.wait("!camplot.view.isPainting", 30);
+    await browser.wait("!camplot.view.isPainting", 60);
     assert.equal((await browser.ask(COMPARED)).greatest, 0);
   });
 
@@ -124,7 +124,7 @@ suite("20 layers", () => {
         ${away};
         view.change();
       })()`);
-      await browser.wait("camplot.view.composed.version === camplot.view.version && !camplot.view.composed.making", 30);
+      await browser.wait("camplot.view.composed.version === camplot.view.version && !camplot.view.composed.making", 60);
       await browser.ask(`(() => { const { view } = camplot; ${back}; delete view.request; view.renew(); })()`);
       await settle(browser);
       assert.equal((await browser.ask(COMPARED)).greatest, 0, away);
@@ -138,11 +138,11 @@ suite("20 layers", () => {
     writeFileSync(page, text.replace(method, `${method}for (const until = performance.now() + 200; performance.now() < until;);\n`));
     const browser = await withLayers({ page });
     await browser.ask("camplot.view.pan(300, 150)");
-    await browser.wait("!document.getElementById('drawing-stop').hidden", 30);
+    await browser.wait("!document.getElementById('drawing-stop').hidden", 60);
     assert.match(await browser.ask("document.getElementById('drawing-words').textContent"), /^drawing \d+ of 20 layers/);
     assert.equal(await browser.ask("camplot.view.isWhole"), false);
     await browser.ask("document.getElementById('drawing-stop').click()");
-    await browser.wait("camplot.view.isWhole", 20);
+    await browser.wait("camplot.view.isWhole", 60);
     assert.equal(await browser.ask("document.getElementById('drawing').hidden"), true);
     // What comes next is drawn.
     await browser.ask("camplot.view.pan(-300, -150)");
@@ -195,6 +195,6 @@ suite("a region of 100,000 sides", () => {
     console.log(`page: a picked region of 100,000 sides: ${Math.round(frames / 2)} frames a second in a pan, ${spent.toFixed(1)} ms each`);
     assert.ok(frames > 2 && strokes <= frames / 2, `${strokes} strokes of the path in ${frames} frames`);
     // At rest it is drawn anew where it is.
-    await browser.wait("camplot.marks.outlines.sheet.view[0] === camplot.view.left", 30);
+    await browser.wait("camplot.marks.outlines.sheet.view[0] === camplot.view.left", 60);
   });
 });

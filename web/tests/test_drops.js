@@ -15,7 +15,7 @@ const ALL = ["bottom", "bottom-mask", "nonplated", "outline", "plated", "top", "
 const names = async (tab) => (await seen(tab)).layers.map(({ name }) => name).sort();
 
 async function opened(tab, count) {
-  await tab.wait(`camplot.state.layers.length >= ${count}`, 10);
+  await tab.wait(`camplot.state.layers.length >= ${count}`, 60);
   await rest(tab);
   return names(tab);
 }
@@ -48,7 +48,7 @@ suite("dropped on a page from the disk", () => {
     const paths = onDisk({ "top.gtl": gerber("X0Y0D03*"), "notes.md": "no layer\n",
       "a.pbm": pbm(40, 30, (column) => column === 39) });
     await drop(tab, paths);
-    await tab.wait("document.getElementById('question').open", 10);
+    await tab.wait("document.getElementById('question').open", 60);
     assert.match((await seen(tab)).question.title, /a\.pbm/);
     await tab.key("Escape");
     await rest(tab);

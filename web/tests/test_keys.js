@@ -31,11 +31,11 @@ async function openByKey(browser, paths) {
 // Answers the question that is open, by Tab and Enter.
 async function answer(browser, words) {
   const at = `[...document.querySelectorAll("#question-choices button")].findIndex((one) => one.textContent === "${words}")`;
-  await browser.wait(`document.getElementById("question").open && ${at} >= 0`, 20);
+  await browser.wait(`document.getElementById("question").open && ${at} >= 0`, 60);
   const title = await text(browser, "question-title");
   await tabTo(browser, `#question-choices button:nth-child(${1 + await browser.ask(at)})`);
   await stroke(browser, "Enter");
-  await browser.wait(`!document.getElementById("question").open || document.getElementById("question-title").textContent !== "${title}"`, 20);
+  await browser.wait(`!document.getElementById("question").open || document.getElementById("question-title").textContent !== "${title}"`, 60);
 }
 
 suite("keys alone", () => {
@@ -140,7 +140,7 @@ suite("keys alone", () => {
     await tabTo(browser, "#script");
     const before = await browser.ask("document.getElementById('script').scrollTop");
     await stroke(browser, "ArrowUp");
-    await browser.wait(`document.getElementById('script').scrollTop < ${before}`, 10);
+    await browser.wait(`document.getElementById('script').scrollTop < ${before}`, 60);
     await idle(browser);
     assert.ok(!(await linesAlone(browser)).some((line) => line.startsWith("move")));
     await tabTo(browser, "#marks", { isBack: true });
@@ -220,13 +220,13 @@ suite("keys alone", () => {
     const box = JSON.parse(await browser.ask("JSON.stringify(document.querySelector('#script code').getBoundingClientRect())"));
     await browser.drag([box.x + 1, box.y + 5], [box.x + 200, box.y + 5]);
     await stroke(browser, "c", CTRL);
-    await browser.wait("globalThis.copied !== undefined", 10);
+    await browser.wait("globalThis.copied !== undefined", 60);
     assert.match(await browser.ask("copied"), /^load top gerber/);
     assert.deepEqual(await browser.ask("camplot.state.copied"), []);
     const [x, y] = await browser.ask("(() => { const box = document.getElementById('marks').getBoundingClientRect(); return [box.x + 300, box.y + 300]; })()");
     await browser.drag([x, y], [x + 1, y], "right");
     // A press on the board leaves no text selected.
-    await browser.wait("String(getSelection()) === ''", 10);
+    await browser.wait("String(getSelection()) === ''", 60);
     await stroke(browser, "c", CTRL);
     await idle(browser);
     assert.deepEqual(await browser.ask("camplot.state.copied.length"), 1);

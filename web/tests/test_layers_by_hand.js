@@ -17,7 +17,7 @@ const colourOf = (tab, name) => tab.ask(`camplot.state.layers.find((layer) => la
 async function withLayers(files) {
   const tab = await open();
   await drop(tab, onDisk(files));
-  await tab.wait(`camplot.state.layers.length === ${Object.keys(files).length}`, 20);
+  await tab.wait(`camplot.state.layers.length === ${Object.keys(files).length}`, 60);
   await rest(tab);
   await tab.ask("document.getElementById('layer-panel').open = true");
   return tab;
@@ -94,7 +94,7 @@ suite("what a layer shows", () => {
     // The text that was saved is known by it when it is opened.
     const other = await open();
     await drop(other, onDisk({ "board.zip": bytes }));
-    await other.wait("camplot.state.layers.length === 3", 20);
+    await other.wait("camplot.state.layers.length === 3", 60);
     await rest(other);
     assert.deepEqual(await pile(other), ["bottom: bottom copper", "in2: inner copper 2", "top: top copper"]);
     assert.deepEqual(tab.complaints(), []);

@@ -142,7 +142,7 @@ suite("going to a place", () => {
     await browser.key("Enter");
     await browser.wait("camplot.going.mark !== null");
     await assertCentre(browser, PAD);
-    await browser.wait("camplot.going.mark === null", 20);
+    await browser.wait("camplot.going.mark === null", 60);
     await settle(browser);
     assert.equal(await browser.ask("document.getElementById('question').open"), false);
     // In another unit, by the buttons.
@@ -221,7 +221,7 @@ suite("going to a place", () => {
     await browser.ask("navigator.clipboard.writeText = () => Promise.reject(new Error('no'))");
     await browser.ask("camplot.going.to({ x: 2000000, y: 0, zoom: 5000 })");
     await press(browser, "[data-act=link]");
-    await browser.wait("/#2\\.000,0\\.000,5000$/.test(document.getElementById('told').textContent)", 20);
+    await browser.wait("/#2\\.000,0\\.000,5000$/.test(document.getElementById('told').textContent)", 60);
     assert.match(await text(browser, "told"), /^The browser copies nothing here; the link to this view is file:/);
     assert.deepEqual(browser.complaints(), []);
   });

@@ -159,7 +159,7 @@ suite("pictures to give away", () => {
       await browser.key("ArrowDown");
       await write(browser, "#question-body input", dots);
       await press(browser, "#question-choices button");
-      await browser.wait(`${why}.test(document.getElementById("told").textContent)`, 20);
+      await browser.wait(`${why}.test(document.getElementById("told").textContent)`, 60);
     }
   });
 });
@@ -194,7 +194,7 @@ suite("from below", () => {
     assert.equal(wanted.length, 1);
     const [one, other] = [place, await text(browser, "place")].map((words) => /^(\d+) (-\d+) nm/.exec(words).slice(1).map(Number));
     assert.ok(Math.hypot(one[0] - other[0], one[1] - other[1]) <= 1.5 * await browser.ask("camplot.view.pitch"), `${one} ${other}`);
-    await browser.wait("/top copper/.test(document.getElementById('dark').textContent)", 10);
+    await browser.wait("/top copper/.test(document.getElementById('dark').textContent)", 60);
     await browser.ask("camplot.pickPlace('top', 6)");
     await settle(browser);
     const [x, y] = await onPage(browser, ...PAD), outlined = await browser.ask(`(() => {

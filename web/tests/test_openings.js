@@ -43,7 +43,7 @@ suite("openings at once", () => {
   test("two boards", async () => {
     const tab = await open();
     await Promise.all([openFiles(tab, pathsOf("kicad")), openFiles(tab, pathsOf("kicad_angles"))]);
-    await tab.wait("camplot.state.layers.length >= 8", 10);
+    await tab.wait("camplot.state.layers.length >= 8", 60);
     await rest(tab);
     for (let turn = 0; turn < 8 && (await seen(tab)).question; turn++) {
       await answer(tab, /^(Convert|Open)/);
@@ -57,7 +57,7 @@ suite("openings at once", () => {
     const tab = await open();
     const one = onDisk({ "a.gtl": gerber("X0Y0D03*") }), other = onDisk({ "a.gtl": gerber("X0Y0D03*", "X5000000Y0D03*") });
     await Promise.all([openFiles(tab, one), openFiles(tab, other), openFiles(tab, one)]);
-    await tab.wait("camplot.state.layers.length >= 3", 10);
+    await tab.wait("camplot.state.layers.length >= 3", 60);
     await rest(tab);
     assert.deepEqual((await layers(tab)).map((words) => words.split(" ")[1]).sort(), ["1", "1", "2"]);
     await isWhole(tab);
@@ -70,7 +70,7 @@ suite("openings at once", () => {
     await press(tab, "#line");
     await tab.type("load again gerber files/a.gtl");
     await Promise.all([openFiles(tab, pathsOf("kicad")), tab.key("Enter")]);
-    await tab.wait("camplot.state.layers.length >= 10", 10);
+    await tab.wait("camplot.state.layers.length >= 10", 60);
     await rest(tab);
     await toBoard(tab);
     assert.equal((await layers(tab)).length, 10);
@@ -87,7 +87,7 @@ suite("openings at once", () => {
       tab.key("Enter");
       await openFiles(tab, onDisk({ [`${name}.gbl`]: gerber("X0Y0D03*", "X5000000Y0D03*") }));
     }
-    await tab.wait("camplot.state.layers.length >= 7", 10);
+    await tab.wait("camplot.state.layers.length >= 7", 60);
     await rest(tab);
     await toBoard(tab);
     const { layers: shown } = await seen(tab);
@@ -117,15 +117,15 @@ suite("questions", () => {
   test("a second one waits for the first", async () => {
     const tab = await open();
     await openFiles(tab, onDisk(old(1)));
-    await tab.wait("document.getElementById('question').open", 10);
+    await tab.wait("document.getElementById('question').open", 60);
     assert.match((await seen(tab)).question.title, /old1/);
     await openFiles(tab, onDisk(old(2)));
     await rest(tab);
     assert.match((await seen(tab)).question.title, /old1/);
     await answer(tab, /Convert/);
-    await tab.wait("/old2/.test(document.getElementById('question-title').textContent) && document.getElementById('question').open", 10);
+    await tab.wait("/old2/.test(document.getElementById('question-title').textContent) && document.getElementById('question').open", 60);
     await answer(tab, /Convert/);
-    await tab.wait("camplot.state.layers.length === 2", 10);
+    await tab.wait("camplot.state.layers.length === 2", 60);
     await rest(tab);
     assert.deepEqual((await layers(tab)).sort(), ["bottom 1", "top 1"]);
     await isWhole(tab);
@@ -138,15 +138,15 @@ suite("questions", () => {
     await type(tab, "move top 0 1000 0", "move top 0 1000 0", "undo");
     const other = onDisk({ "b.gbl": gerber("X0Y0D03*") });
     await openFiles(tab, other);
-    await tab.wait("document.getElementById('question').open", 10);
+    await tab.wait("document.getElementById('question').open", 60);
     await tab.key("Escape");
     await rest(tab);
     assert.match((await seen(tab)).history, /1 to undo, 1 to redo/);
     assert.equal((await seen(tab)).layers.length, 1);
     await openFiles(tab, other);
-    await tab.wait("document.getElementById('question').open", 10);
+    await tab.wait("document.getElementById('question').open", 60);
     await answer(tab, /^Open/);
-    await tab.wait("camplot.state.layers.length === 2", 10);
+    await tab.wait("camplot.state.layers.length === 2", 60);
     await rest(tab);
     assert.match((await seen(tab)).history, /0 to undo, 0 to redo/);
     await isWhole(tab);
@@ -158,7 +158,7 @@ suite("questions", () => {
     await tab.wait("camplot.state.layers.length === 1");
     await type(tab, "move top 0 1000 0");
     await typeLine(tab, "load again gerber files/a.gtl");
-    await tab.wait("document.getElementById('question').open", 10);
+    await tab.wait("document.getElementById('question').open", 60);
     await tab.key("Escape");
     await rest(tab);
     assert.match((await seen(tab)).history, /1 to undo/);

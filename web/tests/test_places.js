@@ -29,7 +29,7 @@ async function clickPad(tab, pad, modifiers = 0) {
 
 async function pickPad(tab, pad) {
   await clickPad(tab, pad);
-  await tab.wait(`camplot.state.picked[0]?.words === ${JSON.stringify(words(pad))}`, 10);
+  await tab.wait(`camplot.state.picked[0]?.words === ${JSON.stringify(words(pad))}`, 60);
 }
 
 async function type(tab, ...lines) {

@@ -49,11 +49,11 @@ suite("a large refused file", () => {
     console.log(`page: a file of ${bytes.length} bytes was tried in ${tried} ms, the page held up ${Math.round(await browser.ask("longest"))} ms`);
     // Another choice converts it again.
     await browser.ask("globalThis.longest = 0; const one = document.querySelector('#choices input'); one.checked = true; one.dispatchEvent(new Event('input', { bubbles: true })); void 0");
-    await browser.wait("document.querySelector('#question-body .working') !== null", 20);
+    await browser.wait("document.querySelector('#question-body .working') !== null", 60);
     assert.equal(await browser.ask("document.querySelector('#question-choices button').disabled"), true);
     const left = Date.now();
     await stroke(browser, "Escape");
-    await browser.wait("!document.getElementById('question').open && camplot.state.questions.length === 0", 20);
+    await browser.wait("!document.getElementById('question').open && camplot.state.questions.length === 0", 60);
     await browser.ask("camplot.idle()");
     assert.ok(Date.now() - left < Math.max(700, tried / 2), `${Date.now() - left} of ${tried}`);
     assert.ok(await browser.ask("longest") < Math.max(500, tried / 2), `${await browser.ask("longest")} of ${tried}`);
@@ -63,7 +63,7 @@ suite("a large refused file", () => {
     await browser.wait("document.getElementById('question').open && !document.querySelector('#question-choices button').disabled");
     await browser.ask("document.querySelector('#question-choices button').click()");
     // (what can be undone is lost by a load, which is asked)
-    await browser.wait("document.getElementById('question-title').textContent.startsWith('Open files')", 20);
+    await browser.wait("document.getElementById('question-title').textContent.startsWith('Open files')", 60);
     await browser.ask("document.querySelector('#question-choices button:nth-child(2)').click()");
     await browser.wait(`camplot.state.layers.find(({ name }) => name === "bottom")?.items === ${ROWS}`, 60);
     assert.deepEqual(browser.complaints(), []);

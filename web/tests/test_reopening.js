@@ -112,7 +112,7 @@ suite("what was not opened yet", () => {
       let tab = await open();
       await openFiles(tab, onDisk({ "good.gbl": gerber("X0Y0D03*"),
         "old.gtl": "%FSLAX36Y36*MOMM*%\n%ADD10C,1.0*%\nG54D10*\nX0Y0D03*\nM00*\n" }));
-      await tab.wait("document.getElementById('question').open", 10);
+      await tab.wait("document.getElementById('question').open", 60);
       await rest(tab);
       if (how === "crashed") {
         await tab.crash();
@@ -126,7 +126,7 @@ suite("what was not opened yet", () => {
       assert.ok(question || refused.some((words) => /old\.gtl/.test(words)), "the question is forgotten");
       if (!question) await press(tab, "#refused button");
       await answer(tab, /Convert/);
-      await tab.wait("camplot.state.layers.length === 2", 10);
+      await tab.wait("camplot.state.layers.length === 2", 60);
       await rest(tab);
       await tab.reload();
       await rest(tab);

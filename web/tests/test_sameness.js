@@ -34,7 +34,7 @@ async function type(tab, ...lines) {
 async function comparedWith(tab, back) {
   const steps = (await seen(tab)).steps.length;
   await press(tab, "#history li button", steps - back);
-  await tab.wait("!document.getElementById('compared').hidden", 20);
+  await tab.wait("!document.getElementById('compared').hidden", 60);
   await rest(tab);
   return (await seen(tab)).compared;
 }
@@ -52,7 +52,7 @@ async function comparedTwo(tab, first, second) {
     })()`), label);
   }
   await press(tab, "#compare-two");
-  await tab.wait("!document.getElementById('compared').hidden", 20);
+  await tab.wait("!document.getElementById('compared').hidden", 60);
   await rest(tab);
   return (await seen(tab)).compared;
 }

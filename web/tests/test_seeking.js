@@ -14,7 +14,7 @@ const shown = async (tab) => (await seen(tab)).layers.filter(({ isShown }) => is
 const pads = (count) => gerber(...Array.from({ length: count }, (_, at) => `X${at * 2000000}Y0D03*`));
 
 async function opened(tab, count) {
-  await tab.wait(`camplot.state.layers.length >= ${count}`, 20);
+  await tab.wait(`camplot.state.layers.length >= ${count}`, 60);
   await rest(tab);
 }
 

@@ -174,7 +174,7 @@ suite("the origin of lengths", () => {
     const [, fromX, fromY] = /from the origin (-?[\d.]+), (-?[\d.]+) mm$/.exec(await text(browser, "place")).map(Number);
     assert.ok(Math.abs(fromX + 5) < 0.03 && Math.abs(fromY + 1) < 0.03, `${fromX} ${fromY}`);
     await settle(browser);
-    await browser.wait("told.includes('-6') && told.includes('0') && told.includes('6') && !told.includes('10')", 10);
+    await browser.wait("told.includes('-6') && told.includes('0') && told.includes('6') && !told.includes('10')", 60);
     await browser.key("O", 8);
     assert.equal(await browser.ask("camplot.state.origin"), null);
     assert.ok(!/origin/.test(await text(browser, "place")));

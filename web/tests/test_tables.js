@@ -15,7 +15,7 @@ const cells = (browser, panel) => browser.ask(`[...document.querySelectorAll("#$
 // Unfolds a table by its heading, and waits until it is counted.
 async function unfold(browser, id) {
   await press(browser, `#${id} summary`);
-  await browser.wait(`document.querySelector("#${id} tbody tr") !== null`, 20);
+  await browser.wait(`document.querySelector("#${id} tbody tr") !== null`, 60);
   await idle(browser);
 }
 

@@ -16,7 +16,7 @@ const chosen = (tab) => tab.ask("document.querySelector('#tabs [aria-selected=tr
 async function dropped(tab, files) {
   const before = (await seen(tab)).layers.length;
   await drop(tab, onDisk(files));
-  await tab.wait(`camplot.state.layers.length === ${before + Object.keys(files).length}`, 20);
+  await tab.wait(`camplot.state.layers.length === ${before + Object.keys(files).length}`, 60);
   await rest(tab);
 }
 
@@ -117,12 +117,12 @@ suite("another board", () => {
   test("whose station ends while another one is shown says so, and is opened again", async () => {
     const tab = await withTwo();
     await tab.ask("camplot.boards.list[0].link.worker.terminate()");
-    await tab.wait("!camplot.boards.list[0].state.station.isOpen", 20);
+    await tab.wait("!camplot.boards.list[0].state.station.isOpen", 60);
     assert.equal((await seen(tab)).kept, "");
     await tabAt(tab, 0);
     assert.match((await seen(tab)).kept, /The station stopped/);
     await press(tab, "#kept button", 1);
-    await tab.wait("camplot.state.station.isOpen", 20);
+    await tab.wait("camplot.state.station.isOpen", 60);
     await rest(tab);
     assert.deepEqual([await names(tab), (await seen(tab)).kept], [["bottom 4", "top 3"], ""]);
     assert.match((await seen(tab)).history, /^1 to undo/);

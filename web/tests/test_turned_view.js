@@ -19,7 +19,7 @@ suite("quarter turns of the view", () => {
     const browser = await openPage();
     await give(browser, kicad());
     await browser.ask(`camplot.going.to({ x: ${PAD[0]}, y: ${PAD[1]}, zoom: 20000 })`);
-    await browser.wait("camplot.going.mark === null", 20);
+    await browser.wait("camplot.going.mark === null", 60);
     await settle(browser);
     // (each point is in the middle of a pixel of the canvas, whatever the turn is)
     const middle = await centre(browser), points = [];
@@ -98,7 +98,7 @@ suite("quarter turns of the view", () => {
     await browser.ask(`globalThis.told = []; const { fillText } = CanvasRenderingContext2D.prototype;
       CanvasRenderingContext2D.prototype.fillText = function(words, ...more) { told.push(words); fillText.call(this, words, ...more); };`);
     await browser.mouse("mouseMoved", stage.left + 300, stage.top + 200);
-    await browser.wait("told.includes('30') && told.includes('0') && told.includes('-5')", 10);
+    await browser.wait("told.includes('30') && told.includes('0') && told.includes('-5')", 60);
     await idle(browser);
     await reload(browser);
     assert.equal(await browser.ask("camplot.view.quarters"), 1);

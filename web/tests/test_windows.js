@@ -150,6 +150,6 @@ suite("windows", () => {
     assert.equal(await isShown(), true);
     await screen(browser, "dropping");
     await dragFiles(browser, "dragCancel");
-    await browser.wait("!document.getElementById('dropping').checkVisibility()", 20);
+    await browser.wait("!document.getElementById('dropping').checkVisibility()", 60);
   });
 });

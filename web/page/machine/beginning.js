@@ -39,16 +39,21 @@ function goOnWith(turn, { gestures = [], refused = [], pictures = [] }, given) {
   /** @param {{ file?: string | null }} what */
   const isThere = ({ file }) => file === undefined || file === null || given[file];
   const shown = pictures.filter(isThere).map((picture) => /** @type {Page.Gesture} */ ({ kind: "picture", ...picture }));
-  turn.last(...shown, ...gestures.filter(isThere));
-  const ids = [...gestures, ...refused.filter(({ isAsked, isTried }) => isAsked || !isTried)].map(({ opening }) => opening);
-  for (const id of new Set(ids.filter((opening) => opening !== undefined))) {
-    const isDone = !gestures.some(({ opening }) => opening === id);
-    turn.set({ openings: { ...turn.state.openings, [id]: { ...BLANK, isDone } } });
+  const waits = gestures.filter(isThere);
+  turn.last(...shown, ...waits);
+  // (an opening of which questions alone are left begins again when one of them is answered)
+  const open = turn.state.refused.filter(({ isTried, isPending }) => !isTried || isPending);
+  for (const id of new Set([...waits, ...open].map(({ opening }) => opening))) {
+    if (id === undefined) continue;
+    /** @param {{ opening?: number }} what */
+    const isOf = ({ opening }) => opening === id;
+    const its = turn.state.refused.filter(isOf).map((entry) => ({ id: entry.id, name: entry.layer.fileName, reply: entry.reply }));
+    turn.set({ openings: { ...turn.state.openings, [id]: { ...BLANK, refused: its, isDone: !waits.some(isOf) } } });
   }
   askAgain(turn, refused);
   for (const entry of turn.state.refused) {
     if (!entry.isTried && !refused.find(({ id }) => id === entry.id).isAsked) {
-      change(turn, entry.opening, { trying: turn.state.openings[entry.opening].trying + 1 });
+      change(turn, entry.opening, { trying: (turn.state.openings[entry.opening]?.trying ?? 0) + 1 });
       turn.send({ to: "page", kind: "try", refused: entry.id });
     }
   }

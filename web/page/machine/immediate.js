@@ -98,16 +98,21 @@ function tried(turn, { refused, isAble, why, asks = [] }) {
   conclude(turn, entry.opening);
 }
 
-// Asks about refused files that a person chose, but for those that are asked about.
+// Asks about refused files that a person chose, but for those that are asked about, and those that are on their way as what they
+// were converted to. When the others of their opening were tried, these are not asked about once more.
 /** @param {Page.Turn} turn @param {Page.Refused[]} entries */
 function offer(turn, entries) {
-  const asked = askedFiles(turn.state), others = entries.filter(({ id }) => !asked.has(id));
+  const { queue, refused, work } = turn.state, asked = askedFiles(turn.state);
+  const onWay = new Set([work?.gesture, ...queue].flatMap((gesture) => gesture?.kind === "load" ? [gesture.refused] : []));
+  const others = entries.filter(({ id }) => !asked.has(id) && !onWay.has(id));
   if (!others.length) return;
+  turn.set({ refused: refused.map((entry) => others.includes(entry) ? { ...entry, isPending: false } : entry) });
   askAbout(turn, others, others[0].opening);
   turn.last({ kind: "keep" });
 }
 
-// Loads what refused files were converted to: [{ id, bytes }] by the numbers of the refused.
+// Loads what refused files were converted to: [{ id, bytes }] by the numbers of the refused. All of it is kept before the first
+// of them is loaded, so that the answer holds for all of them when the page is left meanwhile.
 /** @param {Page.Turn} turn @param {number} opening @param {{ id: number, bytes: Uint8Array }[]} made */
 function openConverted(turn, opening, made) {
   const files = { ...turn.state.files }, { openings, refused } = turn.state;
@@ -117,11 +122,18 @@ function openConverted(turn, opening, made) {
     const entry = refused.find((other) => other.id === id), file = `given ${turn.number()}`;
     if (!entry) continue;
     files[file] = { name: entry.layer.fileName, bytes };
-    loads.push({ kind: "load", opening, file, layer: entry.layer, refused: id, isNew: true });
+    loads.push({ kind: "load", opening, file, layer: entry.layer, refused: id });
   }
   if (!loads.length) return turn.last({ kind: "keep" });
   turn.set({ files, openings: openings[opening] ? openings : { ...openings, [opening]: { ...BLANK, isDone: true } } });
-  return turn.first(...loads, { kind: "opened", opening });
+  return turn.first({ kind: "keep", files: loads.map(({ file }) => file) }, ...loads, { kind: "opened", opening });
+}
+
+// Another station plays the script once: where a page is opened whose first station did not start, it does so as that page.
+/** @param {Page.Turn} turn */
+function replayFirst(turn) {
+  const { queue } = turn.state, waits = queue.find(({ kind }) => kind === "replay");
+  turn.set({ queue: [waits ?? { kind: "replay", isAgain: true }, ...queue.filter((gesture) => gesture !== waits)] });
 }
 
 // What the answer to a question that no gesture waits for brings about.
@@ -199,10 +211,9 @@ const events = {
     const { kept } = turn.state;
     if (kept.isOpen) turn.last(kept.isLost ? { kind: "keep", isAnew: true } : { kind: "keep" });
   },
-  openAgain: (turn) => turn.send({ to: "page", kind: "start" }),
   restarted: (turn) => {
     turn.set({ station: { isOpen: true, why: null }, faults: [] });
-    turn.first({ kind: "replay", isAgain: true });
+    replayFirst(turn);
     for (const { name, file, window } of turn.state.opened) {
       if (turn.state.files[file]) turn.send({ to: "page", kind: "put picture", name, file, window });
     }

@@ -7,8 +7,9 @@ import { askedFiles } from "./asking.js";
 /** @param {Page.State} state @returns {Page.Waiting} */
 function waitingOf({ queue, work, refused, opened, questions, next }) {
   const isUnderWay = work && !["settling", "kept"].includes(work.stage);
-  const waiting = [...isUnderWay ? [work.gesture] : [], ...queue]
-    .filter(({ kind, isGiven }) => isGiven || ["load", "picture", "opened"].includes(kind));
+  // (pictures of the board inside the page come with that)
+  const waiting = [...isUnderWay ? [work.gesture] : [], ...queue].filter((gesture) => gesture.isGiven
+    || ["load", "opened"].includes(gesture.kind) || gesture.kind === "picture" && !gesture.isInside);
   const asked = askedFiles({ questions });
   return {
     gestures: waiting.map(({ id, ...gesture }) => gesture), next,
@@ -29,6 +30,14 @@ export const looksOfState = ({ grid, unit, active, polarity, turn, direction, la
 /** @param {Page.Keeping} kept */
 const isWritten = ({ isOpen, isLost }) => isOpen && !isLost;
 
+// The files of what waits that are still to be kept: they go with the next write that has what waits, and wait no longer.
+/** @param {Page.Turn} turn */
+function filesOnWay(turn) {
+  const { queue } = turn.state, files = queue.flatMap((gesture) => gesture.kind === "keep" ? gesture.files ?? [] : []);
+  if (files.length) turn.set({ queue: queue.map((gesture) => gesture.kind === "keep" ? { ...gesture, files: [] } : gesture) });
+  return files;
+}
+
 // Hands over the entries of a gesture, files, and what waits: all in one write, together with what could not be kept
 // before. Answers whether that is under way.
 /** @param {Page.Turn} turn @param {{ entries?: Page.Told[], files?: string[], isWaiting?: boolean }} what */
@@ -39,8 +48,9 @@ export function keep(turn, { entries = [], files = [], isWaiting = false }) {
     keepAnew(turn, entries);
     return true;
   }
-  const all = { records: entries.length ? [...kept.records, entries] : kept.records, files: [...kept.files, ...files],
-    isWaiting: kept.isWaiting || isWaiting };
+  const isAll = kept.isWaiting || isWaiting;
+  const all = { records: entries.length ? [...kept.records, entries] : kept.records, isWaiting: isAll,
+    files: [...kept.files, ...files, ...isAll ? filesOnWay(turn) : []] };
   turn.set({ kept: { ...kept, ...all } });
   if (!all.records.length && !all.files.length && !all.isWaiting) return false;
   const { state } = turn;
@@ -55,13 +65,15 @@ export function keepAnew(turn, entries = []) {
   const { state } = turn, all = [...state.told, ...entries];
   turn.set({ kept: { ...state.kept, records: all.length ? [all] : [], files: [], count: 0, isWaiting: true, isAnew: true } });
   turn.send({ to: "kept", kind: "anew", number: state.work.number, records: turn.state.kept.records,
-    files: Object.entries(state.files).map(([id, { bytes }]) => [id, bytes]), waiting: waitingOf(state) });
+    files: Object.entries(state.files).filter(([id]) => !id.startsWith("inside ")).map(([id, { bytes }]) => [id, bytes]),
+    waiting: waitingOf(state) });
 }
 
-// The answers: all that was handed over is kept, or nothing of it.
+// The answers: all that was handed over is kept, or nothing of it. What was deleted meanwhile is not, though it was written.
 /** @param {Page.Turn} turn */
 export function written(turn) {
   const { kept } = turn.state;
+  if (kept.isLost && !kept.isAnew) return;
   turn.set({ kept: { ...kept, count: kept.count + kept.records.length, records: [], files: [],
     isWaiting: false, isAnew: false, why: null, isLost: false } });
 }

@@ -56,7 +56,7 @@ export const load = {
     }
     turn.work({ isWell: code === 0, result: { isWell: code === 0, answers: [{ code, reply }] } });
     settle(turn, [code ? entry : { ...entry, path, file: gesture.file, layer: look }],
-      { files: gesture.isNew ? [gesture.file] : [], isWaiting: !gesture.given });
+      { isWaiting: true });
   },
   end(turn, gesture) {
     const { name, isWell } = turn.state.work, opening = turn.state.openings[gesture.opening];
@@ -77,6 +77,19 @@ function refuse(turn, { layer, file, opening, refused }, reply) {
 /** @param {Page.Turn} turn @param {number} id @param {string} words */
 const note = (turn, id, words) =>
   turn.set({ refused: turn.state.refused.map((entry) => entry.id === id ? { ...entry, note: words } : entry) });
+
+// A file that was being opened when the station ended, whose answer did not come. The next station opens it where nothing but a
+// question was under way, or a person wanted that station; else the file may be why it ended, so it is left closed, and told.
+/** @param {Page.Turn} turn @param {Page.Work} work @param {string | null} why */
+export function breakOff(turn, { gesture, stage }, why) {
+  if (gesture.kind !== "load" && gesture.kind !== "picture" || ["settling", "kept"].includes(stage)) return;
+  if (why === null || stage === "asking") return turn.first(gesture);
+  const label = gesture.kind === "load" ? gesture.layer.fileName ?? gesture.given?.path : gesture.label;
+  const words = `${label} was not opened: the station stopped (${why}).`, before = turn.state.openings[gesture.opening];
+  if (before) change(turn, gesture.opening, { faults: [...before.faults, words] });
+  else turn.say(words, true);
+  turn.first({ kind: "keep" });
+}
 
 // What was converted and is open stands no longer as refused.
 /** @param {Page.Turn} turn @param {Page.GestureOf<"load">} gesture */

@@ -2,6 +2,7 @@
 // messages to the worker, to what keeps, and to the page. It is pure, and knows nothing of the browser. Events are what a
 // person does and what is answered; one comes after another.
 
+import { breakOff } from "./loading.js";
 import { conclude, open } from "./opening.js";
 import { isSettled, see } from "./settling.js";
 import { unwritten, written } from "./keeping.js";
@@ -90,6 +91,7 @@ function stopped(turn, { why }) {
   attend(turn, () => {
     if (work.stage === "settling" && !work.isSeen) see(turn, null);
     drop(turn);
+    breakOff(turn, work, why);
   });
 }
 
@@ -101,6 +103,13 @@ function drop(turn) {
   if (work.stage !== "settling") turn.finish();
   else if (work.isKept) turn.finish();
   else turn.work({ stage: "kept" });
+}
+
+// Another station takes the place of this one, which answers nothing any more, and may be under way.
+/** @param {Page.Turn} turn */
+function openAgain(turn) {
+  stopped(turn, { why: null });
+  turn.send({ to: "page", kind: "start" });
 }
 
 // Something in the page itself failed while a gesture was under way: it is dropped, and the others go on.
@@ -123,6 +132,7 @@ const events = {
   kept,
   replied,
   stopped,
+  openAgain,
   broken,
   ...immediate.events,
 };

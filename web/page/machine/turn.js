@@ -54,10 +54,11 @@ export class Turn {
     this.lines = { number: this.state.work.number, isGroup, lines };
   }
 
-  // Puts gestures before all that wait.
+  // Puts gestures before all that wait, but behind a replay: before that the station has nothing of the script.
   /** @param {Page.Gesture[]} gestures */
   first(...gestures) {
-    this.set({ queue: [...gestures, ...this.state.queue] });
+    const { queue } = this.state, at = queue[0]?.kind === "replay" ? 1 : 0;
+    this.set({ queue: [...queue.slice(0, at), ...gestures, ...queue.slice(at)] });
   }
 
   /** @param {Page.Gesture[]} gestures */

@@ -19,7 +19,7 @@ declare namespace Page {
     keep: { isAnew?: boolean };
     lines: { lines: string[]; window?: string; isAllowed?: boolean };
     list: { from?: number; isOpen?: boolean; by?: number };
-    load: { layer: Recognised; given?: { name: string; path: string }; refused?: number; isNew?: boolean };
+    load: { layer: Recognised; given?: { name: string; path: string }; refused?: number };
     opened: {};
     pickAt: Point & { reach: number; pile: string[]; isAdded: boolean };
     pickIn: { box: Box; pile: string[]; isAdded: boolean; isTouched?: boolean };
@@ -220,7 +220,6 @@ declare namespace Page {
     offer: { refused: number };
     offerAll: { refused: number[] };
     only: { name: string };
-    openAgain: {};
     picture: { name: string; changes: Partial<Picture> };
     point: Tapped & { isCentre?: boolean };
     raise: { name: string; by: number };
@@ -242,7 +241,8 @@ declare namespace Page {
     answer: { number: number; answer: Heard[keyof Heard] | Looked };
     kept: { number: number } & Written;
     replied: Replied;
-    stopped: { why: string };
+    stopped: { why: string | null };
+    openAgain: {};
     broken: { why: string };
   }
   type Event = { [K in keyof Events]: { kind: K } & Events[K] }[keyof Events];

@@ -124,7 +124,7 @@ const gripped = async (walk) => {
     await walk.tab.mouse("mousePressed", ...from, { button: "left", clickCount: 1 });
     for (let turn = 0; turn < 2; turn++) {
       await walk.tab.mouse("mouseMoved", to[0] - 1 + turn, to[1], { button: "left", buttons: 1 });
-      await walk.tab.wait("!camplot.pointer.snaps.isUnderWay", 20);
+      await walk.tab.wait("!camplot.pointer.snaps.isUnderWay", 60);
     }
     await walk.tab.mouse("mouseReleased", ...to, { button: "left", clickCount: 1 });
   } };
