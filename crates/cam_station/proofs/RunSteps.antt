@@ -43,6 +43,23 @@ lead_more t ts before between after h k =
       refused = count_more t ts before.refused between.refused after.refused h.refused k.refused;
     }
 
+abbrev pub at_count : Moment → ℕ → Moment
+at_count m n = record { files = m.files; said = m.said; out_failures = m.out_failures; refused = n }
+
+-- a turn that leads on from no refused line leads on from any number of them
+pub counted_on : (t : Turn) (state : State) (before after : Moment) (n : ℕ) → before.refused ≡ 0 → TurnLeadsTo t state before after
+    → TurnLeadsTo t state (at_count before n) (at_count after (n + after.refused))
+counted_on t state before after n none h =
+    record {
+      state_is = h.state_is;
+      lead = record {
+        files = h.lead.files;
+        said = h.lead.said;
+        out_failures = h.lead.out_failures;
+        refused = omega (arith, h.lead.refused, none);
+      };
+    }
+
 pub finishes_none : (s : State) (m : Moment) → RunsAllLines s [] [] m m
 finishes_none s m = record { each = refl; lead = lead_none m }
 

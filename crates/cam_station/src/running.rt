@@ -1,6 +1,6 @@
 //! Runs of scripts.
 
-ghost use Rattle.std.specs.Prelude.{◌≡◌, ◌+◌, ◌<◌, ◌≤◌, ◌^◌, ℕ, List, Result, Some, true};
+ghost use Rattle.std.specs.Prelude.{◌≡◌, ◌≤◌, ℕ, List, Result, Some, true};
 ghost use Rattle.std.specs.Prelude.{IfErr, IfNone, IfOk, IfSome, OnErr};
 ghost use Rattle.std.specs.Str.Lines.{lines};
 ghost use Rattle.cam_station.specs.declared.files.FileFault.{FileFault};
@@ -163,7 +163,7 @@ fn run_line<F: Files>(
     }
 }
 
-/// Runs one line and says its reply; the count of refused lines after it.
+/// Runs one line and says its reply; 1 if the line was refused, else 0.
 fn serve_line<F: Files, O: Out, V: Watch<F>>(
     alloc: Global,
     station: &mut Station,
@@ -171,24 +171,20 @@ fn serve_line<F: Files, O: Out, V: Watch<F>>(
     files: &mut F,
     out: &mut O,
     watch: &mut V,
-    refused: u64,
 ) -> Result<u64, RunFault>
-    requires { refused + 1 < 2 ^ 64 }
     ensures ok { IfOk result (λ count. (w : World)
         × TurnLeadsTo (turn station.old line.now w) station.new
-        (moment (F.contents files.old) (F.failed files.old) (O.said out.old) (O.failed out.old)
-        refused)
+        (moment (F.contents files.old) (F.failed files.old) (O.said out.old) (O.failed out.old) 0)
         (moment (F.contents files.new) (F.failed files.new) (O.said out.new) (O.failed out.new)
         count)) }
-    ensures bound { IfOk result (λ count. count ≤ refused + 1) }
+    ensures bound { IfOk result (λ count. count ≤ 1) }
     ensures output { IfErr result (λ fault. fault ≡ RunFault.Output) }
     ensures stops { OnErr result ((w : World) × ReplyIsUnsaid (turn station.old line.now w)
-        (moment (F.contents files.old) (F.failed files.old) (O.said out.old) (O.failed out.old)
-        refused)
+        (moment (F.contents files.old) (F.failed files.old) (O.said out.old) (O.failed out.old) 0)
         (moment (F.contents files.new) (F.failed files.new) (O.said out.new) (O.failed out.new) 0)) }
 {
     let Some(reply) = run_line(alloc, station, line, files) else {
-        return Ok(refused);
+        return Ok(0);
     };
     watch.reply();
     if !say_reply(out, &reply) {
@@ -196,8 +192,8 @@ fn serve_line<F: Files, O: Out, V: Watch<F>>(
     }
     watch.replied(line, &reply, station, files);
     match reply {
-        Ok(_) => Ok(refused),
-        Err(_) => Ok(refused + 1),
+        Ok(_) => Ok(0),
+        Err(_) => Ok(1),
     }
 }
 
@@ -271,7 +267,8 @@ pub fn run_watched<F: Files, O: Out, V: Watch<F>>(
     while let Some(line) = lines.next() {
         number = number.saturating_add(1);
         watch.line(number, line);
-        refused = serve_line(alloc, &mut station, line, files, out, watch, refused)?;
+        let count = serve_line(alloc, &mut station, line, files, out, watch)?;
+        refused += count;
     }
     Ok(refused)
 }
