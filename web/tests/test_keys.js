@@ -224,8 +224,8 @@ suite("keys alone", () => {
     assert.match(await browser.ask("copied"), /^load top gerber/);
     assert.deepEqual(await browser.ask("camplot.state.copied"), []);
     const [x, y] = await browser.ask("(() => { const box = document.getElementById('marks').getBoundingClientRect(); return [box.x + 300, box.y + 300]; })()");
-    await browser.drag([x, y], [x + 1, y], "right");
-    // A press on the board leaves no text selected.
+    await browser.drag([x, y], [x + 20, y], "right");
+    // A press on the board leaves no text selected. (That of the right button pans when it moves, and opens no menu.)
     await browser.wait("String(getSelection()) === ''", 60);
     await stroke(browser, "c", CTRL);
     await idle(browser);
