@@ -74,7 +74,8 @@ fn is_ordinary(byte: u8) -> bool
     matches!(byte, b'+'..=b'~')
 }
 
-/// How many bytes are judged at once.
+/// How many bytes are judged at once, fewer than the word of a flash has (`X1000000Y2000000D03`). By callgrind a word of
+/// 15 bytes, each judged alone, is read in 505 instructions, one of 16 in 412, and one of 32 in 438.
 const STEP: usize = 16;
 
 /// Whether all bytes are ordinary, told without a branch for each of them.

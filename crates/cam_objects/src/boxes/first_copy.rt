@@ -76,7 +76,9 @@ impl FirstCopy {
     }
 }
 
-/// How many objects a repeat has at least for what is known of its first copy to be worth its memory.
+/// How many objects a repeat has at least for what is known of its first copy to be worth its memory, 8 bytes an object. By
+/// callgrind an edit with its redraw on 40 by 40 copies takes 173,000 instructions where they have 63 circles, 142,000
+/// where they have 64, and 274,000 where they have 1,000.
 const MANY_OBJECTS: usize = 64;
 
 impl Layer {
