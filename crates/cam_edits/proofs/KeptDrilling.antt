@@ -1,5 +1,5 @@
 -- what is kept of a drill layer whose items shift with a step, or one of whose tools gets another diameter
-use Rattle.std.proofs.Common.{◌≡◌, ℕ, List, Option, None, Some, nat_eq, sum_by, ap, sym, subst, ◌∙◌}
+use Rattle.std.proofs.Common.{◌≡◌, ℕ, List, Option, None, Some, sum_by, ap, sym, subst, ◌∙◌}
 use Rattle.std.specs.Prelude.{IfNone, IfSome}
 use Rattle.cam_units.specs.declared.bounds.Bounds.{Bounds}
 use Rattle.cam_units.specs.declared.length.Nm.{Nm}

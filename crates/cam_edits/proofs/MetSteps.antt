@@ -1,5 +1,5 @@
 -- What a step of a layer meets that is not refused.
-use Rattle.std.proofs.Common.{◌≡◌, ℕ, ◌<◌, ◌≤◌, Bool, true, false, ◌&&◌, ℤ, ◌≤ℤ◌, not, nat_le, nat_lt, List, [], ◌∷◌, length, Option}
+use Rattle.std.proofs.Common.{◌≡◌, ℕ, ◌<◌, ◌≤◌, Bool, true, false, ◌&&◌, ℤ, ◌≤ℤ◌, nat_le, nat_lt, List, length, Option}
 use Rattle.std.proofs.Common.{None, Some, refl, arith}
 use Rattle.std.specs.Prelude.{insert, slice_get}
 use Rattle.std.specs.Int.RustNames.{int_le}

@@ -1,5 +1,5 @@
 -- A step that fits and leads to sound items is not refused, and one that fits and is not refused leads to sound items.
-use Rattle.std.proofs.Common.{◌≡◌, ℕ, ◌≤◌, ℤ, ◌≤ℤ◌, true, List, length, nat_eq, Option, None, Some, Result, IsTrue, refl, ap, sym, subst, ◌∙◌, ◌↔◌, arith}
+use Rattle.std.proofs.Common.{◌≡◌, ℕ, ◌≤◌, ℤ, ◌≤ℤ◌, true, List, length, nat_eq, Option, None, Some, Result, IsTrue, refl, ap, sym, subst, ◌↔◌, arith}
 use Rattle.std.specs.Prelude.{IfSome, IsSome, insert, is_ok, pos, slice_get}
 use Rattle.std.specs.Int.RustNames.{int_le}
 use Rattle.std.specs.List.{All}
@@ -10,13 +10,12 @@ use Rattle.std.proofs.lemmas.Map.Entries.{All-lookup}
 use Rattle.cam_refusals.specs.Checks.{answer_of, first_holding}
 use Rattle.cam_units.specs.declared.length.Nm.{Nm}
 use Rattle.cam_objects.specs.Contents.{Content as GerberContent, DrillContent}
-use Rattle.cam_objects.specs.DrillSoundness.{IsSoundDrillContent, IsSoundDrillItem, IsSoundTool, KeepsDrillLimits}
-use Rattle.cam_objects.specs.DrillSoundness.{drill_points_of, tool_of}
+use Rattle.cam_objects.specs.DrillSoundness.{IsSoundDrillContent, IsSoundDrillItem, IsSoundTool}
+use Rattle.cam_objects.specs.DrillSoundness.{drill_points_of}
 use Rattle.cam_objects.specs.Drilling.{diameter_of}
 use Rattle.cam_objects.specs.Shifting.{shifted_drill_item, shifted_item}
 use Rattle.cam_objects.specs.Soundness.{IsSoundContent, IsSoundItem, KeepsLimits, has_radii, is_drawable_item}
 use Rattle.cam_objects.specs.Soundness.{is_formed_item, is_inside, is_known_item, is_within_limits, item_checks}
-use Rattle.cam_objects.specs.declared.drill_item.DrillItem.{DrillItem}
 use Rattle.cam_objects.specs.declared.item.Item.{Item}
 use Rattle.cam_objects.specs.declared.item.Item.TheVariants.{One, Repeat}
 use Rattle.cam_objects.specs.declared.object.Object.TheVariants.{Flash, Draw, Arc, Region}

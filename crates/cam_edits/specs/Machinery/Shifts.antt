@@ -1,5 +1,5 @@
 -- Where a step moves the items of a layer, and what is kept beside them.
-use Rattle.std.specs.Prelude.{◌≡◌, ℕ, ◌+◌, ◌<◌, ◌≤◌, List, length, Option, None, Some, IsSome, map, nat_eq, slice_get, sum_by}
+use Rattle.std.specs.Prelude.{◌≡◌, ℕ, ◌<◌, ◌≤◌, List, length, Option, None, Some, IsSome, map, nat_eq, slice_get, sum_by}
 use Rattle.std.specs.Prelude.{insert, remove, slice_index}
 use Rattle.std.specs.Map.{set_value}
 use Rattle.cam_units.specs.declared.bounds.Bounds.{Bounds}

@@ -1,4 +1,4 @@
-use Rattle.std.proofs.Common.{ℕ, Option, sym, subst}
+use Rattle.std.proofs.Common.{ℕ, Option, subst}
 use Rattle.cam_units.specs.declared.length.Nm.{Nm}
 use Rattle.cam_edits.specs.Machinery.Shifts.{WasKeptBefore}
 use Rattle.cam_edits.proofs.ItemTools.{unsized_cells}

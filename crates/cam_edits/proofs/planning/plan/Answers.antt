@@ -1,4 +1,4 @@
-use Rattle.std.proofs.Common.{◌≡◌, ap, refl, sym, ◌∙◌}
+use Rattle.std.proofs.Common.{◌≡◌, ap, sym, ◌∙◌}
 use Rattle.std.proofs.lemmas.Result.{err_from_is_err_and}
 use Rattle.cam_objects.specs.Contents.{content_of as gerber_content, drill_content_of as drill_content}
 use Rattle.cam_edits.proofs.DrillEdits as drill_edits

@@ -1,4 +1,4 @@
-use Rattle.std.proofs.Common.{◌≡◌, ◌∷◌, subst, ◌∙◌, nat_eq}
+use Rattle.std.proofs.Common.{◌≡◌, subst, ◌∙◌, nat_eq}
 use Rattle.std.specs.Result.{OnOk}
 use Rattle.indexmap.proofs.CallerLemmas.{insert_entry-new}
 use Rattle.indexmap.specs.IndexMap.{insert_entry}

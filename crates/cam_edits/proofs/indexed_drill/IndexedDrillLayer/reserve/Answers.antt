@@ -1,4 +1,4 @@
-use Rattle.std.proofs.Common.{◌∙◌, refl, subst, sym}
+use Rattle.std.proofs.Common.{refl, subst, sym}
 use Rattle.cam_objects.specs.declared.drill_layer.DrillLayer.{DrillLayer}
 use Rattle.cam_edits.specs.Machinery.Shifts.{AreToolsOf, tools_of}
 use Rattle.cam_edits.proofs.KeptDrilling.{kept_alike}

@@ -1,4 +1,4 @@
-use Rattle.std.proofs.Common.{◌<◌, ◌*ℤ◌, pos, ℕ, List, ap, reverse, sym, subst, ◌∙◌, arith}
+use Rattle.std.proofs.Common.{◌*ℤ◌, pos, ℕ, List, ap, reverse, sym, subst, ◌∙◌, arith}
 use Rattle.std.proofs.lemmas.List.{take_all}
 use Rattle.std.specs.Option.{IfSome}
 use Rattle.cam_units.specs.declared.point.Point.{Point}
