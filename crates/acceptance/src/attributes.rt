@@ -1,39 +1,11 @@
-//! File attributes: one too many, and such as no line of a script writes.
+//! File attributes such as no line of a script writes.
 
 use crate::boards::DISC;
-use crate::specials::says;
 use cam_station::{Bytes, Change, Command, Edit, FileKind, Name, Station};
 use cam_units::Items;
 use std::alloc::{AllocError, Global};
 use std::process::Abort;
 use std::test::Fail;
-
-/// A script that sets a thousand attributes and one more, and what it says.
-fn set_too_many(
-    alloc: Global,
-    script: &mut Vec<u8>,
-    replies: &mut Vec<u8>,
-) -> Result<(), AllocError> {
-    script.extend_from_slice(b"load top gerber e.gbr\n")?;
-    replies.extend_from_slice(b"ok 0\n")?;
-    for number in 0..1_000u32 {
-        script.extend_from_slice(format!(in alloc; "setattr top .N{number}\n")?.as_bytes())?;
-        replies.extend_from_slice(b"ok\n")?;
-    }
-    script.extend_from_slice(
-        b"setattr top .More 1\nsetattr top .N7 1\ndropattr top .N0\nsetattr top .More 1\nsetattr top .Most\nlist\n",
-    )?;
-    replies.extend_from_slice(b"refused 69\nok\nok\nok\nrefused 69\nok 1 100 0\n")
-}
-
-/// A layer has at most 1,000 attributes; the name of one that is there takes other fields all the same.
-#[test]
-fn one_attribute_too_many(rt: HostRuntime) -> Result<(), Fail> {
-    let mut script = Vec::new(rt.alloc());
-    let mut replies = Vec::new(rt.alloc());
-    set_too_many(rt.alloc(), &mut script, &mut replies)?;
-    says(&rt, rt.alloc(), 100, script.as_slice(), replies.as_slice())
-}
 
 fn name(alloc: Global) -> Result<Name, AllocError> {
     Ok(Name::from_string(String::from_str(alloc, "top")?))

@@ -23,9 +23,6 @@ pub const HOLE_AND_SLOT: &[u8] =
     b"M48\n; DRILL file\nFMAT,2\nMETRIC\nT1C0.800\nT2C1.000\n%\nG90\nG05\n\
 T1\nX1.0Y1.0\nT2\nG00X3.0Y1.0\nM15\nG01X5.0Y1.0\nG01X5.0Y3.0\nM16\nG05\nT0\nM30";
 
-/// A flash of a disc of 0.1 mm, at (0.32 mm, 0.32 mm).
-pub const SPECK: &[u8] = b"%FSLAX46Y46*%%MOMM*%%ADD10C,0.1*%D10*X320000Y320000D03*M02*";
-
 /// The picture of one pixel that is black.
 pub const BLACK: &[u8] = b"P4\n1 1\n\x80";
 

@@ -1,8 +1,8 @@
 //! Scripts, run over files and an output in memory.
 //!
 //! Scripts over real files are cases of `black_box`. Here stands what such a case cannot say: that a call of a file or of the
-//! output fails (`specials`, `pictures`), each call of a script in turn (`failing`), texts too long to write down
-//! (`specials`, `attributes`), and the examples of first pages (`page`).
+//! output fails (`specials`), each call of a script in turn (`failing`), edits that no line writes (`attributes`), and the
+//! examples of first pages (`page`).
 #![tactic(auto)]
 
 #[cfg(test)]
@@ -16,7 +16,5 @@ pub mod files;
 pub mod out;
 #[cfg(test)]
 mod page;
-#[cfg(test)]
-mod pictures;
 #[cfg(test)]
 mod specials;

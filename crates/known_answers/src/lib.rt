@@ -3,8 +3,9 @@
 //! The contracts of the libraries say what each call gives where memory lasts; no clause can say that it lasts, and
 //! none can refuse 'no memory' in place of a fault. So each call that takes memory is seen here to succeed and to
 //! tell each of its faults, and the definitions behind the contracts are held against values from outside; rows of
-//! centres are held against point tests. An example is a row of a table, and a loop plays each table. A
-//! table that is one text is played with the count of its rows, so that none is passed over.
+//! centres are held against point tests. The faults of files and the texts of layers are seen in the built program
+//! (`black_box/rows`). An example is a row of a table, and a loop plays each table. A table that is one text is played
+//! with the count of its rows, so that none is passed over.
 #![tactic(auto)]
 
 #[cfg(test)]
@@ -45,7 +46,3 @@ mod units;
 mod ways;
 #[cfg(test)]
 mod words;
-#[cfg(test)]
-mod writers;
-#[cfg(test)]
-mod xnc;

@@ -354,7 +354,7 @@ fn contour_of(alloc: Global, placed: &Placed) -> Result<Contour, AllocError> {
         start: placed.start,
         segs,
     };
-    contour.try_clone(alloc)
+    contour.clone()
 }
 
 /// Whether the shape holds the places that are wanted, and no other of these.

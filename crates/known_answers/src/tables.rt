@@ -110,10 +110,3 @@ pub(crate) fn numbered(row: &[u8]) -> Option<(u8, &[u8])> {
     let (number, text) = number(row)?;
     Some((u8::try_from(number).ok()?, text))
 }
-
-/// A number of one byte, a place, and the text behind them.
-pub(crate) fn placed(row: &[u8]) -> Option<(u8, usize, &[u8])> {
-    let (fault, rest) = numbered(row)?;
-    let (place, text) = number(rest)?;
-    Some((fault, usize::try_from(place).ok()?, text))
-}
