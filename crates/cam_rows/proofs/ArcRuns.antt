@@ -1,6 +1,6 @@
 -- An arc's stroke by its runs.
 use Rattle.std.proofs.Common.{◌≡◌, ◌↔◌, ◌⊎◌, ℕ, ◌*◌, ◌<◌, ◌≤◌, Bool, true, false, ℤ, pos, negsuc, ◌+ℤ◌, ◌-ℤ◌, ◌*ℤ◌}
-use Rattle.std.proofs.Common.{◌≤ℤ◌, ◌<ℤ◌, inl, inr, ◌∙◌, arith}
+use Rattle.std.proofs.Common.{◌≤ℤ◌, ◌<ℤ◌, if◌then◌else◌, inl, inr, ap, ◌∙◌, arith}
 use Rattle.std.specs.Int.RustNames.{unsigned_abs}
 use Rattle.std.proofs.lemmas.Bool.{cases_lt}
 use Rattle.std.proofs.lemmas.Int.{by_lt_z, ints}
@@ -18,6 +18,7 @@ use Rattle.cam_shapes.proofs.Widths.{square_is}
 use Rattle.cam_rows.specs.Machinery.HalfPlanes.{IsLeft}
 use Rattle.cam_rows.specs.declared.ring.Ring.{Ring}
 use Rattle.cam_rows.specs.ArcRuns.{ArcRunsLaw, IsRingSquare, IsHollow, IsInHalf, IsInRing, IsLeftOut, IsRingOf}
+use Rattle.cam_rows.specs.ArcRuns.{IsBeyond, IsPastHalf, IsWideArc}
 use Rattle.cam_rows.specs.ArcRuns.{by_turn, distance_of, radius_of}
 use Rattle.cam_rows.specs.Machinery.Narrowing.{IsNearer}
 use Rattle.cam_rows.proofs.BesideWays.{from_the_right}
@@ -185,6 +186,20 @@ left_out_by_sides o p q s more =
       (λ held. (more, start.0 held.0, end.0 held.1)),
       (λ out. (start.1 out.1, end.1 out.2)),
     )
+
+-- by the ends of a sweep, as it is passed counterclockwise
+pub by_ends : (P : Vector → Vector → Vector → Type 0) (b : Bool) (o p q start end : Point) (v : Vector)
+    → ◌≡◌ {A = Point × Point} (start, end) (if b then (p, q) else (q, p)) → by_turn P b (way o p) (way o q) v ↔ P (way o start) (way o end) v
+by_ends P true o p q start end v is = rw (ap (λ r. r.0) is, ap (λ r. r.1) is) ((λ h. h), (λ h. h))
+by_ends P false o p q start end v is = rw (ap (λ r. r.0) is, ap (λ r. r.1) is) ((λ h. h), (λ h. h))
+
+by_turn_first : (b : Bool) (s e v : Vector) → by_turn IsLeftOut b s e v → by_turn (λ p q _. IsPastHalf p q) b s e e
+by_turn_first true s e v out = out.0
+by_turn_first false s e v out = out.0
+
+-- only a wide sweep leaves something out
+pub wide_where_beyond : (a : Arc) (s : Spot) → IsBeyond a s → IsWideArc a
+wide_where_beyond a s = by_turn_first a.ccw (way a.centre a.from) (way a.centre a.to) (seen_from a.centre s)
 
 -- ---- both
 

@@ -3,9 +3,7 @@ use Rattle.std.proofs.Common.{◌≡◌, ◌↔◌, ◌⊎◌, ℤ, pos, ◌+ℤ
 use Rattle.std.proofs.Common.{inl, inr, Bool, true, false, if◌then◌else◌, IsTrue, refl, arith}
 use Rattle.std.proofs.lemmas.Bool.{false≢true}
 use Rattle.std.proofs.lemmas.Int.{ints, by_lt_z}
-use Rattle.cam_units.specs.declared.point.Point.{Point}
 use Rattle.cam_units.specs.declared.point.Spot.{Spot}
-use Rattle.cam_units.proofs.Ring.{Polynomial, Atom, Difference, Product, equal}
 use Rattle.cam_shapes.specs.declared.cap.Cap.{Cap}
 use Rattle.cam_shapes.specs.declared.vector.Vector.{Vector}
 use Rattle.cam_shapes.specs.Cap.{is_left_of_chord, is_on_side}
@@ -15,6 +13,7 @@ use Rattle.cam_rows.specs.declared.centres.Centres.{Centres}
 use Rattle.cam_rows.specs.declared.half_plane.HalfPlane.{HalfPlane}
 use Rattle.cam_rows.specs.Machinery.HalfPlanes.{IsHalfPlaneOf}
 use Rattle.cam_rows.specs.Machinery.Ties.{leads_down_or_right}
+use Rattle.cam_rows.proofs.BesideWays.{from_the_right}
 use Rattle.cam_rows.proofs.CapTies.{at_most_by_tie, less_by_tie}
 
 -- what is added to the cross products with a chord, so that 0 is left of it where its line is
@@ -39,16 +38,6 @@ left_by_tie d v tie (inr off) =
       (λ t. let less = told.0 t in omega (arith, ints, less, off.1)),
       (λ h. told.1 (omega (arith, ints, h, off.1))),
     )
-
--- a place left of a way is right of the way back
-turned_back : (p q : Point) (s : Spot) → cross (way q p) (seen_from q s) ≡ pos 0 -ℤ cross (way p q) (seen_from p s)
-turned_back p q s =
-    let twice : ℤ → Polynomial = λ z. Product (Atom (pos 2)) (Atom z) in
-    let gap : ℤ → ℤ → Polynomial = λ z w. Difference (twice z) (twice w) in
-    let seen : ℤ → ℤ → Polynomial = λ z w. Difference (Atom z) (twice w) in
-    let there = Difference (Product (gap q.x p.x) (seen s.y p.y)) (Product (gap q.y p.y) (seen s.x p.x)) in
-    let back = Difference (Product (gap p.x q.x) (seen s.y q.y)) (Product (gap p.y q.y) (seen s.x q.x)) in
-    equal back (Difference (Atom (pos 0)) there) (omega arith)
 
 not_left : (left : Bool) (z w tie other : ℤ) → IsTrue left ↔ (pos 0 ≤ℤ (z +ℤ tie)) → w ≡ pos 0 -ℤ z
     → other ≡ (pos 0 -ℤ pos 1) -ℤ tie → (pos 0 ≤ℤ (w +ℤ other)) ↔ IsTrue (if left then false else true)
@@ -94,4 +83,4 @@ right_side c top tie other h ccw is_tie e half =
     (λ s. IsTrue (is_on_side s c)) h
     (λ s. rw ccw (not_left (is_left_of_chord (way c.from c.to) (seen_from c.from s))
     (cross (way c.from c.to) (seen_from c.from s)) (cross (way c.to c.from) (seen_from c.to s)) tie other
-    (left_by_tie (way c.from c.to) (seen_from c.from s) tie is_tie) (turned_back c.from c.to s) e)) half
+    (left_by_tie (way c.from c.to) (seen_from c.from s) tie is_tie) (from_the_right c.from c.to s) e)) half

@@ -2,7 +2,7 @@
 use Rattle.std.proofs.Common.{◌≡◌, ℕ, ◌+◌, ◌*◌, ◌^◌, ◌<◌, ◌≤◌, ◌↔◌, ℤ, pos, inl, inr, sym, arith}
 use Rattle.std.specs.Int.RustNames.{unsigned_abs}
 use Rattle.std.proofs.lemmas.Bool.{cases_lt}
-use Rattle.std.proofs.lemmas.Nat.{mul-le, mul-lt}
+use Rattle.std.proofs.lemmas.Nat.{mul-le}
 use Rattle.cam_shapes.specs.Plane.{square}
 use Rattle.cam_shapes.proofs.Widths.{square_is}
 
@@ -22,9 +22,6 @@ short_root root n least small =
       | inl short ↦ short
       | inr long ↦ absurd (omega (arith, mul-le (2 ^ 34) (2 ^ 34) root root long long))
     ]
-
-pub short_square : (n : ℕ) → n < 2 ^ 33 → n * n < 2 ^ 66
-short_square n h = mul-lt n n (2 ^ 33) (2 ^ 33) h h
 
 pub square_of : (n : ℕ) (z : ℤ) → n ≡ unsigned_abs z → pos (n * n) ≡ square z
 square_of n z e = rw e (sym (square_is z))

@@ -7,13 +7,14 @@ use Rattle.std.specs.Int.RustNames.{unsigned_abs}
 use Rattle.std.proofs.lemmas.Int.{ints, unsigned_abs-mul}
 use Rattle.std.proofs.lemmas.Nat.{mul-le}
 use Rattle.cam_shapes.proofs.Widths.{wide}
+use Rattle.cam_rows.specs.declared.half_plane.HalfPlane.{HalfPlane}
 use Rattle.cam_rows.specs.Machinery.Narrowing.{IsUp}
-use Rattle.cam_rows.specs.Machinery.Slopes.{Sloped, lowered}
+use Rattle.cam_rows.specs.Machinery.Slopes.{lowered}
 use Rattle.cam_rows.specs.Runs.{most_columns}
 use Rattle.cam_rows.proofs.Quotients.{kept_number}
 
 -- a number and the least one, in the same row and in others
-pub least_number : (s : Sloped) (row column k i : ℕ) → unsigned_abs s.down < 2 ^ 100 → unsigned_abs s.step < 2 ^ 100
+pub least_number : (s : HalfPlane) (row column k i : ℕ) → unsigned_abs s.down < 2 ^ 100 → unsigned_abs s.step < 2 ^ 100
     → (pos row *ℤ wide s.down) ≤ℤ (pos k *ℤ wide s.down) → (pos column *ℤ wide s.step) ≤ℤ (pos i *ℤ wide s.step)
     → IsUp s row column → IsUp s k i
 least_number s row column k i h m down across up =
@@ -37,7 +38,7 @@ kept_least f step column short across few =
     let counted : to_z w128 column ≡ pos column = omega (arith, ints) in
     rw (kept_number step (omega arith), counted) (sum_kept f (pos column *ℤ step) short (short_part step column few across))
 
-pub least_test : (s : Sloped) (row column : ℕ) (f : ℤ) → f ≡ (lowered row s).first
+pub least_test : (s : HalfPlane) (row column : ℕ) (f : ℤ) → f ≡ (lowered row s).first
     → unsigned_abs (lowered row s).first < 2 ^ 100 → unsigned_abs s.step < 2 ^ 100 → column < most_columns
     → IsTrue (le_z (pos 0) (wide (wide f +ℤ wide (to_z w128 column *ℤ wide s.step)))) ↔ IsUp s row column
 least_test s row column f is short across few =

@@ -6,26 +6,23 @@ use Rattle.cam_units.proofs.Ring.{Atom, Difference, Product, equal}
 use Rattle.cam_units.specs.declared.point.Spot.{Spot}
 use Rattle.cam_rows.specs.declared.centres.Centres.{Centres}
 use Rattle.cam_rows.specs.declared.half_plane.HalfPlane.{HalfPlane}
-use Rattle.cam_rows.specs.Machinery.HalfPlanes.{IsHalfPlaneOf, numbers_of}
-use Rattle.cam_rows.specs.Machinery.Narrowing.{AreCounted, IsUp, leftmost}
+use Rattle.cam_rows.specs.Machinery.HalfPlanes.{IsHalfPlaneOf}
+use Rattle.cam_rows.specs.Machinery.Narrowing.{AreCounted, IsUp}
 use Rattle.cam_rows.specs.Rows.{centre_at, row_below}
 use Rattle.cam_rows.specs.Runs.{AreEnds}
 
 -- ---- the columns that a half plane holds
 
-pub counted_ends : (end : ℕ → ℕ) (n : ℕ) (top left : Centres) (P Q : Spot → Type 0) (h : HalfPlane)
-    → left ≡ leftmost top → IsHalfPlaneOf left P h → ((s : Spot) → P s ↔ Q s)
-    → AreCounted top.n (IsUp (numbers_of h)) n end → AreEnds end n top Q
-counted_ends end n top left P Q h is half same counted =
-    let told : (k i : ℕ) → IsUp (numbers_of h) k i ↔ P (centre_at (row_below top k) i) = rw is at half.tells in
-    record {
-      each = λ k i within small.
-          let here = counted.each k i within small in (
-            (λ on. (same _).0 ((told k i).0 (here.0 on))),
-            (λ held. here.1 ((told k i).1 ((same _).1 held))),
-          );
-      within = counted.within;
-    }
+pub counted_ends : (end : ℕ → ℕ) (n : ℕ) (top : Centres) (P Q : Spot → Type 0) (h : HalfPlane) → IsHalfPlaneOf top P h
+    → ((s : Spot) → P s ↔ Q s) → AreCounted top.n (IsUp h) n end → AreEnds end n top Q
+counted_ends end n top P Q h half same counted = record {
+  each = λ k i within small.
+      let here = counted.each k i within small in (
+        (λ on. (same _).0 ((half.tells k i).0 (here.0 on))),
+        (λ held. here.1 ((half.tells k i).1 ((same _).1 held))),
+      );
+  within = counted.within;
+}
 
 pub ends_like : (end : ℕ → ℕ) (n : ℕ) (top : Centres) (P Q : Spot → Type 0)
     → ((k i : ℕ) → k < n → P (centre_at (row_below top k) i) ↔ Q (centre_at (row_below top k) i))

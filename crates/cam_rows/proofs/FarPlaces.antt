@@ -1,59 +1,23 @@
 -- Places near the line of a way, so far above or below its start that they are ahead of it.
-use Rattle.std.proofs.Common.{◌≡◌, ◌↔◌, ℕ, ◌*◌, ◌<◌, ◌≤◌, ℤ, pos, negsuc, ◌+ℤ◌, ◌-ℤ◌, ◌*ℤ◌, ◌≤ℤ◌, ◌<ℤ◌}
-use Rattle.std.proofs.Common.{inl, inr, refl, ap, ◌∙◌, arith}
-use Rattle.std.specs.Int.RustNames.{unsigned_abs}
+use Rattle.std.proofs.Common.{◌≡◌, ◌↔◌, ℕ, ◌<◌, ◌≤◌, ℤ, pos, ◌+ℤ◌, ◌-ℤ◌, ◌*ℤ◌, ◌≤ℤ◌, ◌<ℤ◌}
+use Rattle.std.proofs.Common.{inl, inr, arith}
 use Rattle.std.proofs.lemmas.Bool.{cases_lt}
-use Rattle.std.proofs.lemmas.Int.{ints, by_lt_z, unsigned_abs-mul}
-use Rattle.std.proofs.lemmas.Nat.{mul-le}
+use Rattle.std.proofs.lemmas.Int.{ints, by_lt_z}
 use Rattle.cam_units.specs.declared.point.Point.{Point}
 use Rattle.cam_units.specs.declared.point.Spot.{Spot}
 use Rattle.cam_units.proofs.Ring.{Polynomial, Atom, Sum, Difference, Product, equal}
 use Rattle.cam_shapes.specs.declared.vector.Vector.{Vector}
 use Rattle.cam_shapes.specs.Plane.{cross, dot, seen_from, square, way}
 use Rattle.cam_shapes.proofs.Crossings.{product_above, product_least}
-use Rattle.cam_shapes.proofs.Strokes.{squares_order}
-use Rattle.cam_shapes.proofs.Widths.{square_is}
+use Rattle.cam_shapes.proofs.Reaches.{first_square, over, product_root, up_to}
 use Rattle.cam_rows.specs.declared.centres.Centres.{Centres}
 use Rattle.cam_rows.specs.Machinery.Beside.{IsFar, IsFarOrAhead, IsInside}
 use Rattle.cam_rows.specs.Rows.{centre_at, first_centre, row_below}
 use Rattle.cam_rows.specs.Runs.{IsInRun}
 use Rattle.cam_rows.proofs.BesideWays.{IsAhead, from_the_right}
 
--- the root of a product of squares
-root_of_product : (a c w l : ℕ) → a * a ≤ l → c * c ≤ w * w * l → a * c ≤ w * l
-root_of_product a c w l h k =
-    squares_order (a * c) (w * l) (omega (arith, mul-le (a * a) (c * c) l (w * w * l) h k))
-
-natural_product : (n : ℕ) (l : ℤ) → pos 0 <ℤ l → pos n *ℤ l ≡ pos (n * unsigned_abs l)
-natural_product n (pos l) h = refl
-natural_product n (negsuc l) h = absurd (omega (arith, ints))
-
-small_product : (a c w l : ℤ) → pos 0 <ℤ w → pos 0 <ℤ l → square a ≤ℤ l → square c ≤ℤ (square w *ℤ l)
-    → ((a *ℤ c) ≤ℤ (w *ℤ l)) × ((pos 0 -ℤ a *ℤ c) ≤ℤ (w *ℤ l))
-small_product a c w l wide long h k =
-    let times : square w *ℤ l ≡ pos (unsigned_abs w * unsigned_abs w * unsigned_abs l) =
-    ap (λ z. z *ℤ l) (square_is w) ∙ natural_product (unsigned_abs w * unsigned_abs w) l long in
-    let root = root_of_product (unsigned_abs a) (unsigned_abs c) (unsigned_abs w) (unsigned_abs l)
-    (omega (arith, ints, h, square_is a)) (omega (arith, ints, k, square_is c, times)) in
-    let some = product_above w l wide long in
-    let sizes : unsigned_abs (a *ℤ c) ≤ unsigned_abs (w *ℤ l) =
-    omega (arith, root, unsigned_abs-mul a c, unsigned_abs-mul w l) in
-    (omega (arith, ints, sizes, some), omega (arith, ints, sizes, some))
-
--- how high a place lies, by how far it is along a way and across it
 abbrev two : ℤ → ℤ → Polynomial
 two a b = Product (Atom a) (Atom b)
-
-height_is : (a v : Vector) → v.y *ℤ dot a a ≡ a.y *ℤ dot a v +ℤ a.x *ℤ cross a v
-height_is a v =
-    equal
-    (Product (Atom v.y) (Sum (two a.x a.x) (two a.y a.y)))
-    (Sum (Product (Atom a.y) (Sum (two a.x v.x) (two a.y v.y)))
-    (Product (Atom a.x) (Difference (two a.x v.y) (two a.y v.x))))
-    (omega arith)
-
-first_square : (a : Vector) → square a.x ≤ℤ dot a a
-first_square a = omega (arith, ints, square_is a.x, square_is a.y)
 
 more_product : (x w l : ℤ) → (x -ℤ w) *ℤ l ≡ x *ℤ l -ℤ w *ℤ l
 more_product x w l =
@@ -85,13 +49,16 @@ not_below xl wl ad e more less f g h some k most = omega (arith, ints)
 
 module _ (a v : Vector) (w : ℤ) (inside : IsInside (cross a v) w (dot a a)) where
   bounds : ((a.x *ℤ cross a v) ≤ℤ (w *ℤ dot a a)) × ((pos 0 -ℤ a.x *ℤ cross a v) ≤ℤ (w *ℤ dot a a))
-  bounds = small_product a.x (cross a v) w (dot a a) inside.wide inside.long (first_square a) inside.near
+  bounds =
+      let some = product_above w (dot a a) inside.wide inside.long in
+      up_to (a.x *ℤ cross a v) (w *ℤ dot a a) (product_root a.x (cross a v) w (dot a a) (first_square a) inside.near)
+      (omega (arith, ints, some))
 
   ahead_above : pos 0 <ℤ a.y → w ≤ℤ v.y → pos 0 ≤ℤ dot a v
   ahead_above up far =
       by_lt_z (dot a v) (pos 0)
       (λ behind. absurd (not_above (v.y *ℤ dot a a) (w *ℤ dot a a) (a.y *ℤ dot a v) (a.x *ℤ cross a v)
-      (a.y *ℤ (pos 0 -ℤ dot a v)) ((v.y -ℤ w) *ℤ dot a a) (height_is a v) bounds.0
+      (a.y *ℤ (pos 0 -ℤ dot a v)) ((v.y -ℤ w) *ℤ dot a a) (over a v) bounds.0
       (opposite_product a.y (dot a v)) (product_above a.y (pos 0 -ℤ dot a v) up (omega (arith, ints, behind)))
       (more_product v.y w (dot a a))
       (product_least (v.y -ℤ w) (dot a a) (omega (arith, ints, far)) inside.long)))
@@ -101,7 +68,7 @@ module _ (a v : Vector) (w : ℤ) (inside : IsInside (cross a v) w (dot a a)) wh
   ahead_below down far =
       by_lt_z (dot a v) (pos 0)
       (λ behind. absurd (not_below (v.y *ℤ dot a a) (w *ℤ dot a a) (a.y *ℤ dot a v) (a.x *ℤ cross a v)
-      ((pos 0 -ℤ a.y) *ℤ (pos 0 -ℤ dot a v)) ((pos 0 -ℤ w -ℤ v.y) *ℤ dot a a) (height_is a v) bounds.1
+      ((pos 0 -ℤ a.y) *ℤ (pos 0 -ℤ dot a v)) ((pos 0 -ℤ w -ℤ v.y) *ℤ dot a a) (over a v) bounds.1
       (opposites_product a.y (dot a v))
       (product_above (pos 0 -ℤ a.y) (pos 0 -ℤ dot a v) (omega (arith, ints, down)) (omega (arith, ints, behind)))
       (less_product v.y w (dot a a))

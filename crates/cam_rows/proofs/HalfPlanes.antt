@@ -1,66 +1,65 @@
 -- Half planes, by the numbers at the centres of their rows.
-use Rattle.std.proofs.Common.{◌≡◌, ℕ, ◌^◌, ◌<◌, ◌≤◌, ℤ, pos, negsuc, ◌+ℤ◌, ◌-ℤ◌, ◌*ℤ◌, ◌≤ℤ◌, ◌↔◌, FitsSigned, sym, refl, ◌∙◌, arith}
+use Rattle.std.proofs.Common.{◌≡◌, ℕ, ◌^◌, ◌<◌, ◌≤◌, ℤ, pos, negsuc, ◌+ℤ◌, ◌-ℤ◌, ◌*ℤ◌, ◌≤ℤ◌, ◌↔◌, FitsSigned, refl, ap, arith}
 use Rattle.std.specs.Int.{w128}
 use Rattle.std.specs.Int.RustNames.{unsigned_abs}
 use Rattle.std.proofs.lemmas.Int.{ints}
 use Rattle.cam_units.specs.declared.point.Point.{Point}
 use Rattle.cam_units.specs.declared.point.Spot.{Spot}
-use Rattle.cam_units.specs.Board.{IsOnBoard}
-use Rattle.cam_units.proofs.Ring.{Atom, Product, Sum, equal}
-use Rattle.cam_shapes.specs.Plane.{cross, dot, seen_from, way}
-use Rattle.cam_shapes.proofs.Widths.{dot_bound, wide}
+use Rattle.cam_units.specs.Board.{IsInReach, IsOnBoard}
+use Rattle.cam_units.proofs.Ring.{Atom, Difference, Product, Sum, equal}
+use Rattle.cam_shapes.specs.declared.vector.Vector.{Vector}
+use Rattle.cam_shapes.specs.Plane.{IsShort, cross, dot, seen_from, way}
+use Rattle.cam_shapes.proofs.Widths.{dot_bound, narrow, wide}
 use Rattle.cam_rows.specs.declared.centres.Centres.{Centres}
 use Rattle.cam_rows.specs.declared.half_plane.HalfPlane.{HalfPlane}
 use Rattle.cam_rows.specs.declared.slope.Crossing.{Crossing}
 use Rattle.cam_rows.specs.declared.slope.Steps.{Steps}
-use Rattle.cam_rows.specs.Machinery.HalfPlanes.{IsHalfPlaneOf, numbers_of}
-use Rattle.cam_rows.specs.Machinery.Linear.{IsShortLinear}
+use Rattle.cam_rows.specs.Machinery.HalfPlanes.{IsHalfPlaneOf, IsShortPlane}
 use Rattle.cam_rows.specs.Machinery.Narrowing.{IsUp}
-use Rattle.cam_rows.specs.Machinery.Slopes.{AreStepsOf, IsTopOf, Sloped, falling, lowered, number_on}
-use Rattle.cam_rows.specs.Rows.{IsRow, centre_at, row_below}
+use Rattle.cam_rows.specs.Machinery.Slopes.{AreStepsOf, IsTopOf, falling, lowered, number_on}
+use Rattle.cam_rows.specs.Rows.{centre_at, row_below}
+use Rattle.cam_rows.specs.Runs.{IsWideRow}
 use Rattle.cam_rows.proofs.SlopeBits.{lacking_in_row}
-use Rattle.cam_rows.proofs.Slopes.{cross_below, first_in_reach, first_is, no_steps, short_cross, short_seen}
-use Rattle.cam_rows.proofs.Slopes.{short_way}
+use Rattle.cam_rows.proofs.Slopes.{first_is}
 
 -- the numbers of a half plane are those of the places, and short where a row's first place is
-module _ (top : Centres) (number : Spot → ℤ) (h : HalfPlane)
-    (value : (k i : ℕ) → number_on (lowered k (numbers_of h)) i ≡ number (centre_at (row_below top k) i)) where
-  pub by_numbers : IsShortLinear h.row → unsigned_abs h.down < 2 ^ 100
-      → ((k : ℕ) → IsRow (row_below top k) → unsigned_abs (number (centre_at (row_below top k) 0)) < 2 ^ 100)
-      → IsHalfPlaneOf top (λ s. pos 0 ≤ℤ number s) h
-  by_numbers short down fits = record {
-    tells = λ k i. rw (value k i) ((λ held. held), (λ held. held));
-    short = λ n rows. record {
-      row = short;
-      down = down;
-      rows = λ k small.
-          rw (first_is (numbers_of h) k (number (centre_at (row_below top k) 0)) (value k 0)) (fits k (rows k small));
-    };
-  }
+pub by_numbers : (top : Centres) (number : Spot → ℤ) (h : HalfPlane)
+    → ((k i : ℕ) → number_on (lowered k h) i ≡ number (centre_at (row_below top k) i)) → IsShortPlane h
+    → ((k : ℕ) → IsWideRow (row_below top k) → unsigned_abs (number (centre_at (row_below top k) 0)) < 2 ^ 100)
+    → IsHalfPlaneOf top (λ s. pos 0 ≤ℤ number s) h
+by_numbers top number h value short fits = record {
+  tells = λ k i. rw (value k i) ((λ held. held), (λ held. held));
+  short = λ n rows. record {
+    plane = short;
+    rows = λ k small. rw (first_is h k _ (value k 0)) (fits k (rows k small));
+  };
+}
 
 -- how far the numbers of a row go
-wider : (z : ℤ) → unsigned_abs z < 2 ^ 67 → unsigned_abs z < 2 ^ 100
-wider z h = omega arith
-
-raised_short : (z r : ℤ) → unsigned_abs z < 2 ^ 67 → unsigned_abs r < 2 ^ 64 → unsigned_abs (z +ℤ r) < 2 ^ 100
+pub raised_short : (z r : ℤ) → unsigned_abs z < 2 ^ 67 → unsigned_abs r < 2 ^ 64 → unsigned_abs (z +ℤ r) < 2 ^ 100
 raised_short z r h k = omega (arith, ints)
 
-module _ (p q : Point) (c : Centres) where
-  pub dot_fits : IsOnBoard p → IsOnBoard q → IsRow c
-      → unsigned_abs (dot (way p q) (seen_from p (centre_at c 0))) < 2 ^ 100
-  dot_fits h m row =
-      let seen = seen_from p (centre_at c 0) in
-      wider (dot (way p q) seen)
-      (dot_bound (way p q) seen (short_way p q h m) (short_seen p (centre_at c 0) h (first_in_reach c row)))
+pub dot_fits : (w : Vector) (p : Point) (s : Spot) (r : ℤ) → IsShort w → IsOnBoard p → IsInReach s → unsigned_abs r < 2 ^ 64
+    → unsigned_abs (dot w (seen_from p s) +ℤ r) < 2 ^ 100
+dot_fits w p s r short h k small =
+    let seen = seen_from p s in
+    raised_short (dot w seen) r
+    (dot_bound w seen short
+    (record { x = omega (arith, ints, h.x, k.x); y = omega (arith, ints, h.y, k.y) }))
+    small
 
-  pub cross_fits : (r : ℤ) → unsigned_abs r < 2 ^ 64 → IsOnBoard p → IsOnBoard q → IsRow c
-      → unsigned_abs (cross (way p q) (seen_from p (centre_at c 0)) +ℤ r) < 2 ^ 100
-  cross_fits r small h m row =
-      raised_short (cross (way p q) (seen_from p (centre_at c 0))) r (short_cross p q c h m row) small
+-- a dot product with the way that is turned to the left is a cross product
+pub turned_x : (a b : Vector) → b ≡ a → IsShort b → narrow (pos 0 -ℤ narrow b.y) ≡ pos 0 -ℤ a.y
+turned_x a b is short = let same = ap (λ v. v.y) is in omega (arith, ints, short.y, same)
 
-  pub raised_first : (f t g r : ℤ) → f +ℤ pos 0 *ℤ t ≡ cross (way p q) (seen_from p (centre_at c 0)) → g ≡ f +ℤ r
-      → unsigned_abs r < 2 ^ 64 → IsOnBoard p → IsOnBoard q → IsRow c → unsigned_abs g < 2 ^ 100
-  raised_first f t g r e more small h m row = rw (more, sym (no_steps f t) ∙ e) (cross_fits r small h m row)
+pub turned : (a b v : Vector) → b ≡ a → IsShort b
+    → dot (record { x = narrow (pos 0 -ℤ narrow b.y); y = narrow b.x }) v ≡ cross a v
+turned a b v is short =
+    let along : narrow b.x ≡ a.x = let same = ap (λ v. v.x) is in omega (arith, ints, short.x, same) in
+    rw (turned_x a b is short, along) (equal
+    (Sum (Product (Difference (Atom (pos 0)) (Atom a.y)) (Atom v.x)) (Product (Atom a.x) (Atom v.y)))
+    (Difference (Product (Atom a.x) (Atom v.y)) (Product (Atom a.y) (Atom v.x)))
+    (omega arith))
 
 -- numbers that are greater by the same in each row
 pub raised_number : (f t r d z : ℤ) (k i : ℕ) → (f +ℤ pos k *ℤ d) +ℤ pos i *ℤ t ≡ z
@@ -72,15 +71,6 @@ raised_number f t r d z k i e =
     (Sum (Sum (Sum (Atom f) (Atom r)) fall) steps)
     (Sum (Sum (Sum (Atom f) fall) steps) (Atom r))
     (omega arith))
-
-pub raised_below : (p q : Point) (c : Centres) (s : Sloped) (f r : ℤ) (k i : ℕ)
-    → f +ℤ pos i *ℤ s.step ≡ cross (way p q) (seen_from p (centre_at c i)) → s.first ≡ f +ℤ r
-    → s.down ≡ pos 0 -ℤ (way p q).x *ℤ c.step
-    → number_on (lowered k s) i ≡ cross (way p q) (seen_from p (centre_at (row_below c k) i)) +ℤ r
-raised_below p q c s f r k i e first down =
-    let plain : Sloped = record { first = f; step = s.step; down = s.down } in
-    rw first (raised_number f s.step r s.down (cross (way p q) (seen_from p (centre_at (row_below c k) i))) k i
-    (cross_below p q c plain k i e down))
 
 -- where the line of a half plane crosses its rows
 opposite_twice : (z : ℤ) → unsigned_abs z < 2 ^ 100 → pos 0 -ℤ wide (pos 0 -ℤ wide z) ≡ z
@@ -103,26 +93,26 @@ falling_is c t n m d steps top =
     rw (top.first, steps.down, steps.divisor, twice) refl
 
 -- the columns of a row up to the last number that is not negative, where they fall, or what they lack does
-module _ (h : HalfPlane) (k i n : ℕ) (number : ℤ) (is : number ≡ (lowered k (numbers_of h)).first)
-    (short : unsigned_abs number < 2 ^ 100) (step : unsigned_abs h.row.step < 2 ^ 100) where
-  pub falling_told : (i < n) ↔ (pos 0 ≤ℤ (wide number +ℤ pos i *ℤ (pos 0 -ℤ wide (pos 0 -ℤ wide h.row.step))))
-      → (i < n) ↔ IsUp (numbers_of h) k i
-  falling_told told = rw (kept number short, opposite_twice h.row.step step, is) at told
+module _ (h : HalfPlane) (k i n : ℕ) (number : ℤ) (is : number ≡ (lowered k h).first)
+    (short : unsigned_abs number < 2 ^ 100) (step : unsigned_abs h.step < 2 ^ 100) where
+  pub falling_told : (i < n) ↔ (pos 0 ≤ℤ (wide number +ℤ pos i *ℤ (pos 0 -ℤ wide (pos 0 -ℤ wide h.step))))
+      → (i < n) ↔ IsUp h k i
+  falling_told told = rw (kept number short, opposite_twice h.step step, is) at told
 
-  pub rising_told : (i < n) ↔ (pos 0 ≤ℤ (wide (negsuc 0 -ℤ wide number) +ℤ pos i *ℤ (pos 0 -ℤ wide h.row.step)))
-      → IsUp (numbers_of h) k i ↔ (i < n → ⊥)
+  pub rising_told : (i < n) ↔ (pos 0 ≤ℤ (wide (negsuc 0 -ℤ wide number) +ℤ pos i *ℤ (pos 0 -ℤ wide h.step)))
+      → IsUp h k i ↔ (i < n → ⊥)
   rising_told told =
-      let here = rw (lacked number short, kept h.row.step step, is) at told in
-      let same = lacking_in_row (lowered k (numbers_of h)).first h.row.step i in (
+      let here = rw (lacked number short, kept h.step step, is) at told in
+      let same = lacking_in_row (lowered k h).first h.step i in (
         (λ up early. same.0 up (here.0 early)),
         (λ late. same.1 (λ lacks. late (here.1 lacks))),
       )
 
-pub fell : (f : HalfPlane) (c : Crossing) (t : Steps) (n : ℤ) → unsigned_abs f.row.step < 2 ^ 100
-    → unsigned_abs f.down < 2 ^ 100 → AreStepsOf t (wide f.down) (wide (pos 0 -ℤ wide f.row.step)) → IsTopOf c t n
-    → falling c t ≡ record { first = n; step = f.row.step; down = f.down }
+pub fell : (f : HalfPlane) (c : Crossing) (t : Steps) (n : ℤ) → unsigned_abs f.step < 2 ^ 100
+    → unsigned_abs f.down < 2 ^ 100 → AreStepsOf t (wide f.down) (wide (pos 0 -ℤ wide f.step)) → IsTopOf c t n
+    → falling c t ≡ record { first = n; step = f.step; down = f.down }
 fell f c t n step down steps top =
-    falling_is c t n f.down f.row.step (rw (kept f.down down, opposite f.row.step step) at steps) top
+    falling_is c t n f.down f.step (rw (kept f.down down, opposite f.step step) at steps) top
 
 -- the sides of a strip, as 128 bits compute them
 pub kept_low : (f e r : ℤ) → unsigned_abs f ≤ 2 ^ 100 → unsigned_abs e ≤ 1 → unsigned_abs r < 2 ^ 64

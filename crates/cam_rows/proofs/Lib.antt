@@ -14,7 +14,6 @@ pub mod CountedRuns
 pub mod EdgeSides
 pub mod FarPlaces
 pub mod FoundRuns
-pub mod Gaps
 pub mod HalfPlanes
 pub mod JoinedLanes
 pub mod LevelSteps

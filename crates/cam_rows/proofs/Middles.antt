@@ -8,7 +8,7 @@ use Rattle.cam_units.specs.declared.point.Point.{Point}
 use Rattle.cam_shapes.specs.Plane.{seen_from}
 use Rattle.cam_rows.specs.declared.centres.Centres.{Centres}
 use Rattle.cam_rows.specs.declared.chord.side.ChordSide.{ChordSide}
-use Rattle.cam_rows.specs.declared.offsets.Offsets.{Offsets}
+use Rattle.cam_rows.specs.declared.chord.Offsets.{Offsets}
 use Rattle.cam_rows.specs.Machinery.Chords.{AreOffsetsFrom, HasReached, IsChord, IsSide, offset}
 use Rattle.cam_rows.specs.Rows.{centre_at}
 use Rattle.cam_rows.specs.Runs.{IsWideRow}

@@ -11,7 +11,7 @@ use Rattle.cam_units.proofs.Ring.{Atom, Difference, Product, Sum, equal}
 use Rattle.cam_shapes.specs.Plane.{square}
 use Rattle.cam_shapes.proofs.Widths.{narrow}
 use Rattle.cam_rows.specs.declared.centres.Centres.{Centres}
-use Rattle.cam_rows.specs.declared.offsets.Offsets.{Offsets}
+use Rattle.cam_rows.specs.declared.chord.Offsets.{Offsets}
 use Rattle.cam_rows.specs.Machinery.Chords.{AreOffsetsFrom, AreWithin, offset}
 use Rattle.cam_rows.specs.Runs.{AreWideRows, IsWideRow}
 use Rattle.cam_rows.proofs.Circling.{square_of}

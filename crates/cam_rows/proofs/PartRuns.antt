@@ -7,7 +7,7 @@ use borrow.Rule.Slice.PartMut.{mid_of, put_mid}
 use Rattle.cam_units.specs.declared.point.Spot.{Spot}
 use Rattle.cam_units.proofs.Ring.{Atom, Difference, Product, equal}
 use Rattle.cam_rows.specs.declared.centres.Centres.{Centres}
-use Rattle.cam_rows.specs.Machinery.Narrowing.{AreNarrowed, IsInRow, leftmost}
+use Rattle.cam_rows.specs.Machinery.Narrowing.{AreNarrowed, IsInRow}
 use Rattle.cam_rows.specs.Rows.{centre_at, row_below}
 use Rattle.cam_rows.specs.Runs.{AreWideRows, IsWideRow}
 
@@ -140,9 +140,9 @@ pub part_rows : (top : Centres) (first count n : ℕ) → first + count ≤ n �
 part_rows top first count n fits rows k within =
     subst IsWideRow (sym (below_part top first k)) (rows (first + k) (omega (arith, fits, within)))
 
--- what a half plane from a row on tells, of the leftmost centres
+-- what a half plane from a row on tells
 pub told_below : (top row : Centres) (first k i : ℕ) (B : Type 0) (P : Spot → Type 0) → row ≡ row_below top first
-    → B ↔ P (centre_at (row_below (leftmost row) k) i) → B ↔ P (centre_at (row_below top (first + k)) i)
+    → B ↔ P (centre_at (row_below row k) i) → B ↔ P (centre_at (row_below top (first + k)) i)
 told_below top row first k i B P is told =
     let here : B ↔ P (centre_at (row_below (row_below top first) k) i) = rw is at told in
     subst (λ (row : Centres). B ↔ P (centre_at row i)) (below_part top first k) here

@@ -4,10 +4,11 @@ use Rattle.std.proofs.lemmas.Bool.{cases_lt}
 use Rattle.std.proofs.lemmas.Int.{by_lt_z, ints}
 use Rattle.std.proofs.lemmas.Nat.{mul-le}
 use Rattle.cam_units.proofs.Ring.{Atom, Difference, Product, Sum, equal}
+use Rattle.cam_rows.specs.declared.half_plane.HalfPlane.{HalfPlane}
 use Rattle.cam_rows.specs.declared.slope.Crossing.{Crossing}
 use Rattle.cam_rows.specs.declared.slope.Steps.{Steps}
 use Rattle.cam_rows.specs.Machinery.Narrowing.{IsUp}
-use Rattle.cam_rows.specs.Machinery.Slopes.{AreSteps, IsCrossing, IsRest, IsRestAfter, Sloped}
+use Rattle.cam_rows.specs.Machinery.Slopes.{AreSteps, IsCrossing, IsRest, IsRestAfter}
 use Rattle.cam_rows.specs.Machinery.Slopes.{falling, lacking, lowered, number_on, whole}
 use Rattle.cam_rows.proofs.SlopeParts.{next_whole}
 use Rattle.cam_rows.proofs.Slopes.{lowered_more}
@@ -137,11 +138,11 @@ pub lacking_in_row : (f t : ℤ) (i : ℕ)
     → (pos 0 ≤ℤ (f +ℤ pos i *ℤ t)) ↔ (pos 0 ≤ℤ ((negsuc 0 -ℤ f) +ℤ pos i *ℤ (pos 0 -ℤ t)) → ⊥)
 lacking_in_row f t i = rw (lacking_number f t i) (negative_lacks (f +ℤ pos i *ℤ t))
 
-pub lacking_sloped : (s : Sloped) (k i : ℕ)
+pub lacking_sloped : (s : HalfPlane) (k i : ℕ)
     → number_on (lowered k (lacking s)) i ≡ negsuc 0 -ℤ number_on (lowered k s) i
 lacking_sloped s k i = rw (lacking_number s.first s.down k) (lacking_number (lowered k s).first s.step i)
 
-pub lacking_tells : (s : Sloped) (k i : ℕ) → IsUp s k i ↔ (IsUp (lacking s) k i → ⊥)
+pub lacking_tells : (s : HalfPlane) (k i : ℕ) → IsUp s k i ↔ (IsUp (lacking s) k i → ⊥)
 lacking_tells s k i = rw (lacking_sloped s k i) (negative_lacks (number_on (lowered k s) i))
 
 -- one row lower
@@ -165,7 +166,7 @@ module _ (top c : Crossing) (t : Steps) (k bound : ℕ) (steps : AreSteps t) (he
     (e : falling c t ≡ lowered k (falling top t)) where
   told : (i : ℕ) → (pos i <ℤ c.columns) ↔ IsUp (falling top t) k i
   told i =
-      subst (λ (z : Sloped). (pos i <ℤ c.columns) ↔ (pos 0 ≤ℤ number_on z i)) e
+      subst (λ (z : HalfPlane). (pos i <ℤ c.columns) ↔ (pos 0 ≤ℤ number_on z i)) e
       (crossing_tells c t bound i steps here)
 
   pub end_cut : (end new : ℕ) → ((i : ℕ) → (i < new) ↔ ((i < end) × (pos i <ℤ c.columns)))
@@ -189,8 +190,8 @@ module _ (top c : Crossing) (t : Steps) (k bound : ℕ) (steps : AreSteps t) (he
       )
 
 -- by equal numbers, and by those that lack
-pub up_alike : (s z : Sloped) (k i : ℕ) → s ≡ z → IsUp z k i ↔ IsUp s k i
-up_alike s z k i e = subst (λ (y : Sloped). IsUp y k i ↔ IsUp s k i) e ((λ up. up), (λ up. up))
+pub up_alike : (s z : HalfPlane) (k i : ℕ) → s ≡ z → IsUp z k i ↔ IsUp s k i
+up_alike s z k i e = subst (λ (y : HalfPlane). IsUp y k i ↔ IsUp s k i) e ((λ up. up), (λ up. up))
 
-pub lacking_alike : (s z : Sloped) (k i : ℕ) → z ≡ lacking s → IsUp s k i ↔ (IsUp z k i → ⊥)
-lacking_alike s z k i e = subst (λ (y : Sloped). IsUp s k i ↔ (IsUp y k i → ⊥)) (sym e) (lacking_tells s k i)
+pub lacking_alike : (s z : HalfPlane) (k i : ℕ) → z ≡ lacking s → IsUp s k i ↔ (IsUp z k i → ⊥)
+lacking_alike s z k i e = subst (λ (y : HalfPlane). IsUp s k i ↔ (IsUp y k i → ⊥)) (sym e) (lacking_tells s k i)

@@ -9,9 +9,9 @@ use Rattle.cam_rows.specs.declared.half_plane.HalfPlane.{HalfPlane}
 use Rattle.cam_rows.specs.declared.slope.Crossing.{Crossing}
 use Rattle.cam_rows.specs.declared.slope.Steps.{Steps}
 use Rattle.cam_rows.specs.Machinery.Beside.{IsWithinReach}
-use Rattle.cam_rows.specs.Machinery.HalfPlanes.{IsStripIn, numbers_of}
-use Rattle.cam_rows.specs.Machinery.Narrowing.{AreCounted, IsUp, leftmost}
-use Rattle.cam_rows.specs.Machinery.Slopes.{Sloped, falling, lacking, lowered, number_on}
+use Rattle.cam_rows.specs.Machinery.HalfPlanes.{IsStripIn}
+use Rattle.cam_rows.specs.Machinery.Narrowing.{AreCounted, IsUp}
+use Rattle.cam_rows.specs.Machinery.Slopes.{falling, lacking, lowered, number_on}
 use Rattle.cam_rows.specs.Rows.{centre_at, row_below}
 use Rattle.cam_rows.specs.Runs.{AreRuns, end_in}
 use Rattle.cam_rows.proofs.HalfPlanes.{raised_number}
@@ -48,53 +48,50 @@ within_by z y e low high reach is_low is_high (inr lacks) = (
   }),
 )
 
-module _ (h f : HalfPlane) (low high : Sloped) (reach e : ℤ)
-    (is_low : low ≡ record { first = f.row.first +ℤ (e -ℤ reach -ℤ pos 1); step = f.row.step; down = f.down })
-    (is_high : high ≡ record { first = f.row.first +ℤ (e +ℤ reach); step = f.row.step; down = f.down }) where
-  taken : (k i : ℕ) → ((numbers_of f ≡ numbers_of h) × (e ≡ pos 0))
-      ⊎ ((numbers_of f ≡ lacking (numbers_of h)) × (e ≡ pos 1))
-      → IsTaken (number_on (lowered k (numbers_of f)) i) e (number_on (lowered k (numbers_of h)) i)
-  taken k i (inl same) = inl (ap (λ (s : Sloped). number_on (lowered k s) i) same.0, same.1)
+module _ (h f : HalfPlane) (low high : HalfPlane) (reach e : ℤ)
+    (is_low : low ≡ record { first = f.first +ℤ (e -ℤ reach -ℤ pos 1); step = f.step; down = f.down })
+    (is_high : high ≡ record { first = f.first +ℤ (e +ℤ reach); step = f.step; down = f.down }) where
+  taken : (k i : ℕ) → ((f ≡ h) × (e ≡ pos 0))
+      ⊎ ((f ≡ lacking h) × (e ≡ pos 1))
+      → IsTaken (number_on (lowered k f) i) e (number_on (lowered k h) i)
+  taken k i (inl same) = inl (ap (λ (s : HalfPlane). number_on (lowered k s) i) same.0, same.1)
   taken k i (inr lacks) =
-      inr (ap (λ (s : Sloped). number_on (lowered k s) i) lacks.0 ∙ lacking_sloped (numbers_of h) k i, lacks.1)
+      inr (ap (λ (s : HalfPlane). number_on (lowered k s) i) lacks.0 ∙ lacking_sloped h k i, lacks.1)
 
-  pub strip_within : (k i : ℕ) → ((numbers_of f ≡ numbers_of h) × (e ≡ pos 0))
-      ⊎ ((numbers_of f ≡ lacking (numbers_of h)) × (e ≡ pos 1))
-      → IsWithinReach (number_on (lowered k (numbers_of h)) i) reach ↔ ((IsUp low k i → ⊥) × IsUp high k i)
+  pub strip_within : (k i : ℕ) → ((f ≡ h) × (e ≡ pos 0))
+      ⊎ ((f ≡ lacking h) × (e ≡ pos 1))
+      → IsWithinReach (number_on (lowered k h) i) reach ↔ ((IsUp low k i → ⊥) × IsUp high k i)
   strip_within k i how =
-      let y = number_on (lowered k (numbers_of f)) i in
-      within_by (number_on (lowered k (numbers_of h)) i) y e (number_on (lowered k low) i) (number_on (lowered k high) i)
+      let y = number_on (lowered k f) i in
+      within_by (number_on (lowered k h) i) y e (number_on (lowered k low) i) (number_on (lowered k high) i)
       reach
-      (ap (λ (s : Sloped). number_on (lowered k s) i) is_low
-      ∙ raised_number f.row.first f.row.step (e -ℤ reach -ℤ pos 1) f.down y k i refl)
-      (ap (λ (s : Sloped). number_on (lowered k s) i) is_high
-      ∙ raised_number f.row.first f.row.step (e +ℤ reach) f.down y k i refl)
+      (ap (λ (s : HalfPlane). number_on (lowered k s) i) is_low
+      ∙ raised_number f.first f.step (e -ℤ reach -ℤ pos 1) f.down y k i refl)
+      (ap (λ (s : HalfPlane). number_on (lowered k s) i) is_high
+      ∙ raised_number f.first f.step (e +ℤ reach) f.down y k i refl)
       (taken k i how)
 
 -- the runs of a strip
-pub strip_runs : (firsts ends : List ℕ) (n : ℕ) (top left : Centres) (h : HalfPlane) (low high : Crossing) (t : Steps)
-    (reach : ℤ) (number : Spot → ℤ) → left ≡ leftmost top
-    → ((k i : ℕ) → number_on (lowered k (numbers_of h)) i ≡ number (centre_at (row_below left k) i))
+pub strip_runs : (firsts ends : List ℕ) (n : ℕ) (top : Centres) (h : HalfPlane) (low high : Crossing) (t : Steps)
+    (reach : ℤ) (number : Spot → ℤ)
+    → ((k i : ℕ) → number_on (lowered k h) i ≡ number (centre_at (row_below top k) i))
     → IsStripIn n low high t reach h → length firsts ≡ n → AreCounted top.n (IsUp (falling low t)) n (end_in None firsts)
     → AreCounted top.n (IsUp (falling high t)) n (end_in None ends) → AreRuns firsts ends top (λ s. IsWithinReach (number s) reach)
-strip_runs firsts ends n top left h low high t reach number is numbers strip size starts stops =
-    let told : (k i : ℕ) → number_on (lowered k (numbers_of h)) i ≡ number (centre_at (row_below top k) i) =
-    rw is at numbers in
-    record {
-      each = λ k i within small.
-          let row : k < n = omega (arith, within, size) in
-          let start = starts.each k i row small in
-          let stop = stops.each k i row small in
-          rw (← told k i) (
-            (λ on. (strip.within k i).1 ((λ up. absurd (omega (arith, on.0, start.1 up))), stop.0 on.1)),
-            (λ near.
-                let both = (strip.within k i).0 near in (
-                  elim (cases_lt i (slice_index firsts k)) [
-                    | inl early ↦ absurd (both.0 (start.0 early))
-                    | inr late ↦ late
-                  ],
-                  stop.1 both.1,
-                )),
-          );
-      within = λ k within. stops.within k (omega (arith, within, size));
-    }
+strip_runs firsts ends n top h low high t reach number told strip size starts stops = record {
+  each = λ k i within small.
+      let row : k < n = omega (arith, within, size) in
+      let start = starts.each k i row small in
+      let stop = stops.each k i row small in
+      rw (← told k i) (
+        (λ on. (strip.within k i).1 ((λ up. absurd (omega (arith, on.0, start.1 up))), stop.0 on.1)),
+        (λ near.
+            let both = (strip.within k i).0 near in (
+              elim (cases_lt i (slice_index firsts k)) [
+                | inl early ↦ absurd (both.0 (start.0 early))
+                | inr late ↦ late
+              ],
+              stop.1 both.1,
+            )),
+      );
+  within = λ k within. stops.within k (omega (arith, within, size));
+}

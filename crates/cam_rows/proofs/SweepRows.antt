@@ -10,8 +10,7 @@ use Rattle.cam_units.proofs.Ring.{Atom, Difference, Polynomial, Product, equal}
 use Rattle.cam_shapes.specs.declared.vector.Vector.{Vector}
 use Rattle.cam_shapes.specs.Plane.{cross, dot, seen_from, way}
 use Rattle.cam_shapes.specs.Arc.{IsNarrow}
-use Rattle.cam_shapes.proofs.Widths.{wide}
-use Rattle.cam_rows.proofs.Sweeps.{same_wide}
+use Rattle.cam_shapes.proofs.Widths.{kept, wide}
 
 -- before the end, by the side of the way from there to the centre
 pub beyond_end : (c e : Point) (s : Spot) → cross (way e c) (seen_from e s) ≡ cross (seen_from c s) (way c e)
@@ -28,17 +27,17 @@ pub no_more : (z : ℤ) → z +ℤ pos 0 ≡ z
 no_more z = omega (arith, ints)
 
 -- what tests of short numbers tell
-pub natural_by_test : (z : ℤ) → unsigned_abs z < 2 ^ 100 → le_z (pos 0) (wide z) ≡ true → pos 0 ≤ℤ z
-natural_by_test z h e = let told = rw (same_wide z h) at e in grind (arith, ints)
+pub natural_by_test : (z : ℤ) → unsigned_abs z < 2 ^ 67 → le_z (pos 0) (wide z) ≡ true → pos 0 ≤ℤ z
+natural_by_test z h e = let told = rw (kept z h) at e in grind (arith, ints)
 
-pub negative_by_test : (z : ℤ) → unsigned_abs z < 2 ^ 100 → le_z (pos 0) (wide z) ≡ false → z <ℤ pos 0
-negative_by_test z h e = let told = rw (same_wide z h) at e in grind (arith, ints)
+pub negative_by_test : (z : ℤ) → unsigned_abs z < 2 ^ 67 → le_z (pos 0) (wide z) ≡ false → z <ℤ pos 0
+negative_by_test z h e = let told = rw (kept z h) at e in grind (arith, ints)
 
-pub right_by_test : (z : ℤ) → unsigned_abs z < 2 ^ 100 → lt_z (wide z) (pos 0) ≡ true → z <ℤ pos 0
-right_by_test z h e = let told = rw (same_wide z h) at e in grind (arith, ints)
+pub right_by_test : (z : ℤ) → unsigned_abs z < 2 ^ 67 → lt_z (wide z) (pos 0) ≡ true → z <ℤ pos 0
+right_by_test z h e = let told = rw (kept z h) at e in grind (arith, ints)
 
-pub left_by_test : (z : ℤ) → unsigned_abs z < 2 ^ 100 → lt_z (wide z) (pos 0) ≡ false → pos 0 ≤ℤ z
-left_by_test z h e = let told = rw (same_wide z h) at e in grind (arith, ints)
+pub left_by_test : (z : ℤ) → unsigned_abs z < 2 ^ 67 → lt_z (wide z) (pos 0) ≡ false → pos 0 ≤ℤ z
+left_by_test z h e = let told = rw (kept z h) at e in grind (arith, ints)
 
 pub other_points : (p q : Point) (b : Bool) → b ≡ (int_eq p.x q.x && int_eq p.y q.y) → b ≡ false → p ≡ q → ⊥
 other_points p q b e f same = let told = rw same at e in grind (arith, ints)

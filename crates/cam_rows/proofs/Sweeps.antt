@@ -1,37 +1,12 @@
 -- Sweeps by the sides of their ends.
-use Rattle.std.proofs.Common.{◌≡◌, ◌↔◌, ◌<◌, ◌^◌, ℤ, pos, ◌+ℤ◌, ◌-ℤ◌, ◌*ℤ◌, ◌≤ℤ◌, ◌<ℤ◌}
-use Rattle.std.proofs.Common.{inl, inr, ap, sym, ◌∙◌, arith}
-use Rattle.std.specs.Int.RustNames.{unsigned_abs}
+use Rattle.std.proofs.Common.{◌≡◌, ◌↔◌, ℤ, pos, ◌-ℤ◌, ◌*ℤ◌, ◌≤ℤ◌, ◌<ℤ◌, inl, inr, ap, arith}
 use Rattle.std.proofs.lemmas.Int.{ints}
 use Rattle.cam_units.specs.declared.point.Point.{Point}
 use Rattle.cam_units.proofs.TurnLaws.{same_point}
-use Rattle.cam_units.proofs.Ring.{Atom, Product, Sum, equal}
 use Rattle.cam_shapes.specs.declared.vector.Vector.{Vector}
-use Rattle.cam_shapes.specs.Plane.{cross, place_of, seen_from, way}
+use Rattle.cam_shapes.specs.Plane.{cross, way}
 use Rattle.cam_shapes.specs.Arc.{IsInSweep, IsNarrow}
 use Rattle.cam_shapes.proofs.Circles.{narrow_not_wide}
-use Rattle.cam_shapes.proofs.Vectors.{same_vector}
-use Rattle.cam_shapes.proofs.Widths.{wide}
-use Rattle.cam_rows.specs.declared.centres.Centres.{Centres}
-use Rattle.cam_rows.specs.declared.linear.Linear.{Linear}
-use Rattle.cam_rows.specs.Machinery.Linear.{number_at}
-use Rattle.cam_rows.specs.Rows.{centre_at, first_centre}
-
-pub no_steps : (x step : ℤ) → x +ℤ pos 0 *ℤ step ≡ x
-no_steps x step = equal (Sum (Atom x) (Product (Atom (pos 0)) (Atom step))) (Atom x) (omega arith)
-
--- the only centre of a row, at a point
-pub seen_alone : (o p : Point) (c : Centres) → first_centre c ≡ place_of p → seen_from o (centre_at c 0) ≡ way o p
-seen_alone o p c e =
-    same_vector (seen_from o (centre_at c 0)) (way o p)
-    (ap (λ x. x -ℤ pos 2 *ℤ o.x) (no_steps c.x c.step ∙ ap (λ s. s.x) e))
-    (ap (λ s. s.y -ℤ pos 2 *ℤ o.y) e)
-
-pub same_wide : (z : ℤ) → unsigned_abs z < 2 ^ 100 → wide z ≡ z
-same_wide z h = omega (arith, ints)
-
-pub first_number : (l : Linear) (z : ℤ) → unsigned_abs l.first < 2 ^ 100 → number_at l 0 ≡ z → wide l.first ≡ z
-first_number l z short e = same_wide l.first short ∙ sym (no_steps l.first l.step) ∙ e
 
 shifted_same : (a b c : ℤ) → pos 2 *ℤ a -ℤ pos 2 *ℤ c ≡ pos 2 *ℤ b -ℤ pos 2 *ℤ c → a ≡ b
 shifted_same a b c e = omega (arith, ints)

@@ -1,17 +1,13 @@
 -- The stroke of a rectangle by the box of its ends and its line.
 use Rattle.std.proofs.Common.{◌≡◌, ◌<◌, ◌↔◌, ℤ}
-use Rattle.std.proofs.Common.{pos, ◌+ℤ◌, ◌-ℤ◌, ◌*ℤ◌, ◌≤ℤ◌, ◌<ℤ◌, arith}
+use Rattle.std.proofs.Common.{pos, ◌≤ℤ◌, ◌<ℤ◌, arith}
 use Rattle.std.specs.Int.RustNames.{unsigned_abs}
-use Rattle.std.specs.Int.{int_max, int_min}
-use Rattle.std.proofs.lemmas.Int.{ints, clamps}
-use Rattle.cam_refusals.specs.Limits.{board_limit}
-use Rattle.cam_units.specs.Board.{IsSize}
+use Rattle.std.proofs.lemmas.Int.{ints}
 use Rattle.cam_units.specs.Boxes.{IsInBox}
 use Rattle.cam_units.specs.declared.point.Spot.{Spot}
 use Rattle.cam_shapes.specs.declared.swept.Swept.{Swept}
 use Rattle.cam_shapes.specs.Plane.{cross, seen_from, way}
 use Rattle.cam_shapes.specs.Swept.{IsInSwept, corner_reach, high_corner, low_corner}
-use Rattle.cam_shapes.proofs.Widths.{narrow}
 use Rattle.cam_rows.specs.Machinery.Beside.{IsWithinReach}
 use Rattle.cam_rows.proofs.BesideWays.{IsNear}
 
@@ -31,14 +27,3 @@ module _ (r : Swept) (wide : pos 0 <ℤ r.width.0) (high : pos 0 <ℤ r.height.0
         (λ inside. (inside.boxed, near.0 (rw is inside.near))),
         (λ held. record { wide = wide; high = high; boxed = held.0; near = rw is at (near.1 held.1) }),
       )
-
--- corners, as 64 bits compute them
-pub low_is : (p q w m : ℤ) → unsigned_abs p < board_limit → unsigned_abs q < board_limit → IsSize w
-    → m ≡ int_min (narrow p) (narrow q) → narrow (narrow (pos 2 *ℤ narrow m) -ℤ narrow w)
-    ≡ int_min (pos 2 *ℤ p) (pos 2 *ℤ q) -ℤ w
-low_is p q w m h k size e = omega (arith, ints, clamps, size.0, size.1)
-
-pub high_is : (p q w m : ℤ) → unsigned_abs p < board_limit → unsigned_abs q < board_limit → IsSize w
-    → m ≡ int_max (narrow p) (narrow q) → narrow (narrow (pos 2 *ℤ narrow m) +ℤ narrow w)
-    ≡ int_max (pos 2 *ℤ p) (pos 2 *ℤ q) +ℤ w
-high_is p q w m h k size e = omega (arith, ints, clamps, size.0, size.1)

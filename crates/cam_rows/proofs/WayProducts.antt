@@ -1,41 +1,20 @@
--- Products of ways with the ways to the centres of a row, as 128 bits compute them.
-use Rattle.std.proofs.Common.{◌≡◌, ◌^◌, ◌<◌, ℕ, ℤ, pos, ◌+ℤ◌, ◌-ℤ◌, ◌*ℤ◌, FitsSigned, refl, ap, ◌∙◌, w64, arith}
+-- Products of ways with the ways to the centres of rows, as 128 bits compute them.
+use Rattle.std.proofs.Common.{◌≡◌, ◌^◌, ◌<◌, ℕ, ℤ, pos, ◌+ℤ◌, ◌-ℤ◌, ◌*ℤ◌, FitsSigned, refl, ◌∙◌, w64, arith}
 use Rattle.std.specs.Int.{w128}
 use Rattle.std.specs.Int.RustNames.{unsigned_abs}
 use Rattle.std.proofs.lemmas.Int.{ints, unsigned_abs-mul, fits_signed_from_abs}
 use Rattle.std.proofs.lemmas.Nat.{mul-lt}
 use Rattle.cam_units.specs.Board.{IsInReach}
+use Rattle.cam_units.specs.declared.point.Point.{Point}
+use Rattle.cam_units.specs.declared.point.Spot.{Spot}
 use Rattle.cam_units.proofs.Ring.{Polynomial, Atom, Sum, Difference, Product, equal}
-use Rattle.cam_shapes.proofs.Widths.{kept_factors, kept_product, narrow, short_product, wide}
+use Rattle.cam_shapes.specs.declared.vector.Vector.{Vector}
+use Rattle.cam_shapes.specs.Plane.{dot, seen_from}
+use Rattle.cam_shapes.proofs.Widths.{narrow, wide}
 use Rattle.cam_rows.specs.declared.centres.Centres.{Centres}
-use Rattle.cam_rows.specs.Rows.{IsRow, centre_at}
-
--- how far a centre is from a point, as 64 bits compute it
-kept_gap : (a p r : ℤ) → unsigned_abs a < 4000000000 → unsigned_abs p < 1000000000
-    → r ≡ narrow (narrow a -ℤ narrow (pos 2 *ℤ narrow p)) → r ≡ narrow (a -ℤ pos 2 *ℤ p)
-kept_gap a p r h k e =
-    let same : narrow a -ℤ narrow (pos 2 *ℤ narrow p) ≡ a -ℤ pos 2 *ℤ p = omega (arith, ints) in
-    e ∙ ap narrow same
-
-short_gap : (a p : ℤ) → unsigned_abs a < 4000000000 → unsigned_abs p < 1000000000
-    → unsigned_abs (a -ℤ pos 2 *ℤ p) < 2 ^ 33
-short_gap a p h k = omega (arith, ints)
-
--- the product of a coordinate of a way and such a gap
-pub gap_product : (b a p r t : ℤ) → unsigned_abs b < 2 ^ 33 → unsigned_abs a < 4000000000 → unsigned_abs p < 1000000000
-    → r ≡ narrow b → t ≡ narrow (narrow a -ℤ narrow (pos 2 *ℤ narrow p))
-    → wide (wide r *ℤ wide t) ≡ b *ℤ (a -ℤ pos 2 *ℤ p)
-gap_product b a p r t h k m e f =
-    kept_product b (a -ℤ pos 2 *ℤ p) r t h (short_gap a p k m) e (kept_gap a p t k m f)
-
-pub gap_product_fits : (b a p r t : ℤ) → unsigned_abs b < 2 ^ 33 → unsigned_abs a < 4000000000
-    → unsigned_abs p < 1000000000 → r ≡ narrow b → t ≡ narrow (narrow a -ℤ narrow (pos 2 *ℤ narrow p))
-    → FitsSigned w128 (wide r *ℤ wide t)
-gap_product_fits b a p r t h k m e f =
-    let bound : unsigned_abs (b *ℤ (a -ℤ pos 2 *ℤ p)) < 2 ^ 66 =
-    short_product b (a -ℤ pos 2 *ℤ p) h (short_gap a p k m) in
-    rw (kept_factors b (a -ℤ pos 2 *ℤ p) r t h (short_gap a p k m) e (kept_gap a p t k m f))
-    (fits_signed_from_abs w128 (b *ℤ (a -ℤ pos 2 *ℤ p)) (omega arith))
+use Rattle.cam_rows.specs.Machinery.Slopes.{lowered, number_on}
+use Rattle.cam_rows.specs.Rows.{centre_at, first_centre, row_below}
+use Rattle.cam_rows.specs.Runs.{IsWideRow}
 
 kept_wide : (z : ℤ) → unsigned_abs z < 2 ^ 126 → wide z ≡ z
 kept_wide z h = omega (arith, ints)
@@ -66,34 +45,8 @@ step_product a s r t h fits e f =
     let bound : unsigned_abs (a *ℤ s) < 2 ^ 97 = step_bound a s h fits in
     rw (step_factors a s r t h fits e f) (kept_wide (a *ℤ s) (omega arith))
 
-pub step_fits : (a s r t : ℤ) → unsigned_abs a < 2 ^ 33 → FitsSigned w64 s → r ≡ narrow a → t ≡ narrow s
-    → FitsSigned w128 (wide r *ℤ wide t)
-step_fits a s r t h fits e f =
-    let bound : unsigned_abs (a *ℤ s) < 2 ^ 97 = step_bound a s h fits in
-    rw (step_factors a s r t h fits e f) (fits_signed_from_abs w128 (a *ℤ s) (omega arith))
-
 pub step_short : (a s : ℤ) → unsigned_abs a < 2 ^ 33 → FitsSigned w64 s → unsigned_abs (a *ℤ s) < 2 ^ 100
 step_short a s h fits = let bound : unsigned_abs (a *ℤ s) < 2 ^ 97 = step_bound a s h fits in omega arith
-
--- the sum of two products
-sum_bound : (p q : ℤ) → unsigned_abs p < 2 ^ 66 → unsigned_abs q < 2 ^ 66 → unsigned_abs (p +ℤ q) < 2 ^ 67
-sum_bound p q h k = omega (arith, ints)
-
-gaps_bound : (b a p d e q : ℤ) → unsigned_abs b < 2 ^ 33 → unsigned_abs a < 4000000000 → unsigned_abs p < 1000000000
-    → unsigned_abs d < 2 ^ 33 → unsigned_abs e < 4000000000 → unsigned_abs q < 1000000000
-    → unsigned_abs (b *ℤ (a -ℤ pos 2 *ℤ p) +ℤ d *ℤ (e -ℤ pos 2 *ℤ q)) < 2 ^ 67
-gaps_bound b a p d e q h k m hd ke mq =
-    sum_bound (b *ℤ (a -ℤ pos 2 *ℤ p)) (d *ℤ (e -ℤ pos 2 *ℤ q))
-    (short_product b (a -ℤ pos 2 *ℤ p) h (short_gap a p k m))
-    (short_product d (e -ℤ pos 2 *ℤ q) hd (short_gap e q ke mq))
-
-pub gaps_short : (b a p d e q : ℤ) → unsigned_abs b < 2 ^ 33 → unsigned_abs a < 4000000000 → unsigned_abs p < 1000000000
-    → unsigned_abs d < 2 ^ 33 → unsigned_abs e < 4000000000 → unsigned_abs q < 1000000000
-    → unsigned_abs (b *ℤ (a -ℤ pos 2 *ℤ p) +ℤ d *ℤ (e -ℤ pos 2 *ℤ q)) < 2 ^ 100
-gaps_short b a p d e q h k m hd ke mq =
-    let bound : unsigned_abs (b *ℤ (a -ℤ pos 2 *ℤ p) +ℤ d *ℤ (e -ℤ pos 2 *ℤ q)) < 2 ^ 67 =
-    gaps_bound b a p d e q h k m hd ke mq in
-    omega arith
 
 pub kept_sum : (z : ℤ) → unsigned_abs z < 2 ^ 100 → wide z ≡ z
 kept_sum z h = kept_wide z (omega arith)
@@ -104,40 +57,41 @@ sum_fits z h = fits_signed_from_abs w128 z (omega arith)
 pub opposite_short : (z : ℤ) → unsigned_abs z < 2 ^ 100 → unsigned_abs (pos 0 -ℤ z) < 2 ^ 100
 opposite_short z h = omega (arith, ints)
 
+-- a product and what is added to it, as 128 bits pass them
+pub sum_passed : (z r v : ℤ) → unsigned_abs z < 2 ^ 67 → unsigned_abs r < 2 ^ 64 → z ≡ v → wide z +ℤ wide r ≡ v +ℤ r
+sum_passed z r v h k e = omega (arith, ints, e)
+
 -- the leftmost centre is in reach
-pub first_x : (c : Centres) → IsRow c → unsigned_abs c.x < 4000000000
-first_x c row =
-    let p : IsInReach (centre_at c 0) = row.centres 0 (omega (arith, row.count.0)) in omega (arith, ints, p.x)
+pub first_in_reach : (c : Centres) → IsWideRow c → IsInReach (first_centre c)
+first_in_reach c row =
+    let p : IsInReach (centre_at c 0) = row.centres 0 (omega (arith, row.count.0)) in
+    record { x = omega (arith, ints, p.x); y = p.y }
 
-pub first_y : (c : Centres) → IsRow c → unsigned_abs c.y < 4000000000
-first_y c row = let p : IsInReach (centre_at c 0) = row.centres 0 (omega (arith, row.count.0)) in p.y
+-- as 64 bits pass it
+pub passed_centre : (c : Centres) → IsWideRow c → ◌≡◌ {A = Spot} (record { x = narrow c.x; y = narrow c.y }) (first_centre c)
+passed_centre c row =
+    let near = first_in_reach c row in
+    let across : narrow c.x ≡ c.x = omega (arith, ints, near.x) in
+    let along : narrow c.y ≡ c.y = omega (arith, ints, near.y) in
+    λ i. record { x = across i; y = along i }
 
--- the numbers are products with the ways to the centres
-pub dots_are : (a b u v x y p q s f t : ℤ) (i : ℕ) → u ≡ a → v ≡ b
-    → f ≡ u *ℤ (x -ℤ pos 2 *ℤ p) +ℤ v *ℤ (y -ℤ pos 2 *ℤ q) → t ≡ u *ℤ s
-    → f +ℤ pos i *ℤ t ≡ a *ℤ (x +ℤ pos i *ℤ s -ℤ pos 2 *ℤ p) +ℤ b *ℤ (y -ℤ pos 2 *ℤ q)
-dots_are a b u v x y p q s f t i g h e d =
+-- the numbers are products of a way with the ways to the centres
+pub dots_are : (w : Vector) (p : Point) (c : Centres) (reach : ℤ) (k i : ℕ)
+    → number_on (lowered k (record {
+      first = dot w (seen_from p (first_centre c)) +ℤ reach;
+      step = w.x *ℤ c.step;
+      down = pos 0 -ℤ w.y *ℤ c.step;
+    })) i ≡ dot w (seen_from p (centre_at (row_below c k) i)) +ℤ reach
+dots_are w p c reach k i =
     let twice : ℤ → Polynomial = λ z. Product (Atom (pos 2)) (Atom z) in
-    let high = Product (Atom b) (Difference (Atom y) (twice q)) in
-    let steps = Product (Atom (pos i)) (Atom s) in
-    rw (e, d, g, h) (equal
+    let steps : ℕ → Polynomial = λ n. Product (Atom (pos n)) (Atom c.step) in
+    let dots : Polynomial → Polynomial → Polynomial = λ x y.
+    Sum (Product (Atom w.x) (Difference x (twice p.x))) (Product (Atom w.y) (Difference y (twice p.y))) in
+    equal
     (Sum
-    (Sum (Product (Atom a) (Difference (Atom x) (twice p))) high)
-    (Product (Atom (pos i)) (Product (Atom a) (Atom s))))
-    (Sum (Product (Atom a) (Difference (Sum (Atom x) steps) (twice p))) high)
-    (omega arith))
-
-pub crosses_are : (a b u v m n x y p q s f t : ℤ) (i : ℕ) → u ≡ a → v ≡ b → m ≡ pos 0 -ℤ v → n ≡ u
-    → f ≡ m *ℤ (x -ℤ pos 2 *ℤ p) +ℤ n *ℤ (y -ℤ pos 2 *ℤ q) → t ≡ m *ℤ s
-    → f +ℤ pos i *ℤ t ≡ a *ℤ (y -ℤ pos 2 *ℤ q) -ℤ b *ℤ (x +ℤ pos i *ℤ s -ℤ pos 2 *ℤ p)
-crosses_are a b u v m n x y p q s f t i g h k l e d =
-    let twice : ℤ → Polynomial = λ z. Product (Atom (pos 2)) (Atom z) in
-    let high = Product (Atom a) (Difference (Atom y) (twice q)) in
-    let steps = Product (Atom (pos i)) (Atom s) in
-    let minus = Difference (Atom (pos 0)) (Atom b) in
-    rw (e, d, k, l, g, h) (equal
     (Sum
-    (Sum (Product minus (Difference (Atom x) (twice p))) high)
-    (Product (Atom (pos i)) (Product minus (Atom s))))
-    (Difference high (Product (Atom b) (Difference (Sum (Atom x) steps) (twice p))))
-    (omega arith))
+    (Sum (dots (Atom c.x) (Atom c.y)) (Atom reach))
+    (Product (Atom (pos k)) (Difference (Atom (pos 0)) (Product (Atom w.y) (Atom c.step)))))
+    (Product (Atom (pos i)) (Product (Atom w.x) (Atom c.step))))
+    (Sum (dots (Sum (Atom c.x) (steps i)) (Difference (Atom c.y) (steps k))) (Atom reach))
+    (omega arith)

@@ -1,6 +1,6 @@
 -- Wide rows and their runs.
 use Rattle.std.proofs.Common.{◌≡◌, ℕ, ◌+◌, ◌-◌, ◌<◌, ◌≤◌, ◌≢◌, ◌↔◌, List, length, slice_index, slice_set}
-use Rattle.std.proofs.Common.{ℤ, pos, ◌+ℤ◌, ◌-ℤ◌, ◌*ℤ◌, ◌≤ℤ◌, ◌<ℤ◌}
+use Rattle.std.proofs.Common.{ℤ, pos, ◌-ℤ◌, ◌*ℤ◌, ◌≤ℤ◌, ◌<ℤ◌}
 use Rattle.std.proofs.Common.{get_or-set_other, get_or-set_same, inl, inr, refl, subst, arith}
 use Rattle.std.proofs.lemmas.Bool.{cases_lt}
 use Rattle.std.proofs.lemmas.Int.{ints}
@@ -8,15 +8,14 @@ use Rattle.cam_units.specs.Board.{IsOnBoard}
 use Rattle.cam_units.specs.Boxes.{IsInBox}
 use Rattle.cam_units.specs.declared.point.Point.{Point}
 use Rattle.cam_units.specs.declared.point.Spot.{Spot}
-use Rattle.cam_shapes.specs.declared.rectangle.Rectangle.{Rectangle}
-use Rattle.cam_shapes.specs.Plane.{IsBetween, seen_from, square}
+use Rattle.cam_shapes.specs.Plane.{seen_from, square}
 use Rattle.cam_rows.specs.declared.centres.Centres.{Centres}
 use Rattle.cam_rows.specs.declared.half_plane.HalfPlane.{HalfPlane}
-use Rattle.cam_rows.specs.declared.offsets.Offsets.{Offsets}
+use Rattle.cam_rows.specs.declared.chord.Offsets.{Offsets}
 use Rattle.cam_rows.specs.Machinery.Chords.{AreOffsetsFrom, AreWideOffsets, offset}
-use Rattle.cam_rows.specs.Machinery.HalfPlanes.{AreRows, IsHalfPlaneOf, numbers_of}
-use Rattle.cam_rows.specs.Machinery.Narrowing.{AreNarrowed, IsInRow, IsNearer, IsUp, leftmost}
-use Rattle.cam_rows.specs.Rows.{IsRow, centre_at, first_centre, row_below}
+use Rattle.cam_rows.specs.Machinery.HalfPlanes.{IsHalfPlaneOf}
+use Rattle.cam_rows.specs.Machinery.Narrowing.{AreNarrowed, IsInRow, IsNearer, IsUp}
+use Rattle.cam_rows.specs.Rows.{centre_at, first_centre, row_below}
 use Rattle.cam_rows.specs.Runs.{AreRuns, AreWideRows, IsInRun, IsWideRow}
 use Rattle.cam_rows.proofs.Chords.{seen_in_chord}
 use Rattle.cam_rows.proofs.Columns.{offset_is, offset_short}
@@ -26,18 +25,6 @@ use Rattle.cam_rows.proofs.Slopes.{top_row}
 -- the top row is the first of them
 pub top_is_wide : (top : Centres) (n : ℕ) → 0 < n → AreWideRows top n → IsWideRow top
 top_is_wide top n some rows = subst IsWideRow (top_row top) (rows 0 some)
-
--- the leftmost centre alone
-pub leftmost_row : (c : Centres) → IsWideRow c → IsRow (leftmost c)
-leftmost_row c row = record {
-  count = (omega arith, omega arith);
-  step = row.step;
-  centres = λ i few. row.centres i (omega (arith, few, row.count.0));
-}
-
-pub leftmost_rows : (top left : Centres) (n m : ℕ) → left ≡ leftmost top → m ≡ n → AreWideRows top n → AreRows left m
-leftmost_rows top left n m is size rows k within =
-    rw is (leftmost_row (row_below top k) (rows k (omega (arith, size, within))))
 
 -- how far the centres lie from a point
 module _ (row : Centres) (p : Point) (first step : ℤ) (wide : IsWideRow row) (e : first ≡ row.x -ℤ pos 2 *ℤ p.x)
@@ -104,18 +91,16 @@ empty_runs firsts ends top P end none = record {
 }
 
 -- to a half plane, by its numbers
-pub half_narrowed : (columns : ℕ) (firsts ends new_firsts new_ends : List ℕ) (top left : Centres) (Q : Spot → Type 0)
-    (h : HalfPlane) → left ≡ leftmost top → IsHalfPlaneOf left Q h
-    → AreNarrowed columns firsts ends (IsUp (numbers_of h)) (length firsts) new_firsts new_ends
+pub half_narrowed : (columns : ℕ) (firsts ends new_firsts new_ends : List ℕ) (top : Centres) (Q : Spot → Type 0)
+    (h : HalfPlane) → IsHalfPlaneOf top Q h
+    → AreNarrowed columns firsts ends (IsUp h) (length firsts) new_firsts new_ends
     → AreNarrowed columns firsts ends (λ k i. Q (centre_at (row_below top k) i)) (length firsts) new_firsts new_ends
-half_narrowed columns firsts ends new_firsts new_ends top left Q h is half narrowed =
-    let told : (k i : ℕ) → IsUp (numbers_of h) k i ↔ Q (centre_at (row_below top k) i) = rw is at half.tells in
-    record {
-      each = λ k i within small. run_by _ _ _ _ (narrowed.each k i within small) (told k i);
-      within = narrowed.within;
-      same_firsts = narrowed.same_firsts;
-      same_ends = narrowed.same_ends;
-    }
+half_narrowed columns firsts ends new_firsts new_ends top Q h half narrowed = record {
+  each = λ k i within small. run_by _ _ _ _ (narrowed.each k i within small) (half.tells k i);
+  within = narrowed.within;
+  same_firsts = narrowed.same_firsts;
+  same_ends = narrowed.same_ends;
+}
 
 pub runs_like : (firsts ends : List ℕ) (top : Centres) (P Q : Spot → Type 0) → ((s : Spot) → P s ↔ Q s)
     → AreRuns firsts ends top P → AreRuns firsts ends top Q
@@ -191,24 +176,6 @@ in_box_run B R low high s left right y e f g strip high_enough =
           record { left = sides.0; right = sides.1; below = held.1; above = held.2 }),
       (λ inside. told.1 (across.1 (inside.left, inside.right), inside.below, inside.above)),
     )
-
--- a rectangle by its corners
-pub in_corners : (s low high : Spot) (r : Rectangle) → low.x ≡ pos 2 *ℤ r.centre.x -ℤ r.width.0
-    → low.y ≡ pos 2 *ℤ r.centre.y -ℤ r.height.0 → high.x ≡ pos 2 *ℤ r.centre.x +ℤ r.width.0
-    → high.y ≡ pos 2 *ℤ r.centre.y +ℤ r.height.0
-    → IsInBox low high s ↔ IsBetween (seen_from r.centre s) r.width.0 r.height.0
-in_corners s low high r e f g h = (
-  (λ p. record {
-    across = omega (arith, ints, e, g, p.left, p.right);
-    along = omega (arith, ints, f, h, p.below, p.above);
-  }),
-  (λ p. record {
-    left = omega (arith, ints, e, p.across);
-    right = omega (arith, ints, g, p.across);
-    below = omega (arith, ints, f, p.along);
-    above = omega (arith, ints, h, p.along);
-  }),
-)
 
 -- what two facts say alike
 pub by_strip : (B S N : Type 0) → B ↔ S → N ↔ S → B ↔ N

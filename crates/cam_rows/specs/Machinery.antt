@@ -3,9 +3,7 @@
 pub mod Beside
 pub mod Chords
 pub mod HalfPlanes
-pub mod Linear
 pub mod Narrowing
 pub mod Quarters
 pub mod Slopes
 pub mod Ties
-pub mod Ways

@@ -4,6 +4,7 @@ ghost use Rattle.std.specs.Prelude.{◌≡◌, IsTrue};
 ghost use Rattle.cam_shapes.specs.Cap.{IsSoundCap, is_in_cap, is_on_side};
 ghost use Rattle.cam_shapes.specs.Plane.{way};
 ghost use Rattle.cam_rows.specs.Rows.{IsRow, Marks};
+ghost use Rattle.cam_rows.specs.Runs.{IsWideRow};
 ghost use Rattle.cam_rows.specs.Machinery.HalfPlanes.{IsHalfPlaneOf};
 ghost use Rattle.cam_rows.specs.Machinery.Ties.{leads_down_or_right};
 
@@ -39,7 +40,7 @@ pub fn cap_row(cap: Cap, centres: Centres) -> u64
 /// The side of a cap's chord on which the cap lies, with the places of the chord's line that belong to it.
 pub(crate) fn side(cap: &Cap, top: &Centres) -> HalfPlane
     requires cap { IsSoundCap cap.now }
-    requires row { IsRow top.now }
+    requires row { IsWideRow top.now }
     ensures { IsHalfPlaneOf top.now (λ s. IsTrue (is_on_side s cap.now)) result }
 {
     let tie = if leads_down_or_right(cap) { 0 } else { -1 };

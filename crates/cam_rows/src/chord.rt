@@ -6,12 +6,12 @@ ghost use Rattle.std.specs.Prelude.{◌≡◌, ◌↔◌, ◌-◌, ◌*◌, ◌<
 ghost use Rattle.std.specs.Int.RustNames.{unsigned_abs};
 ghost use Rattle.cam_units.specs.Board.{IsOnBoard};
 ghost use Rattle.cam_shapes.specs.Plane.{seen_from, square};
-ghost use Rattle.cam_rows.specs.Machinery.Chords.{AreOffsetsFrom, AreOnSides, AreWithin, IsChord, IsInChord, offset};
+ghost use Rattle.cam_rows.specs.Machinery.Chords.{AreOffsetsFrom, AreOnSides, AreShort, AreWithin, IsChord};
+ghost use Rattle.cam_rows.specs.Machinery.Chords.{IsInChord, offset};
 ghost use Rattle.cam_rows.specs.Rows.{centre_at};
 ghost use Rattle.cam_rows.specs.Runs.{AreWideRows, IsInRun, IsWideRow};
 
 use crate::centres::Centres;
-use crate::offsets::Offsets;
 use crate::runs::Run;
 use cam_units::{Point, isqrt};
 use side::{ChordSide, squared};
@@ -22,14 +22,34 @@ pub(crate) const NEAR: u64 = 1 << 32;
 /// What all of them are less than.
 pub(crate) const FAR: u64 = 1 << 34;
 
+/// How far the centres of rows, one below another, lie to the right of a point, in half nanometres: the leftmost ones,
+/// how much farther each is than the one before it, and how many a row has.
+#[derive(Clone, Copy)]
+pub struct Offsets {
+    pub first: i64,
+    pub step: i64,
+    pub count: u32,
+}
+
+impl Offsets {
+    /// How far to the right a centre lies.
+    #[inline]
+    pub(crate) fn at(&self, index: u32) -> i64
+        requires { AreShort self.now.first self.now.step index }
+        ensures { result ≡ offset self.now.first self.now.step index }
+    {
+        self.first + i64::from(index) * self.step
+    }
+}
+
 /// The columns of rows, one below another, in chords of a circle: from each row to the next its ends are found by a few
 /// steps to the left and to the right of the circle's middle. What is near is found in 64 bits. Where all columns lie on
 /// one side, as of a circle that is larger than the board, the other one is not walked.
 #[derive(Clone, Copy)]
 pub(crate) struct Chord {
     offsets: Offsets,
-    left: ChordSide,
-    right: ChordSide,
+    pub left: ChordSide,
+    pub right: ChordSide,
 }
 
 impl Chord {
@@ -53,20 +73,6 @@ impl Chord {
             left: ChordSide::new(last_left.unsigned_abs(), step, middle),
             right: ChordSide::new(first_right.unsigned_abs(), step, offsets.count - middle),
         }
-    }
-
-    /// Whether none of its columns lies left of the middle.
-    pub(crate) fn has_none_left(&self) -> bool
-        ensures { IsTrue result ↔ (self.now.left.columns ≡ 0) }
-    {
-        self.left.columns == 0
-    }
-
-    /// Whether none of them lies right of it.
-    pub(crate) fn has_none_right(&self) -> bool
-        ensures { IsTrue result ↔ (self.now.right.columns ≡ 0) }
-    {
-        self.right.columns == 0
     }
 
     /// Goes to the chord of another row, where the squares of its halves are `to_left` and `to_right`: the run of the

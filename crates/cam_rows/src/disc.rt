@@ -1,13 +1,15 @@
 //! The row of a disc.
 
+ghost use Rattle.std.specs.Prelude.{◌↔◌};
+ghost use Rattle.cam_units.specs.declared.point.Spot.{Spot};
 ghost use Rattle.cam_shapes.specs.Disc.{IsInDisc, IsSoundDisc};
+ghost use Rattle.cam_rows.specs.Machinery.Narrowing.{IsNearer};
 ghost use Rattle.cam_rows.specs.Rows.{IsRow, Marks};
 
 use crate::centres::Centres;
 use crate::rows::row_of;
 use crate::run_shape::RunShape;
 use crate::runs::circle::narrow_to_circle;
-use crate::runs::disc::bound_of;
 use cam_shapes::Disc;
 
 impl RunShape for Disc {
@@ -30,4 +32,18 @@ pub fn disc_row(disc: Disc, centres: Centres) -> u64
     ensures { Marks result centres (λ s. IsInDisc s disc) }
 {
     row_of(&disc, &centres)
+}
+
+/// What the squared distances from a disc's centre are less than at its places.
+#[inline]
+#[tactic(auto, using(crate::proofs::Chords::in_no_disc, crate::proofs::Chords::cast_size, crate::proofs::Chords::in_disc_is))]
+fn bound_of(disc: &Disc) -> u64
+    requires { IsSoundDisc disc.now }
+    ensures { (s : Spot) → IsNearer disc.now.centre result s ↔ IsInDisc s disc.now }
+{
+    let radius = disc.diameter.0 as u64;
+    if radius == 0 {
+        return 0;
+    }
+    radius * radius + 1
 }

@@ -1,38 +1,45 @@
 //! Half planes, row after row: the centres on one side of a line, by the sign of a number.
 
-ghost use Rattle.std.specs.Prelude.{◌≡◌, ◌^◌, ◌<◌, ℕ, pos, ◌-ℤ◌, ◌*ℤ◌, ◌≤ℤ◌};
+ghost use Rattle.std.specs.Prelude.{◌≡◌, ◌^◌, ◌<◌, ℕ, pos, ◌+ℤ◌, ◌-ℤ◌, ◌*ℤ◌, ◌≤ℤ◌};
 ghost use Rattle.std.specs.Int.RustNames.{unsigned_abs};
 ghost use Rattle.cam_units.specs.Board.{IsOnBoard};
-ghost use Rattle.cam_shapes.specs.Plane.{cross, dot, seen_from, way};
-ghost use Rattle.cam_rows.specs.Machinery.HalfPlanes.{IsHalfPlaneOf, IsLeft, numbers_of};
-ghost use Rattle.cam_rows.specs.Machinery.Linear.{IsShortLinear};
+ghost use Rattle.cam_shapes.specs.Plane.{IsShort, cross, dot, seen_from, way};
+ghost use Rattle.cam_rows.specs.Machinery.HalfPlanes.{IsHalfPlaneOf, IsLeft};
 ghost use Rattle.cam_rows.specs.Machinery.Slopes.{lowered, number_on};
-ghost use Rattle.cam_rows.specs.Rows.{IsRow, centre_at, row_below};
+ghost use Rattle.cam_rows.specs.Rows.{centre_at, row_below};
+ghost use Rattle.cam_rows.specs.Runs.{IsWideRow};
 
 use crate::centres::Centres;
-use crate::linear::Linear;
-use crate::way::{Way, across, along};
-use cam_units::Point;
+use cam_shapes::Vector;
+use cam_units::{Point, Spot};
 
-/// The centres of rows, one below another, at which a number is not negative: that of the top row, and how much more it
-/// is in each row below.
+/// The centres of rows, one below another, at which a number is not negative: that of the leftmost one in the top row, and
+/// how much more it is from each centre to the next, and from each row to the one below.
 #[derive(Clone, Copy)]
 pub struct HalfPlane {
-    pub row: Linear,
+    pub first: i128,
+    pub step: i128,
     pub down: i128,
 }
 
 impl HalfPlane {
-    /// The places ahead of a point, or beside it, as one looks from there to another point.
-    pub(crate) fn ahead(from: &Point, to: &Point, top: &Centres) -> HalfPlane
+    /// The places ahead of a point, or beside it, as one looks along a way, or behind it where the dot product with the way
+    /// is at most `reach` below 0.
+    pub(crate) fn ahead(from: &Point, way: Vector, reach: i128, top: &Centres) -> HalfPlane
         requires from { IsOnBoard from.now }
-        requires to { IsOnBoard to.now }
-        requires row { IsRow top.now }
-        ensures { IsHalfPlaneOf top.now (λ s. pos 0 ≤ℤ dot (way from.now to.now) (seen_from from.now s)) result }
+        requires way { IsShort way }
+        requires reach { unsigned_abs reach < 2 ^ 64 }
+        requires row { IsWideRow top.now }
+        ensures holds { IsHalfPlaneOf top.now (λ s. pos 0 ≤ℤ (dot way (seen_from from.now s) +ℤ reach)) result }
+        ensures numbers { (k i : ℕ) → number_on (lowered k result) i
+            ≡ dot way (seen_from from.now (centre_at (row_below top.now k) i)) +ℤ reach }
+        ensures step { result.step ≡ way.x *ℤ top.now.step }
     {
+        let leftmost = Spot { x: top.x, y: top.y };
         HalfPlane {
-            row: along(from, to, top),
-            down: Way::between(from, to).dot_down(top),
+            first: way.dot(Vector::seen_from(*from, leftmost)) + reach,
+            step: i128::from(way.x) * i128::from(top.step),
+            down: -(i128::from(way.y) * i128::from(top.step)),
         }
     }
 
@@ -42,29 +49,17 @@ impl HalfPlane {
         requires from { IsOnBoard from.now }
         requires to { IsOnBoard to.now }
         requires reach { unsigned_abs reach < 2 ^ 64 }
-        requires row { IsRow top.now }
+        requires row { IsWideRow top.now }
         ensures holds { IsHalfPlaneOf top.now (IsLeft from.now to.now reach) result }
-        ensures step { result.row.step ≡ (pos 0 -ℤ (way from.now to.now).y) *ℤ top.now.step }
+        ensures numbers { (k i : ℕ) → number_on (lowered k result) i
+            ≡ cross (way from.now to.now) (seen_from from.now (centre_at (row_below top.now k) i)) +ℤ reach }
+        ensures step { result.step ≡ (pos 0 -ℤ (way from.now to.now).y) *ℤ top.now.step }
     {
-        HalfPlane {
-            row: across(from, to, top).raised(reach),
-            down: Way::between(from, to).turned_left().dot_down(top),
-        }
-    }
-
-    /// The places at which the cross product with the way from a point to another one is not negative.
-    pub(crate) fn line(from: &Point, to: &Point, top: &Centres) -> HalfPlane
-        requires from { IsOnBoard from.now }
-        requires to { IsOnBoard to.now }
-        requires row { IsRow top.now }
-        ensures numbers { (k i : ℕ) → number_on (lowered k (numbers_of result)) i
-            ≡ cross (way from.now to.now) (seen_from from.now (centre_at (row_below top.now k) i)) }
-        ensures row { IsShortLinear result.row }
-        ensures down { unsigned_abs result.down < 2 ^ 100 }
-    {
-        HalfPlane {
-            row: across(from, to, top),
-            down: Way::between(from, to).turned_left().dot_down(top),
-        }
+        let way = Vector::between(*from, *to);
+        let to_the_left = Vector {
+            x: -way.y,
+            y: way.x,
+        };
+        HalfPlane::ahead(from, to_the_left, reach, top)
     }
 }

@@ -7,7 +7,6 @@ use crate::centres::Centres;
 use crate::rows::row_of;
 use crate::run_shape::RunShape;
 use crate::runs::circle::narrow_to_circle;
-use crate::runs::hole::bound_of;
 use cam_shapes::Disc;
 
 /// The hole of an aperture: a disc without its edge. The diameter is in nanometres.
@@ -20,7 +19,8 @@ impl RunShape for Hole {
     ghost holds = { λ h s. IsInHole s h.0 };
 
     fn find(&self, top: &Centres, firsts: &mut [u32], ends: &mut [u32]) {
-        let bound = u128::from(bound_of(&self.0));
+        let radius = self.0.diameter.0 as u64;
+        let bound = u128::from(radius * radius);
         narrow_to_circle(&self.0.centre, bound, top, firsts, ends);
     }
 }

@@ -52,8 +52,6 @@
 
 mod arc;
 mod bar;
-mod beside;
-mod bits;
 mod cap;
 mod capsule;
 mod centres;
@@ -65,18 +63,14 @@ mod half_plane;
 mod hole;
 mod lanes;
 mod laws;
-mod linear;
 mod obround;
-mod offsets;
 mod rect;
 mod ring;
 mod rows;
 mod run_shape;
 mod runs;
 mod slope;
-mod sweep;
 mod swept;
-mod way;
 
 pub use arc::{Beyond, Hollow, Outer, arc_row};
 pub use bar::bar_row;

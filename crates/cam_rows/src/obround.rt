@@ -6,11 +6,11 @@ ghost use Rattle.cam_rows.specs.Machinery.Quarters.{IsInQuarter};
 ghost use Rattle.cam_rows.specs.Rows.{IsRow, Marks};
 
 use crate::centres::Centres;
-use crate::circle::half_chord;
 use crate::rows::row_of;
 use crate::run_shape::RunShape;
 use crate::runs::obround::obround_runs;
 use cam_shapes::Obround;
+use cam_units::isqrt;
 
 impl RunShape for Obround {
     ghost is_sound = { IsSoundObround };
@@ -35,6 +35,7 @@ pub fn obround_row(obround: Obround, centres: Centres) -> u64
 
 /// How far an obround of these sides reaches to the left and to the right of its centre, so far over it: half its
 /// straight part, and half the chord of its round ends where the row passes those.
+#[tactic(auto, using(crate::proofs::Circling::short_root))]
 pub(crate) fn reach_at(over: u64, width: u64, height: u64) -> u64
     requires low { over ≤ height }
     requires width { width < 2 ^ 28 }
@@ -47,5 +48,5 @@ pub(crate) fn reach_at(over: u64, width: u64, height: u64) -> u64
     if past_straight == 0 {
         return width;
     }
-    width - radius + half_chord(u128::from(radius * radius - past_straight * past_straight))
+    width - radius + isqrt(u128::from(radius * radius - past_straight * past_straight))
 }

@@ -1,8 +1,6 @@
 //! The circles that bound an arc's stroke.
 
-ghost use Rattle.std.specs.Prelude.{◌≡◌, ◌^◌, ◌<◌, pos};
 ghost use Rattle.cam_shapes.specs.Arc.{IsSoundArc};
-ghost use Rattle.cam_shapes.specs.Plane.{square};
 ghost use Rattle.cam_rows.specs.ArcRuns.{IsRingOf};
 
 use crate::circle::squared_distance;
@@ -23,7 +21,8 @@ pub fn ring_of(arc: &Arc) -> Ring
     ensures { IsRingOf result arc.now }
 {
     let radius = squared_distance(&arc.centre, &arc.from);
-    let width = squared_width(arc);
+    let width = arc.width.0 as u64;
+    let width = u128::from(width * width);
     let spread = u128::from(isqrt(4 * width * radius));
     let outer = radius + width + spread + 1;
     if radius <= width {
@@ -33,14 +32,4 @@ pub fn ring_of(arc: &Arc) -> Ring
         inner: (radius + width).saturating_sub(spread),
         outer,
     }
-}
-
-/// The square of an arc's width.
-fn squared_width(arc: &Arc) -> u128
-    requires { IsSoundArc arc.now }
-    ensures value { pos result ≡ square arc.now.width.0 }
-    ensures bound { result < 2 ^ 56 }
-{
-    let width = arc.width.0 as u64;
-    u128::from(width * width)
 }

@@ -6,20 +6,15 @@ mod beside_line;
 mod boxes;
 pub(crate) mod cap;
 pub(crate) mod circle;
-pub(crate) mod disc;
 pub(crate) mod edge;
-pub(crate) mod hole;
 mod narrowing;
 pub(crate) mod obround;
 pub(crate) mod rect;
 pub(crate) mod swept;
-mod wide;
 
 ghost use Rattle.std.specs.Prelude.{◌+◌, ◌<◌, ◌≤◌, ◌↔◌, ℕ};
 ghost use Rattle.std.specs.Int.{IsBitSet};
 ghost use Rattle.cam_rows.specs.Runs.{IsInRun};
-
-use crate::bits::bits_between;
 
 /// Columns of a row side by side: the first of them, and the one behind the last.
 #[derive(Clone, Copy)]
@@ -28,16 +23,9 @@ pub(crate) struct Run {
     pub(crate) end: u32,
 }
 
-/// The places from one vertical to another, both included; in half nanometres. There are none where `right` is less
-/// than `left`.
-#[derive(Clone, Copy)]
-pub(crate) struct Strip {
-    pub(crate) left: i64,
-    pub(crate) right: i64,
-}
-
 /// The bits of a run from a column of its row on: bit i for the column that stands so far to the right, of so many.
 #[inline]
+#[tactic(auto, using(crate::proofs::SetBits::between_shifts))]
 pub fn run_row(first: u32, end: u32, column: u32, count: u32) -> u64
     requires few { count ≤ 64 }
     ensures { (i : ℕ) → i < 64 → IsBitSet result i ↔ ((i < count) × IsInRun first end (column + i)) }
@@ -47,5 +35,5 @@ pub fn run_row(first: u32, end: u32, column: u32, count: u32) -> u64
     if to <= from {
         return 0;
     }
-    bits_between(from, to)
+    (u64::MAX << from) & (u64::MAX >> (64 - to))
 }

@@ -1,16 +1,12 @@
 //! Rows of the strokes of rectangles.
 
-ghost use Rattle.std.specs.Prelude.{◌≡◌, ◌^◌, ◌<◌};
-ghost use Rattle.std.specs.Int.RustNames.{unsigned_abs};
-ghost use Rattle.cam_shapes.specs.Plane.{way};
-ghost use Rattle.cam_shapes.specs.Swept.{IsInSwept, IsSoundSwept, corner_reach};
+ghost use Rattle.cam_shapes.specs.Swept.{IsInSwept, IsSoundSwept};
 ghost use Rattle.cam_rows.specs.Rows.{IsRow, Marks};
 
 use crate::centres::Centres;
 use crate::rows::row_of;
 use crate::run_shape::RunShape;
 use crate::runs::swept::swept_runs;
-use crate::way::Way;
 use cam_shapes::Swept;
 
 impl RunShape for Swept {
@@ -33,17 +29,4 @@ pub fn swept_row(swept: Swept, centres: Centres) -> u64
     ensures { Marks result centres (λ s. IsInSwept s swept) }
 {
     row_of(&swept, &centres)
-}
-
-/// The greatest cross product of the line's way and a corner of the rectangle about its start.
-pub(crate) fn corner_reach(swept: &Swept) -> i128
-    requires { IsSoundSwept swept.now }
-    ensures value { result
-        ≡ corner_reach (way swept.now.from swept.now.to) swept.now.width.0 swept.now.height.0 }
-    ensures bound { unsigned_abs result < 2 ^ 64 }
-{
-    let way = Way::between(&swept.from, &swept.to);
-    let across = swept.width.0 as u64 * way.y.unsigned_abs();
-    let along = swept.height.0 as u64 * way.x.unsigned_abs();
-    i128::from(across + along)
 }

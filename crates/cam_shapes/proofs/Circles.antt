@@ -13,7 +13,7 @@ use Rattle.cam_units.proofs.Ring.{Polynomial, Atom, Sum, Difference, Product, eq
 use Rattle.cam_shapes.specs.declared.vector.Vector.{Vector}
 use Rattle.cam_shapes.specs.Plane.{cross, square}
 use Rattle.cam_shapes.specs.Arc.{IsBetweenCircles, IsInSweep, IsNarrow}
-use Rattle.cam_shapes.proofs.Widths.{kept, less_is, passed_less, passed_square, wide}
+use Rattle.cam_shapes.proofs.Widths.{kept, less_is, passed_less, wide}
 
 apart : {z : ℤ} → pos 0 <ℤ z → z <ℤ pos 0 → ⊥
 apart p n = omega (arith, ints)
@@ -51,14 +51,10 @@ times_four s q = equal
     (Product (Product (Atom (pos 4)) (Atom s)) (Atom q))
     (omega arith)
 
--- the second form, where its sides were passed on in 128 bits
-pub passed_circle : (b : Bool) (x m p q r : ℤ) → unsigned_abs x < 2 ^ 126 → unsigned_abs m < 2 ^ 126
-    → x ≡ p -ℤ q -ℤ square r → m ≡ pos 4 *ℤ (square r *ℤ q)
-    → (IsTrue b ↔ square (wide x) ≤ℤ wide m) → (IsTrue b ↔ IsBetweenCircles p q r)
-passed_circle b x m p q r h k e f told =
-    through
-    (passed_square b x m (p -ℤ q -ℤ square r) (pos 4 *ℤ square r *ℤ q) h k e (f ∙ times_four (square r) q) told)
-    (same_inequality p q (square r))
+-- the second form is the first
+pub told_circle : (b : Bool) (p q r : ℤ) → (IsTrue b ↔ square (p -ℤ q -ℤ square r) ≤ℤ (pos 4 *ℤ (square r *ℤ q)))
+    → (IsTrue b ↔ IsBetweenCircles p q r)
+told_circle b p q r told = through (rw (times_four (square r) q) at told) (same_inequality p q (square r))
 
 -- a cross product r and a dot product d that were passed on in 128 bits: where r is 0, d tells whether the sweep is narrow
 module _ (r u : ℤ) (short : unsigned_abs r < 2 ^ 67) (is : r ≡ u) where

@@ -82,7 +82,7 @@ natural_squares c w l some h =
     ap (λ z. z *ℤ l) (square_is w) ∙ natural_product (unsigned_abs w * unsigned_abs w) l some in
     omega (arith, ints, h, square_is c, times)
 
-product_root : (a c w l : ℤ) → square a ≤ℤ l → square c ≤ℤ (square w *ℤ l)
+pub product_root : (a c w l : ℤ) → square a ≤ℤ l → square c ≤ℤ (square w *ℤ l)
     → unsigned_abs (a *ℤ c) ≤ unsigned_abs (w *ℤ l)
 product_root a c w l h k =
     let some : pos 0 ≤ℤ l = omega (arith, ints, h, square_is a) in
@@ -111,7 +111,7 @@ left a v =
     (Product (Atom a.y) (Difference (two a.x v.y) (two a.y v.x))))
     (omega arith)
 
-over : (a v : Vector) → v.y *ℤ dot a a ≡ a.y *ℤ dot a v +ℤ a.x *ℤ cross a v
+pub over : (a v : Vector) → v.y *ℤ dot a a ≡ a.y *ℤ dot a v +ℤ a.x *ℤ cross a v
 over a v =
     equal
     (Product (Atom v.y) (Sum (two a.x a.x) (two a.y a.y)))
@@ -127,13 +127,13 @@ under a v =
     (Difference (Atom (pos 0)) (Product (Atom a.x) (Difference (two a.x v.y) (two a.y v.x)))))
     (omega arith)
 
-first_square : (a : Vector) → square a.x ≤ℤ dot a a
+pub first_square : (a : Vector) → square a.x ≤ℤ dot a a
 first_square a = omega (arith, ints, square_is a.x, square_is a.y)
 
 second_square : (a : Vector) → square a.y ≤ℤ dot a a
 second_square a = omega (arith, ints, square_is a.x, square_is a.y)
 
-up_to : (z t : ℤ) → unsigned_abs z ≤ unsigned_abs t → pos 0 ≤ℤ t → (z ≤ℤ t) × ((pos 0 -ℤ z) ≤ℤ t)
+pub up_to : (z t : ℤ) → unsigned_abs z ≤ unsigned_abs t → pos 0 ≤ℤ t → (z ≤ℤ t) × ((pos 0 -ℤ z) ≤ℤ t)
 up_to z t h some = (omega (arith, ints), omega (arith, ints))
 
 at_least : (z : ℤ) → pos 0 <ℤ z → pos 0 ≤ℤ z

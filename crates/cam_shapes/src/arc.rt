@@ -1,11 +1,9 @@
 //! Arc strokes.
 
-ghost use Rattle.std.specs.Prelude.{◌≡◌, ◌^◌, ◌<◌, pos, ◌-ℤ◌, ◌*ℤ◌, ◌≤ℤ◌, ◌<ℤ◌, ◌↔◌, IsTrue};
-ghost use Rattle.std.specs.Int.RustNames.{unsigned_abs};
+ghost use Rattle.std.specs.Prelude.{pos, ◌≤ℤ◌, ◌↔◌, IsTrue};
 ghost use Rattle.cam_units.specs.Board.{IsInReach, IsSize};
-ghost use Rattle.cam_shapes.specs.Plane.{IsShort, cross, dot, square};
-ghost use Rattle.cam_shapes.specs.Arc.{IsBetweenCircles, IsInArc, IsInSweep, IsNarrow, IsNearCircle, IsSoundArc};
-ghost use Rattle.cam_shapes.specs.Arc.{IsSumWithin, IsSwept};
+ghost use Rattle.cam_shapes.specs.Plane.{IsShort, cross, dot};
+ghost use Rattle.cam_shapes.specs.Arc.{IsInArc, IsInSweep, IsNarrow, IsNearCircle, IsSoundArc, IsSwept};
 
 use crate::products::{has_square_within, squared_product};
 use crate::size::{is_positive, squared};
@@ -68,15 +66,15 @@ fn is_in_sweep(start: Vector, end: Vector, seen: Vector) -> bool
     requires seen { IsShort seen }
     ensures { IsTrue result ↔ IsInSweep start end seen }
 {
+    if start == end {
+        return true;
+    }
     let after_start = is_left_or_along(start, seen);
     let before_end = is_left_or_along(seen, end);
-    if start == end {
-        true
-    } else if is_narrow(start, end) {
-        after_start && before_end
-    } else {
-        is_wide(start, end) && (after_start || before_end)
+    if is_narrow(start, end) {
+        return after_start && before_end;
     }
+    start.cross(end) < 0 && (after_start || before_end)
 }
 
 /// Whether `second` points left of `first`, or along its line.
@@ -98,15 +96,6 @@ fn is_narrow(start: Vector, end: Vector) -> bool
     turn > 0 || turn == 0 && start.dot(end) < 0
 }
 
-/// Whether the sweep counterclockwise from the start to the end is more than a half turn.
-fn is_wide(start: Vector, end: Vector) -> bool
-    requires start { IsShort start }
-    requires end { IsShort end }
-    ensures { IsTrue result ↔ cross start end <ℤ pos 0 }
-{
-    start.cross(end) < 0
-}
-
 /// Whether a place is at most `radius` from the circle about the centre through the start.
 fn is_near_circle(start: Vector, seen: Vector, radius: Nm) -> bool
     requires start { IsShort start }
@@ -114,51 +103,14 @@ fn is_near_circle(start: Vector, seen: Vector, radius: Nm) -> bool
     requires radius { IsSize radius.0 }
     ensures { IsTrue result ↔ IsNearCircle (dot seen seen) (dot start start) radius.0 }
 {
-    is_sum_within(start, seen, radius) || is_between_circles(start, seen, radius)
-}
-
-/// Whether the squares of the distances of the place and of the start from the centre are
-/// together at most that of the radius.
-fn is_sum_within(start: Vector, seen: Vector, radius: Nm) -> bool
-    requires start { IsShort start }
-    requires seen { IsShort seen }
-    requires radius { IsSize radius.0 }
-    ensures { IsTrue result ↔ IsSumWithin (dot seen seen) (dot start start) radius.0 }
-{
-    seen.dot(seen) + start.dot(start) <= squared(radius)
-}
-
-/// Whether a place lies between the circles about the centre that are `radius` inside and
-/// outside the one through the start, where the inner one does not pass the centre.
-fn is_between_circles(start: Vector, seen: Vector, radius: Nm) -> bool
-    requires start { IsShort start }
-    requires seen { IsShort seen }
-    requires radius { IsSize radius.0 }
-    ensures { IsTrue result ↔ IsBetweenCircles (dot seen seen) (dot start start) radius.0 }
-{
-    has_square_within(
-        circle_root(start, seen, radius),
-        circle_bound(start, radius),
-    )
-}
-
-/// The difference whose square is compared.
-fn circle_root(start: Vector, seen: Vector, radius: Nm) -> i128
-    requires start { IsShort start }
-    requires seen { IsShort seen }
-    requires radius { IsSize radius.0 }
-    ensures value { result ≡ dot seen seen -ℤ dot start start -ℤ square radius.0 }
-    ensures bound { unsigned_abs result < 2 ^ 126 }
-{
-    seen.dot(seen) - start.dot(start) - squared(radius)
-}
-
-/// What that square is compared with.
-fn circle_bound(start: Vector, radius: Nm) -> i128
-    requires start { IsShort start }
-    requires radius { IsSize radius.0 }
-    ensures value { result ≡ pos 4 *ℤ (square radius.0 *ℤ dot start start) }
-    ensures bound { unsigned_abs result < 2 ^ 126 }
-{
-    4 * squared_product(radius, start)
+    let place = seen.dot(seen);
+    let circle = start.dot(start);
+    let squared_radius = squared(radius);
+    // together they are at most the square of the radius, or the place lies between the circles that are `radius` inside
+    // and outside the one through the start, where the inner one does not pass the centre
+    place + circle <= squared_radius
+        || has_square_within(
+            place - circle - squared_radius,
+            4 * squared_product(radius, start),
+        )
 }

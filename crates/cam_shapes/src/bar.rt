@@ -3,7 +3,7 @@
 ghost use Rattle.std.specs.Prelude.{◌↔◌, IsTrue};
 ghost use Rattle.cam_units.specs.Board.{IsInReach, IsSize};
 ghost use Rattle.cam_shapes.specs.Plane.{IsShort};
-ghost use Rattle.cam_shapes.specs.Bar.{IsBeside, IsBetweenEnds, IsInBar, IsNearLine, IsSoundBar};
+ghost use Rattle.cam_shapes.specs.Bar.{IsBeside, IsBetweenEnds, IsInBar, IsSoundBar};
 
 use crate::products::{has_square_within, squared_product};
 use crate::size::is_positive;
@@ -38,7 +38,7 @@ pub fn is_beside(way: Vector, seen: Vector, radius: Nm) -> bool
     requires radius { IsSize radius.0 }
     ensures { IsTrue result ↔ IsBeside way seen radius.0 }
 {
-    is_between_ends(way, seen) && is_near_line(way, seen, radius)
+    is_between_ends(way, seen) && has_square_within(way.cross(seen), squared_product(radius, way))
 }
 
 /// Whether a place, seen from the start of a way of some length, is between the way's ends.
@@ -53,14 +53,4 @@ fn is_between_ends(way: Vector, seen: Vector) -> bool
     }
     let along = way.dot(seen);
     0 <= along && along <= length
-}
-
-/// Whether a place, seen from the start of a way, is at most `radius` from the way's line.
-fn is_near_line(way: Vector, seen: Vector, radius: Nm) -> bool
-    requires way { IsShort way }
-    requires seen { IsShort seen }
-    requires radius { IsSize radius.0 }
-    ensures { IsTrue result ↔ IsNearLine way seen radius.0 }
-{
-    has_square_within(way.cross(seen), squared_product(radius, way))
 }

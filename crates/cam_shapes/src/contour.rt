@@ -1,6 +1,6 @@
 //! Contours.
 
-ghost use Rattle.std.specs.Prelude.{◌≡◌, ◌↔◌, All, IfOk, IsTrue, map};
+ghost use Rattle.std.specs.Prelude.{◌≡◌, ◌↔◌, All, IsTrue, map};
 ghost use Rattle.cam_units.specs.Board.{IsInReach, IsOnBoard};
 ghost use Rattle.cam_shapes.specs.Contour.{IsInContour, IsSoundSeg};
 ghost use Rattle.cam_shapes.specs.Placing.{IsOffset, IsPlaceable, IsPlaceableSeg, placed_contour, placed_seg};
@@ -11,26 +11,13 @@ use crate::edge::in_edge;
 use crate::placing::Placing;
 use crate::segments::{Seg, Segments};
 use cam_units::{Point, Spot, Turn};
-use std::alloc::{AllocError, Global};
 
 /// A closed line of segments. Where the last one does not end at the start, a straight line
 /// closes it.
-#[derive(Debug, Drop)]
+#[derive(Clone, Debug, Drop)]
 pub struct Contour {
     pub start: Point,
     pub segs: Segments,
-}
-
-impl Contour {
-    /// A copy; an error where no memory is left for it.
-    pub fn try_clone(&self, alloc: Global) -> Result<Contour, AllocError>
-        ensures { IfOk result (λ c. c ≡ self.now) }
-    {
-        Ok(Contour {
-            start: self.start,
-            segs: self.segs.try_clone(alloc)?,
-        })
-    }
 }
 
 /// Whether the place is in the contour, once the contour is turned about (0, 0) and then moved:

@@ -2,7 +2,7 @@
 
 ghost use Rattle.std.specs.Prelude.{◌≡◌};
 ghost use Rattle.cam_units.specs.Board.{IsInReach, IsOnBoard};
-ghost use Rattle.cam_shapes.specs.Edge.{crosses_ray, edge, is_above, is_left, is_right};
+ghost use Rattle.cam_shapes.specs.Edge.{crosses_ray, edge, is_above};
 
 use crate::vector::Vector;
 use cam_units::{Point, Spot};
@@ -15,11 +15,12 @@ pub fn in_edge(spot: Spot, from: Point, to: Point) -> bool
     requires to { IsOnBoard to }
     ensures { result ≡ crosses_ray spot (edge from to) }
 {
-    if is_above(from, spot) {
-        !is_above(to, spot) && is_right(spot, from, to)
-    } else {
-        is_above(to, spot) && is_left(spot, from, to)
+    let is_falling = is_above(from, spot);
+    if is_above(to, spot) == is_falling {
+        return false;
     }
+    let side = Vector::between(from, to).cross(Vector::seen_from(from, spot));
+    if is_falling { side < 0 } else { side > 0 }
 }
 
 /// Whether the point is higher than the place.
@@ -28,24 +29,4 @@ fn is_above(point: Point, spot: Spot) -> bool
     ensures { result ≡ is_above point spot }
 {
     spot.y < 2 * point.y
-}
-
-/// Whether the place is right of the edge.
-fn is_right(spot: Spot, from: Point, to: Point) -> bool
-    requires spot { IsInReach spot }
-    requires from { IsOnBoard from }
-    requires to { IsOnBoard to }
-    ensures { result ≡ is_right spot (edge from to) }
-{
-    Vector::between(from, to).cross(Vector::seen_from(from, spot)) < 0
-}
-
-/// Whether the place is left of the edge.
-fn is_left(spot: Spot, from: Point, to: Point) -> bool
-    requires spot { IsInReach spot }
-    requires from { IsOnBoard from }
-    requires to { IsOnBoard to }
-    ensures { result ≡ is_left spot (edge from to) }
-{
-    Vector::between(from, to).cross(Vector::seen_from(from, spot)) > 0
 }

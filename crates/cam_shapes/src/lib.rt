@@ -13,6 +13,8 @@
 //! - [`in_contour`]: a region, by an odd number of [`in_edge`] and [`in_cap`]; [`in_outline`]: an
 //!   outline of a macro, by its points.
 //! - [`Placing`]: where the points and segments of a contour come to lie, once it is turned and moved.
+//! - [`Vector`]: the way from one place to another, and its products; [`low_corner`], [`high_corner`], [`corner_reach`]: how
+//!   far the stroke of a rectangle reaches.
 //!
 //! A shape with a diameter, side or width of 0 covers nothing. No test takes memory.
 //!
@@ -66,4 +68,5 @@ pub use placing::Placing;
 pub use rectangle::{Rectangle, in_rect};
 pub use segments::{Seg, Segments};
 pub use shifting::shifted;
-pub use swept::{Swept, in_swept};
+pub use swept::{Swept, corner_reach, high_corner, in_swept, low_corner};
+pub use vector::Vector;

@@ -4,7 +4,7 @@ ghost use Rattle.std.specs.Prelude.{◌≡◌, ◌↔◌, IsTrue};
 ghost use Rattle.cam_units.specs.Board.{IsInReach, IsSize};
 ghost use Rattle.cam_shapes.specs.Plane.{IsSeen, IsShort};
 ghost use Rattle.cam_shapes.specs.Box.{IsAlong, IsInObround, IsRounded, IsSoundObround, from_left_end};
-ghost use Rattle.cam_shapes.specs.Box.{from_right_end, swapped};
+ghost use Rattle.cam_shapes.specs.Box.{from_right_end};
 
 use crate::size::{excess, is_positive};
 use crate::vector::Vector;
@@ -44,7 +44,11 @@ fn is_rounded(seen: Vector, width: Nm, height: Nm) -> bool
     if width.0 >= height.0 {
         is_along(seen, excess(width, height), height)
     } else {
-        is_along(swapped(seen), excess(height, width), width)
+        let swapped = Vector {
+            x: seen.y,
+            y: seen.x,
+        };
+        is_along(swapped, excess(height, width), width)
     }
 }
 
@@ -84,17 +88,5 @@ fn from_right_end(seen: Vector, reach: Nm) -> Vector
     Vector {
         x: seen.x - reach.0,
         y: seen.y,
-    }
-}
-
-/// The way with its axes changed for one another.
-fn swapped(seen: Vector) -> Vector
-    requires { IsSeen seen }
-    ensures value { result ≡ swapped seen }
-    ensures seen { IsSeen result }
-{
-    Vector {
-        x: seen.y,
-        y: seen.x,
     }
 }

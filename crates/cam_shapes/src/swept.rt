@@ -66,7 +66,7 @@ fn is_ordered(low: Spot, high: Spot) -> bool
 }
 
 /// The left lower corner of the box of both ends, widened by the sides.
-fn low_corner(swept: Swept) -> Spot
+pub fn low_corner(swept: Swept) -> Spot
     requires { IsSoundSwept swept }
     ensures { result ≡ low_corner swept }
 {
@@ -78,7 +78,7 @@ fn low_corner(swept: Swept) -> Spot
 }
 
 /// The right upper corner of the box of both ends, widened by the sides.
-fn high_corner(swept: Swept) -> Spot
+pub fn high_corner(swept: Swept) -> Spot
     requires { IsSoundSwept swept }
     ensures { result ≡ high_corner swept }
 {
@@ -102,7 +102,7 @@ fn is_near_way(way: Vector, seen: Vector, width: Nm, height: Nm) -> bool
 }
 
 /// The greatest cross product of a way and a corner of the rectangle about the way's start.
-fn corner_reach(way: Vector, width: Nm, height: Nm) -> u64
+pub fn corner_reach(way: Vector, width: Nm, height: Nm) -> u64
     requires way { IsShort way }
     requires width { IsSize width.0 }
     requires height { IsSize height.0 }

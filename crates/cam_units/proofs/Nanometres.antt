@@ -2,8 +2,7 @@
 use Rattle.std.proofs.Common.{◌≡◌, ℕ, suc, ◌^◌, ◌<◌, ◌≤◌, ℤ, pos, negsuc, ◌-ℤ◌, ◌*ℤ◌, ◌≤ℤ◌, ◌<ℤ◌, true, false}
 use Rattle.std.proofs.Common.{FitsSigned, to_z, of_z, w64, refl, ap, ◌∙◌, arith}
 use Rattle.std.specs.Int.{w128}
-use Rattle.std.proofs.lemmas.Int.{ints, fits_signed_from_abs, unsigned_abs-mul}
-use Rattle.std.proofs.lemmas.Nat.{mul-le}
+use Rattle.std.proofs.lemmas.Int.{ints}
 use Rattle.std.specs.Int.RustNames.{unsigned_abs}
 use Rattle.cam_units.specs.declared.length.Unit.{Unit as FileUnit}
 use Rattle.cam_units.specs.declared.length.Unit.TheVariants.{Mm, Inch}
@@ -59,35 +58,6 @@ fitting_length r n e h = omega (arith, ints)
 -- a number of 64 bits, passed on
 pub kept_number : (v : ℤ) → FitsSigned w64 v → narrow v ≡ v
 kept_number v h = omega (arith, ints, h)
-
-kept_wide : (z : ℤ) → unsigned_abs z ≤ 2 ^ 88 → wide z ≡ z
-kept_wide z h = omega (arith, ints)
-
--- a coordinate times the nanometres of a unit
-product_short : (n : ℤ) (k : ℕ) → unsigned_abs n ≤ 2 ^ 63 → k < 2 ^ 25 → unsigned_abs (n *ℤ pos k) ≤ 2 ^ 88
-product_short n k p q =
-    let long : k ≤ 2 ^ 25 = omega arith in
-    omega (arith, unsigned_abs-mul n (pos k), mul-le (unsigned_abs n) k (2 ^ 63) (2 ^ 25) p long)
-
-factors : (n r t : ℤ) (k : ℕ) → FitsSigned w64 n → r ≡ narrow n → t ≡ pos k → k < 2 ^ 25
-    → wide r *ℤ wide t ≡ n *ℤ pos k
-factors n r t k h e f q =
-    let first : wide r ≡ n = omega (arith, ints) in
-    let second : wide t ≡ pos k = omega (arith, ints) in
-    rw (first, second) refl
-
-pub product_fits : (n r t : ℤ) (k : ℕ) → FitsSigned w64 n → r ≡ narrow n → t ≡ pos k → k < 2 ^ 25
-    → FitsSigned w128 (wide r *ℤ wide t)
-product_fits n r t k h e f q =
-    let short = product_short n k (at_most n h) q in
-    rw (factors n r t k h e f q) (fits_signed_from_abs w128 (n *ℤ pos k) (omega (arith, short)))
-
-pub kept_product : (n r t : ℤ) (k m : ℕ) → FitsSigned w64 n → r ≡ narrow n → t ≡ pos k → k < 2 ^ 25 → k ≡ m
-    → (wide (wide r *ℤ wide t) ≡ n *ℤ pos m) × (unsigned_abs (wide (wide r *ℤ wide t)) ≤ 2 ^ 126)
-kept_product n r t k m h e f q same =
-    let short : unsigned_abs (n *ℤ pos k) ≤ 2 ^ 88 = product_short n k (at_most n h) q in
-    let kept : wide (n *ℤ pos k) ≡ n *ℤ pos k = kept_wide (n *ℤ pos k) short in
-    rw (factors n r t k h e f q, kept, ← same) (refl, omega (arith, short))
 
 -- a rounded quotient with its sign, as 128 bits compute it
 kept_size : (m : ℕ) → m ≤ 2 ^ 126 → to_z w128 m ≡ pos m

@@ -1,8 +1,8 @@
 //! Items in order.
 
-ghost use Rattle.std.specs.Prelude.{◌≡◌, IfOk};
+ghost use Rattle.std.specs.Prelude.{◌≡◌, ◌++◌, ◌∷◌, [], OnOk};
 
-use std::alloc::{AllocError, Global};
+use std::alloc::AllocError;
 use std::marker::Model;
 
 /// Items in order, which contracts see as a list.
@@ -57,13 +57,13 @@ impl<T> Items<T> {
     }
 }
 
-impl<T: Copy> Items<T> {
-    /// A copy; an error where no memory is left for it.
-    pub fn try_clone(&self, alloc: Global) -> Result<Items<T>, AllocError>
-        ensures { IfOk result (λ copy. copy ≡ self.now) }
+impl<T: Drop> Items<T> {
+    /// Adds an item behind the others; refused for want of memory alone.
+    pub fn push(&mut self, item: T) -> Result<(), AllocError>
+        ensures { OnOk result (self.new ≡ self.old ++ item ∷ []) }
     {
-        let items = Vec::from_slice(alloc, self.as_slice())?;
-        Ok(Items { items })
+        self.items.push(item)?;
+        Ok(())
     }
 }
 

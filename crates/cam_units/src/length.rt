@@ -1,9 +1,9 @@
 //! Lengths to the nearest nanometre.
 
-ghost use Rattle.std.specs.Prelude.{◌≡◌, ◌^◌, ◌<◌, ◌≤◌, ◌*ℤ◌, ℤ, pos, MatchOption};
+ghost use Rattle.std.specs.Prelude.{◌≡◌, ◌^◌, ◌<◌, ◌≤◌, ◌*ℤ◌, ℤ, MatchOption};
 ghost use Rattle.std.specs.Int.RustNames.{unsigned_abs};
-ghost use Rattle.cam_units.specs.declared.length.Unit.TheVariants.{Mm};
-ghost use Rattle.cam_units.specs.Nearest.{coord_of, fix9_of, nearest_of, nm_per_unit};
+ghost use Rattle.cam_units.specs.declared.length.Unit.TheVariants.{Inch, Mm};
+ghost use Rattle.cam_units.specs.Nearest.{coord_of, fix9_of, nearest_of};
 
 /// A length in nanometres.
 #[derive(Clone, Copy, Debug, PartialEq, Eq)]
@@ -43,27 +43,6 @@ impl Quotient {
     }
 }
 
-/// 10 to the power `decimals`.
-#[tactic(auto, using(crate::proofs::NearestLaws::ten_power))]
-fn power_of_ten(decimals: u32) -> u64
-    requires { decimals ≤ 6 }
-    ensures value { result ≡ 10 ^ decimals }
-    ensures some { 0 < result }
-{
-    10u64.pow(decimals)
-}
-
-/// The nanometres of a coordinate of no decimals.
-fn nm_per_unit(unit: Unit) -> u64
-    ensures value { result ≡ nm_per_unit unit }
-    ensures bound { result < 2 ^ 25 }
-{
-    match unit {
-        Unit::Mm => 1_000_000,
-        Unit::Inch => 25_400_000,
-    }
-}
-
 /// The nanometres of a step of the last decimal of a coordinate in millimetres.
 fn nm_per_step(decimals: u32) -> i64
     requires { decimals ≤ 6 }
@@ -94,17 +73,17 @@ fn millimetres(n: i64, decimals: u32) -> Option<Nm>
     Some(Nm(length))
 }
 
-/// A coordinate in nanometres, not yet rounded.
-fn coordinate(n: i64, decimals: u32, unit: Unit) -> Quotient
+/// A coordinate in inches in nanometres, not yet rounded.
+#[tactic(auto, using(crate::proofs::NearestLaws::ten_power))]
+fn inches(n: i64, decimals: u32) -> Quotient
     requires { decimals ≤ 6 }
-    ensures above { result.above ≡ n *ℤ pos (nm_per_unit unit) }
-    ensures below { result.below ≡ 10 ^ decimals }
+    ensures value { nearest_of result.above result.below ≡ coord_of n decimals Inch }
     ensures some { 0 < result.below }
     ensures short { unsigned_abs result.above ≤ 2 ^ 126 }
 {
     Quotient {
-        above: i128::from(n) * i128::from(nm_per_unit(unit)),
-        below: power_of_ten(decimals),
+        above: i128::from(n) * 25_400_000,
+        below: 10u64.pow(decimals),
     }
 }
 
@@ -118,14 +97,16 @@ pub fn coord_nm(n: i64, decimals: u32, unit: Unit) -> Option<Nm>
         (10 ^ 18 ≤ unsigned_abs (coord_of n decimals unit))
         (λ length. (length.0 ≡ coord_of n decimals unit) × (unsigned_abs length.0 < 10 ^ 18)) }
 {
-    if unit == Unit::Mm {
-        return millimetres(n, decimals);
-    }
-    let length = coordinate(n, decimals, unit).nearest();
-    if length.unsigned_abs() < 1_000_000_000_000_000_000 {
-        Some(Nm(length as i64))
-    } else {
-        None
+    match unit {
+        Unit::Mm => millimetres(n, decimals),
+        Unit::Inch => {
+            let length = inches(n, decimals).nearest();
+            if length.unsigned_abs() < 1_000_000_000_000_000_000 {
+                Some(Nm(length as i64))
+            } else {
+                None
+            }
+        }
     }
 }
 

@@ -15,7 +15,9 @@ pub fn isqrt(n: u128) -> u64
     ensures square { result * result ≤ n }
     ensures greatest { n < (result + 1) * (result + 1) }
 {
-    let near = root_near(n);
+    let upper = nearest_u64_to_f64((n >> 64) as u64);
+    let lower = nearest_u64_to_f64((n % 0x1_0000_0000_0000_0000) as u64);
+    let near = saturating_f64_to_u64((upper * UPPER_HALF + lower).sqrt());
     if is_root(near, n) {
         return near;
     }
@@ -23,15 +25,10 @@ pub fn isqrt(n: u128) -> u64
     if is_root(below, n) {
         return below;
     }
-    divided_root(n)
-}
-
-/// About the root, by floats: no promise.
-#[inline]
-fn root_near(n: u128) -> u64 {
-    let upper = nearest_u64_to_f64((n >> 64) as u64);
-    let lower = nearest_u64_to_f64((n % 0x1_0000_0000_0000_0000) as u64);
-    saturating_f64_to_u64((upper * UPPER_HALF + lower).sqrt())
+    if n < 0x1_0000_0000_0000_0000 {
+        return short_root(n as u64);
+    }
+    long_root(n) as u64
 }
 
 /// Whether a number is the root of another one.
@@ -42,17 +39,6 @@ fn is_root(root: u64, n: u128) -> bool
 {
     let square = u128::from(root) * u128::from(root);
     square <= n && n - square <= 2 * u128::from(root)
-}
-
-/// The root, by divisions.
-fn divided_root(n: u128) -> u64
-    ensures square { result * result ≤ n }
-    ensures greatest { n < (result + 1) * (result + 1) }
-{
-    if n < 0x1_0000_0000_0000_0000 {
-        return short_root(n as u64);
-    }
-    long_root(n) as u64
 }
 
 /// The root of a number of 64 bits.

@@ -6,7 +6,7 @@ use Rattle.cam_shapes.specs.Plane.{seen_from, square}
 use Rattle.cam_rows.specs.declared.centres.Centres.{Centres}
 use Rattle.cam_rows.specs.declared.chord.Chord.{Chord}
 use Rattle.cam_rows.specs.declared.chord.side.ChordSide.{ChordSide}
-use Rattle.cam_rows.specs.declared.offsets.Offsets.{Offsets}
+use Rattle.cam_rows.specs.declared.chord.Offsets.{Offsets}
 use Rattle.cam_rows.specs.Rows.{centre_at, first_centre, row_below}
 use Rattle.cam_rows.specs.Runs.{most_columns}
 

@@ -3,16 +3,12 @@ use Rattle.std.specs.Prelude.{◌≡◌, ◌↔◌, ℕ, ◌<◌, ◌≤◌, Lis
 use Rattle.cam_units.specs.declared.point.Point.{Point}
 use Rattle.cam_units.specs.declared.point.Spot.{Spot}
 use Rattle.cam_shapes.specs.Plane.{dot, seen_from}
-use Rattle.cam_rows.specs.declared.centres.Centres.{Centres}
-use Rattle.cam_rows.specs.Machinery.Slopes.{Sloped, lowered, number_on}
+use Rattle.cam_rows.specs.declared.half_plane.HalfPlane.{HalfPlane}
+use Rattle.cam_rows.specs.Machinery.Slopes.{lowered, number_on}
 use Rattle.cam_rows.specs.Runs.{IsInRun}
 
--- the leftmost centre of a row alone
-abbrev pub leftmost : Centres → Centres
-leftmost c = record { x = c.x; y = c.y; step = c.step; n = 1 }
-
 -- the number at column i of the row that lies k steps below the top one is not negative
-abbrev pub IsUp : Sloped → ℕ → ℕ → Type 0
+abbrev pub IsUp : HalfPlane → ℕ → ℕ → Type 0
 IsUp s k i = pos 0 ≤ℤ number_on (lowered k s) i
 
 -- the square of a place's distance from a point is less than a bound

@@ -2,25 +2,20 @@
 -- another from each row to the next one.
 use Rattle.std.specs.Prelude.{◌≡◌, ℕ, ◌^◌, ◌+◌, ◌≤◌, ℤ, pos, negsuc, ◌+ℤ◌, ◌-ℤ◌, ◌*ℤ◌, ◌≤ℤ◌, ◌<ℤ◌}
 use Rattle.std.specs.Int.RustNames.{unsigned_abs}
+use Rattle.cam_rows.specs.declared.half_plane.HalfPlane.{HalfPlane}
 use Rattle.cam_rows.specs.declared.slope.Crossing.{Crossing}
 use Rattle.cam_rows.specs.declared.slope.Steps.{Steps}
 
--- those of one row, and how much more each is in the next one
-pub record Sloped : Type 0 where
-  pub first : ℤ
-  pub step : ℤ
-  pub down : ℤ
-
 -- the number at a centre, which is counted from the left
-abbrev pub number_on : Sloped → ℕ → ℤ
+abbrev pub number_on : HalfPlane → ℕ → ℤ
 number_on s i = s.first +ℤ pos i *ℤ s.step
 
 -- those of the row that lies so many steps lower
-abbrev pub lowered : ℕ → Sloped → Sloped
+abbrev pub lowered : ℕ → HalfPlane → HalfPlane
 lowered k s = record { first = s.first +ℤ pos k *ℤ s.down; step = s.step; down = s.down }
 
 -- what numbers lack: not negative where they are
-abbrev pub lacking : Sloped → Sloped
+abbrev pub lacking : HalfPlane → HalfPlane
 lacking s = record { first = negsuc 0 -ℤ s.first; step = pos 0 -ℤ s.step; down = pos 0 -ℤ s.down }
 
 -- what a quotient and a remainder stand for
@@ -28,7 +23,7 @@ abbrev pub whole : ℤ → ℤ → ℤ → ℤ
 whole quotient divisor remainder = quotient *ℤ divisor +ℤ remainder
 
 -- the numbers whose crossing is stepped through
-abbrev pub falling : Crossing → Steps → Sloped
+abbrev pub falling : Crossing → Steps → HalfPlane
 falling c t = record {
   first = whole c.columns t.divisor c.rest;
   step = pos 0 -ℤ t.divisor;

@@ -1,6 +1,6 @@
 //! The columns on one side of a circle's middle.
 
-ghost use Rattle.std.specs.Prelude.{◌≡◌, ◌↔◌, ℕ, ◌-◌, ◌*◌, ◌<◌, IsTrue, false};
+ghost use Rattle.std.specs.Prelude.{◌≡◌, ◌↔◌, ◌-◌, ◌*◌, ◌<◌, IsTrue, false};
 ghost use Rattle.cam_rows.specs.Machinery.Chords.{AreBeyond, AreNear, HasReached, IsBeyond, IsSameSide, IsSide};
 ghost use Rattle.cam_rows.specs.Machinery.Chords.{distance_at};
 
@@ -10,10 +10,10 @@ use super::NEAR;
 /// distance of neighbours, and how many they are. Those that lie in the chord of a row are the first ones of them, up to
 /// the next one; their distances have squares less than `room`.
 #[derive(Clone, Copy)]
-pub(super) struct ChordSide {
+pub(crate) struct ChordSide {
     pub(super) start: u64,
     pub(super) step: u64,
-    pub(super) columns: u32,
+    pub columns: u32,
     inside: u32,
     next: u64,
     room: u128,

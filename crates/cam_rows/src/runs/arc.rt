@@ -1,18 +1,16 @@
 //! Runs of arcs.
 
-ghost use Rattle.std.specs.Prelude.{◌≡◌, ◌↔◌, ◌<◌, IsTrue, length};
+ghost use Rattle.std.specs.Prelude.{◌≡◌, ◌↔◌, ◌<◌, IsTrue, if◌then◌else◌, length};
 ghost use Rattle.cam_units.specs.Board.{IsOnBoard};
 ghost use Rattle.cam_shapes.specs.Arc.{IsSoundArc};
-ghost use Rattle.cam_shapes.specs.Plane.{seen_from, way};
-ghost use Rattle.cam_rows.specs.ArcRuns.{IsBeyond, IsInHalf, IsLeftOut, IsOuter, IsRingOf, IsWideArc, in_turn};
+ghost use Rattle.cam_rows.specs.ArcRuns.{IsBeyond, IsInHalf, IsOuter, IsRingOf, IsWideArc, in_turn};
 ghost use Rattle.cam_rows.specs.Runs.{AreRuns, AreWideRows};
 
 use super::circle::narrow_to_circle;
 use super::narrowing::narrow_left;
 use crate::centres::Centres;
 use crate::ring::Ring;
-use crate::sweep::{cross_product, dot_product};
-use cam_shapes::Arc;
+use cam_shapes::{Arc, Vector};
 use cam_units::Point;
 
 /// The runs of an arc's outer circle in wide rows, one below another from the top one: the columns in it or on its edge,
@@ -53,11 +51,15 @@ pub fn beyond_runs(arc: &Arc, top: &Centres, firsts: &mut [u32], ends: &mut [u32
     if firsts.is_empty() {
         return;
     }
-    if arc.ccw {
-        left_out_runs(&arc.centre, &arc.from, &arc.to, top, firsts, ends);
-    } else {
-        left_out_runs(&arc.centre, &arc.to, &arc.from, top, firsts, ends);
+    firsts.fill(0);
+    if !is_wide_arc(arc) {
+        ends.fill(0);
+        return;
     }
+    ends.fill(top.n);
+    let (start, end) = counterclockwise(arc);
+    narrow_left(&start, &arc.centre, -1, top, firsts, ends);
+    narrow_left(&arc.centre, &end, -1, top, firsts, ends);
 }
 
 /// Whether an arc's sweep is more than a half turn: then it leaves out what [`beyond_runs`] finds, and else nothing.
@@ -65,13 +67,26 @@ pub fn is_wide_arc(arc: &Arc) -> bool
     requires { IsSoundArc arc.now }
     ensures { IsTrue result ↔ IsWideArc arc.now }
 {
-    if arc.ccw {
-        return cross_product(&arc.centre, &arc.from, &arc.to) < 0;
-    }
-    cross_product(&arc.centre, &arc.to, &arc.from) < 0
+    let (start, end) = counterclockwise(arc);
+    Vector::between(arc.centre, start).cross(Vector::between(arc.centre, end)) < 0
 }
 
-/// The runs of an arc's sweep, where that is at most a half turn, and else of all columns.
+/// Where an arc starts and ends, as it is passed counterclockwise.
+fn counterclockwise(arc: &Arc) -> (Point, Point)
+    requires { IsSoundArc arc.now }
+    ensures ends { result
+        ≡ (if arc.now.ccw then (arc.now.from, arc.now.to) else (arc.now.to, arc.now.from)) }
+    ensures start { IsOnBoard result.0 }
+    ensures end { IsOnBoard result.1 }
+{
+    if arc.ccw {
+        return (arc.from, arc.to);
+    }
+    (arc.to, arc.from)
+}
+
+/// The runs of an arc's sweep, where that is at most a half turn, and else of all columns; where it ends at its start, it is
+/// a full turn.
 fn turn_runs(arc: &Arc, top: &Centres, firsts: &mut [u32], ends: &mut [u32])
     requires arc { IsSoundArc arc.now }
     requires some { 0 < length firsts.old }
@@ -79,74 +94,22 @@ fn turn_runs(arc: &Arc, top: &Centres, firsts: &mut [u32], ends: &mut [u32])
     requires ends { length ends.old ≡ length firsts.old }
     ensures { AreRuns firsts.new ends.new top.now (λ s. in_turn IsInHalf arc.now s) }
 {
-    if arc.ccw {
-        half_runs(&arc.centre, &arc.from, &arc.to, top, firsts, ends);
-    } else {
-        half_runs(&arc.centre, &arc.to, &arc.from, top, firsts, ends);
-    }
-}
-
-/// The runs of a sweep about a point, counterclockwise from a start to an end, where it is at most a half turn, and else
-/// of all columns; where start and end are the same, it is a full turn.
-fn half_runs(
-    centre: &Point,
-    start: &Point,
-    end: &Point,
-    top: &Centres,
-    firsts: &mut [u32],
-    ends: &mut [u32],
-)
-    requires centre { IsOnBoard centre.now }
-    requires start { IsOnBoard start.now }
-    requires end { IsOnBoard end.now }
-    requires some { 0 < length firsts.old }
-    requires rows { AreWideRows top.now (length firsts.old) }
-    requires ends { length ends.old ≡ length firsts.old }
-    ensures { AreRuns firsts.new ends.new top.now
-        (λ s. IsInHalf (way centre.now start.now) (way centre.now end.now) (seen_from centre.now s)) }
-{
     firsts.fill(0);
     ends.fill(top.n);
-    if *start == *end {
+    let (start, end) = counterclockwise(arc);
+    if start == end {
         return;
     }
-    let turn = cross_product(centre, start, end);
+    let to_start = Vector::between(arc.centre, start);
+    let to_end = Vector::between(arc.centre, end);
+    let turn = to_start.cross(to_end);
     if turn < 0 {
         return;
     }
-    if turn == 0 && dot_product(centre, start, end) >= 0 {
+    if turn == 0 && to_start.dot(to_end) >= 0 {
         ends.fill(0);
         return;
     }
-    narrow_left(centre, start, 0, top, firsts, ends);
-    narrow_left(end, centre, 0, top, firsts, ends);
-}
-
-/// The runs of what a sweep about a point leaves out, counterclockwise from a start to an end, where it is more than a
-/// half turn; else none.
-fn left_out_runs(
-    centre: &Point,
-    start: &Point,
-    end: &Point,
-    top: &Centres,
-    firsts: &mut [u32],
-    ends: &mut [u32],
-)
-    requires centre { IsOnBoard centre.now }
-    requires start { IsOnBoard start.now }
-    requires end { IsOnBoard end.now }
-    requires some { 0 < length firsts.old }
-    requires rows { AreWideRows top.now (length firsts.old) }
-    requires ends { length ends.old ≡ length firsts.old }
-    ensures { AreRuns firsts.new ends.new top.now
-        (λ s. IsLeftOut (way centre.now start.now) (way centre.now end.now) (seen_from centre.now s)) }
-{
-    firsts.fill(0);
-    if cross_product(centre, start, end) >= 0 {
-        ends.fill(0);
-        return;
-    }
-    ends.fill(top.n);
-    narrow_left(start, centre, -1, top, firsts, ends);
-    narrow_left(centre, end, -1, top, firsts, ends);
+    narrow_left(&arc.centre, &start, 0, top, firsts, ends);
+    narrow_left(&end, &arc.centre, 0, top, firsts, ends);
 }

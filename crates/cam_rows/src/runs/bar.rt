@@ -1,23 +1,22 @@
 //! Runs of bars.
 
-ghost use Rattle.std.specs.Prelude.{◌≡◌, ◌↔◌, ◌^◌, ◌<◌, ◌≤◌, ℕ, IfSome, length};
+ghost use Rattle.std.specs.Prelude.{◌≡◌, ◌↔◌, ◌^◌, ◌<◌, ◌≤◌, ℕ, ℤ, length};
 ghost use Rattle.std.specs.Int.RustNames.{unsigned_abs};
-ghost use Rattle.cam_units.specs.declared.point.Spot.{Spot};
-ghost use Rattle.cam_units.specs.Boxes.{IsInBox};
 ghost use Rattle.cam_units.specs.Board.{IsOnBoard, IsSize};
 ghost use Rattle.cam_shapes.specs.Bar.{IsInBar, IsSoundBar};
-ghost use Rattle.cam_rows.specs.Machinery.Beside.{IsFar, IsFarOrAhead};
+ghost use Rattle.cam_shapes.specs.Plane.{dot, way};
+ghost use Rattle.cam_rows.specs.Machinery.Beside.{IsFar, IsFarOrAhead, IsInside, IsWithinReach};
 ghost use Rattle.cam_rows.specs.Machinery.Narrowing.{AreNarrowed};
 ghost use Rattle.cam_rows.specs.Rows.{centre_at, first_centre, row_below};
 ghost use Rattle.cam_rows.specs.Runs.{AreRuns, AreWideRows, IsInRun};
 
 use super::beside_line::runs_beside;
-use super::boxes::{box_runs, widened_ends};
-use crate::beside::reach_of;
+use super::boxes::box_runs;
 use crate::centres::Centres;
+use crate::circle::squared_distance;
 use crate::half_plane::HalfPlane;
-use cam_shapes::Bar;
-use cam_units::{Point, Spot};
+use cam_shapes::{Bar, Swept, Vector};
+use cam_units::{Nm, Point, isqrt};
 
 /// The runs of a bar in wide rows, one below another from the top one: the columns in it or on its edge, none where its
 /// width or its length is 0. A run goes from its first column on and before its end; the width and the ends of the bar
@@ -31,33 +30,27 @@ pub fn bar_runs(bar: &Bar, top: &Centres, firsts: &mut [u32], ends: &mut [u32])
     requires ends { length ends.old ≡ length firsts.old }
     ensures { AreRuns firsts.new ends.new top.now (λ s. IsInBar s bar.now) }
 {
-    match box_of(bar) {
-        Some((low, high)) => box_runs(&low, &high, top, firsts, ends),
-        None => slanted_runs(bar, top, firsts, ends),
-    }
-}
-
-/// The left lower corner and the right upper one of the box that a bar along an axis is; none of another bar.
-fn box_of(bar: &Bar) -> Option<(Spot, Spot)>
-    requires { IsSoundBar bar.now }
-    ensures each { IfSome result (λ c. (s : Spot) → IsInBox c.0 c.1 s ↔ IsInBar s bar.now) }
-    ensures left { IfSome result (λ c. unsigned_abs c.0.x < 2 ^ 61) }
-    ensures right { IfSome result (λ c. unsigned_abs c.1.x < 2 ^ 61) }
-{
     let Bar { from, to, width } = *bar;
-    if width.0 == 0 {
-        return None;
+    // along an axis it is a box
+    if width.0 != 0 && from.y == to.y && from.x != to.x {
+        let level = Swept {
+            from,
+            to,
+            width: Nm(0),
+            height: width,
+        };
+        box_runs(&level, top, firsts, ends);
+    } else if width.0 != 0 && from.x == to.x && from.y != to.y {
+        let upright = Swept {
+            from,
+            to,
+            width,
+            height: Nm(0),
+        };
+        box_runs(&upright, top, firsts, ends);
+    } else {
+        slanted_runs(bar, top, firsts, ends);
     }
-    if from.y == to.y {
-        if from.x == to.x {
-            return None;
-        }
-        return Some(widened_ends(&from, &to, 0, width.0));
-    }
-    if from.x == to.x {
-        return Some(widened_ends(&from, &to, width.0, 0));
-    }
-    None
 }
 
 /// The runs of a bar of any direction, by the strip along its line and the half planes ahead of its ends.
@@ -102,7 +95,7 @@ fn narrow_ahead(
     if end <= first {
         return;
     }
-    HalfPlane::ahead(from, to, &top.wide_below(first).leftmost()).narrow(
+    HalfPlane::ahead(from, Vector::between(*from, *to), 0, &top.wide_below(first)).narrow(
         top.n,
         &mut firsts[first..end],
         &mut ends[first..end],
@@ -129,4 +122,20 @@ fn rows_not_far(from: &Point, to: &Point, width: i64, top: &Centres, rows: usize
         return (0, top.rows_above(start - width + 1, rows));
     }
     (0, rows)
+}
+
+/// How far from 0 a cross product with a bar's way is at most, inside the bar: the whole root of the squares of the
+/// width and the length. It is -1, so that nothing is inside, where one of them is 0.
+fn reach_of(bar: &Bar) -> i128
+    requires { IsSoundBar bar.now }
+    ensures each { (z : ℤ) → IsWithinReach z result
+        ↔ IsInside z bar.now.width.0 (dot (way bar.now.from bar.now.to) (way bar.now.from bar.now.to)) }
+    ensures bound { unsigned_abs result < 2 ^ 64 }
+{
+    let width = bar.width.0 as u64;
+    let squared_length = squared_distance(&bar.from, &bar.to);
+    if width == 0 || squared_length == 0 {
+        return -1;
+    }
+    i128::from(isqrt(u128::from(width * width) * squared_length))
 }

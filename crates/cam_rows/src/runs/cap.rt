@@ -32,7 +32,7 @@ pub fn cap_runs(cap: &Cap, top: &Centres, firsts: &mut [u32], ends: &mut [u32])
     if cap.from == cap.to {
         return;
     }
-    side(cap, &top.leftmost()).narrow(top.n, firsts, ends);
+    side(cap, top).narrow(top.n, firsts, ends);
 }
 
 /// The runs of a cap's circle.

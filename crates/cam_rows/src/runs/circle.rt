@@ -56,9 +56,9 @@ fn narrow_sides<const REACH: u64>(
 {
     let mut chord = Chord::at_middle::<REACH>(point, top);
     chord.leap::<REACH>(room_at::<REACH>(bound, top.rise_below(0, point)));
-    if chord.has_none_left() {
+    if chord.left.columns == 0 {
         narrow_rows::<REACH, false, true>(point, bound, top, chord, firsts, ends);
-    } else if chord.has_none_right() {
+    } else if chord.right.columns == 0 {
         narrow_rows::<REACH, true, false>(point, bound, top, chord, firsts, ends);
     } else {
         narrow_rows::<REACH, true, true>(point, bound, top, chord, firsts, ends);

@@ -28,7 +28,7 @@ pub fn edge_runs(from: Point, to: Point, top: &Centres, ends: &mut [u32]) -> Opt
     if ends.is_empty() {
         return None;
     }
-    if is_above(&from, &top.leftmost()) {
+    if is_above(&from, top) {
         runs_left(&to, &from, top, ends)
     } else {
         runs_left(&from, &to, top, ends)
@@ -45,5 +45,5 @@ fn runs_left(from: &Point, to: &Point, top: &Centres, ends: &mut [u32]) -> Optio
     ensures { AreEnds (end_in result ends.new) (length ends.old) top.now
         (λ s. pos 0 <ℤ cross (way from.now to.now) (seen_from from.now s)) }
 {
-    HalfPlane::left(from, to, -1, &top.leftmost()).count_columns(top.n, ends)
+    HalfPlane::left(from, to, -1, top).count_columns(top.n, ends)
 }

@@ -3,8 +3,7 @@
 ghost use Rattle.std.specs.Prelude.{◌≡◌, ◌↔◌, ◌+◌, ◌^◌, ◌<◌, ◌≤◌, ℕ, IfSome, IsTrue, None, length, pos, ◌*ℤ◌, ◌≤ℤ◌, ◌<ℤ◌};
 ghost use Rattle.std.specs.Int.RustNames.{unsigned_abs};
 ghost use Rattle.cam_units.specs.Board.{IsOnBoard};
-ghost use Rattle.cam_rows.specs.Machinery.HalfPlanes.{IsCrossingIn, IsLeft, IsShortIn, numbers_of};
-ghost use Rattle.cam_rows.specs.Machinery.Linear.{IsShortLinear};
+ghost use Rattle.cam_rows.specs.Machinery.HalfPlanes.{IsCrossingIn, IsLeft, IsShortIn, IsShortPlane};
 ghost use Rattle.cam_rows.specs.Machinery.Narrowing.{AreCounted, AreNarrowed, IsUp};
 ghost use Rattle.cam_rows.specs.Machinery.Slopes.{lacking, lowered};
 ghost use Rattle.cam_rows.specs.Rows.{centre_at, row_below};
@@ -13,7 +12,6 @@ ghost use Rattle.cam_rows.specs.Runs.{AreWideRows, IsInRun, end_in, most_columns
 use super::Run;
 use crate::centres::Centres;
 use crate::half_plane::HalfPlane;
-use crate::linear::Linear;
 use crate::slope::{Crossing, Steps, columns_up_to, count_ends, cut_ends, cut_firsts};
 use cam_units::Point;
 
@@ -40,16 +38,17 @@ pub(super) fn narrow_left(
         (λ k i. IsLeft from.now to.now reach (centre_at (row_below top.now k) i)) (length firsts.old)
         firsts.new ends.new }
 {
-    HalfPlane::left(from, to, reach, &top.leftmost()).narrow(top.n, firsts, ends);
+    HalfPlane::left(from, to, reach, top).narrow(top.n, firsts, ends);
 }
 
 impl HalfPlane {
     /// Narrows the runs of wide rows, one below another from the top one, to its own columns.
+    #[tactic(auto, using(crate::proofs::NarrowedRuns::all_runs, crate::proofs::NarrowedRuns::no_runs))]
     pub(crate) fn narrow(&self, columns: u32, firsts: &mut [u32], ends: &mut [u32])
         requires short { IsShortIn (length firsts.old) self.now }
         requires few { columns ≤ most_columns }
         requires ends { length ends.old ≡ length firsts.old }
-        ensures { AreNarrowed columns firsts.old ends.old (IsUp (numbers_of self.now)) (length firsts.old)
+        ensures { AreNarrowed columns firsts.old ends.old (IsUp self.now) (length firsts.old)
             firsts.new ends.new }
     {
         // the ends of a wide arc lie in few rows of tiles, and elsewhere its sweep holds all columns
@@ -57,9 +56,19 @@ impl HalfPlane {
             return;
         }
         match self.crossing(firsts.len()) {
-            Some((top, steps)) if self.row.step < 0 => cut_ends(top, &steps, ends),
+            Some((top, steps)) if self.step < 0 => cut_ends(top, &steps, ends),
             Some((top, steps)) => cut_firsts(top, &steps, columns, firsts),
-            None => self.narrow_each(columns, firsts, ends),
+            None => {
+                for k in 0..firsts.len() {
+                    let run = Run {
+                        first: firsts[k],
+                        end: ends[k],
+                    };
+                    let part = self.narrowed(k, run, columns);
+                    firsts[k] = part.first;
+                    ends[k] = part.end;
+                }
+            }
         }
     }
 
@@ -67,103 +76,65 @@ impl HalfPlane {
     fn holds_all(&self, columns: u32, rows: usize) -> bool
         requires short { IsShortIn rows self.now }
         requires few { columns ≤ most_columns }
-        ensures { IsTrue result ↔ ((k i : ℕ) → k < rows → i < columns → IsUp (numbers_of self.now) k i) }
+        ensures { IsTrue result ↔ ((k i : ℕ) → k < rows → i < columns → IsUp self.now k i) }
     {
         if columns == 0 || rows == 0 {
             return true;
         }
         let row = least_of(self.down, rows);
-        let column = least_of(self.row.step, columns as usize);
-        self.number_below(row) + column as i128 * self.row.step >= 0
+        let column = least_of(self.step, columns as usize);
+        self.number_below(row) + column as i128 * self.step >= 0
     }
 
     /// The ends of runs of wide rows, one below another from the top one, that begin at the leftmost column, where its
     /// numbers fall from each column to the next: it answers one end for all rows, or writes one for each.
     pub(crate) fn count_columns(&self, columns: u32, ends: &mut [u32]) -> Option<u32>
         requires short { IsShortIn (length ends.old) self.now }
-        requires falls { self.now.row.step <ℤ pos 0 }
+        requires falls { self.now.step <ℤ pos 0 }
         requires few { columns ≤ most_columns }
         requires some { 0 < length ends.old }
-        ensures { AreCounted columns (IsUp (numbers_of self.now)) (length ends.old) (end_in result ends.new) }
+        ensures { AreCounted columns (IsUp self.now) (length ends.old) (end_in result ends.new) }
     {
         if let Some((top, steps)) = self.crossing(ends.len()) {
             return count_ends(top, &steps, columns, ends);
         }
-        self.count_each(columns, ends);
+        for k in 0..ends.len() {
+            ends[k] = columns_up_to(self.number_below(k), -self.step, columns);
+        }
         None
     }
 
     /// Where its numbers cross 0 in the top row, and how that moves from each row to the next: the numbers themselves
     /// where they fall, and else what they lack. None where they are level, or may not fit 64 bits in so many rows.
     fn crossing(&self, rows: usize) -> Option<(Crossing, Steps)>
-        requires row { IsShortLinear self.now.row }
-        requires down { unsigned_abs self.now.down < 2 ^ 100 }
+        requires { IsShortPlane self.now }
         ensures { IfSome result (λ r. IsCrossingIn rows r.0 r.1 self.now) }
     {
         if rows > MOST_ROWS {
             return None;
         }
         let falling = self.falling();
-        let steps = Steps::of(falling.down, -falling.row.step)?;
-        let top = steps.crossing(falling.row.first)?;
+        let steps = Steps::of(falling.down, -falling.step)?;
+        let top = steps.crossing(falling.first)?;
         Some((top, steps))
     }
 
     /// Its numbers where they fall from each column to the next, and else what they lack.
     pub(super) fn falling(&self) -> HalfPlane
-        requires row { IsShortLinear self.now.row }
-        requires down { unsigned_abs self.now.down < 2 ^ 100 }
-        ensures falls { self.now.row.step <ℤ pos 0 → numbers_of result ≡ numbers_of self.now }
-        ensures rises { pos 0 ≤ℤ self.now.row.step → numbers_of result ≡ lacking (numbers_of self.now) }
-        ensures first { unsigned_abs result.row.first ≤ 2 ^ 100 }
-        ensures step { unsigned_abs result.row.step < 2 ^ 100 }
+        requires { IsShortPlane self.now }
+        ensures falls { self.now.step <ℤ pos 0 → result ≡ self.now }
+        ensures rises { pos 0 ≤ℤ self.now.step → result ≡ lacking self.now }
+        ensures first { unsigned_abs result.first ≤ 2 ^ 100 }
+        ensures step { unsigned_abs result.step < 2 ^ 100 }
         ensures bound { unsigned_abs result.down < 2 ^ 100 }
     {
-        let Linear { first, step } = self.row;
-        if step < 0 {
+        if self.step < 0 {
             return *self;
         }
         HalfPlane {
-            row: Linear {
-                first: -1 - first,
-                step: -step,
-            },
+            first: -1 - self.first,
+            step: -self.step,
             down: -self.down,
-        }
-    }
-
-    /// Narrows runs to the half plane, as `narrow` does, by a division in each row.
-    #[tactic(auto, using(crate::proofs::NarrowedRuns::all_runs, crate::proofs::NarrowedRuns::no_runs))]
-    fn narrow_each(&self, columns: u32, firsts: &mut [u32], ends: &mut [u32])
-        requires short { IsShortIn (length firsts.old) self.now }
-        requires few { columns ≤ most_columns }
-        requires ends { length ends.old ≡ length firsts.old }
-        ensures { AreNarrowed columns firsts.old ends.old (IsUp (numbers_of self.now)) (length firsts.old)
-            firsts.new ends.new }
-    {
-        for k in 0..firsts.len() {
-            let run = self.narrowed(
-                k,
-                Run {
-                    first: firsts[k],
-                    end: ends[k],
-                },
-                columns,
-            );
-            firsts[k] = run.first;
-            ends[k] = run.end;
-        }
-    }
-
-    /// Counts the columns of each row that lie in the half plane, as `count_columns` does, by a division in each row.
-    fn count_each(&self, columns: u32, ends: &mut [u32])
-        requires short { IsShortIn (length ends.old) self.now }
-        requires falls { self.now.row.step <ℤ pos 0 }
-        requires few { columns ≤ most_columns }
-        ensures { AreCounted columns (IsUp (numbers_of self.now)) (length ends.old) (end_in None ends.new) }
-    {
-        for k in 0..ends.len() {
-            ends[k] = columns_up_to(self.number_below(k), -self.row.step, columns);
         }
     }
 
@@ -172,12 +143,12 @@ impl HalfPlane {
         requires short { IsShortIn (steps + 1) self.now }
         requires few { columns ≤ most_columns }
         ensures each { (i : ℕ) → i < columns → IsInRun result.first result.end i
-            ↔ (IsInRun run.first run.end i × IsUp (numbers_of self.now) steps i) }
+            ↔ (IsInRun run.first run.end i × IsUp self.now steps i) }
         ensures within { result.end ≤ run.end }
     {
         let number = self.number_below(steps);
         let Run { first, end } = run;
-        let step = self.row.step;
+        let step = self.step;
         if step < 0 {
             return Run {
                 first,
@@ -199,9 +170,9 @@ impl HalfPlane {
     /// Its number at the leftmost centre of the row that lies so many steps lower.
     fn number_below(&self, steps: usize) -> i128
         requires short { IsShortIn (steps + 1) self.now }
-        ensures { result ≡ (lowered steps (numbers_of self.now)).first }
+        ensures { result ≡ (lowered steps self.now).first }
     {
-        self.row.first + steps as i128 * self.down
+        self.first + steps as i128 * self.down
     }
 }
 

@@ -5,7 +5,7 @@ ghost use Rattle.cam_shapes.specs.Box.{IsInObround, IsSoundObround};
 ghost use Rattle.cam_rows.specs.Rows.{centre_at};
 ghost use Rattle.cam_rows.specs.Runs.{AreRuns, AreWideRows, IsInRun, IsWideRow};
 
-use super::{Run, Strip};
+use super::Run;
 use crate::centres::Centres;
 use crate::obround::reach_at;
 use cam_shapes::Obround;
@@ -40,7 +40,7 @@ fn obround_run(obround: &Obround, row: &Centres) -> Run
         width,
         height,
     } = *obround;
-    let over = row.leftmost().height_over(&centre);
+    let over = (row.y - 2 * centre.y).unsigned_abs();
     if width.0 == 0 || height.0 == 0 {
         return Run { first: 0, end: 0 };
     }
@@ -48,9 +48,5 @@ fn obround_run(obround: &Obround, row: &Centres) -> Run
         return Run { first: 0, end: 0 };
     }
     let reach = reach_at(over, width.0 as u64, height.0 as u64) as i64;
-    let strip = Strip {
-        left: 2 * centre.x - reach,
-        right: 2 * centre.x + reach,
-    };
-    row.columns_in(&strip)
+    row.columns_between(2 * centre.x - reach, 2 * centre.x + reach)
 }

@@ -4,11 +4,10 @@ ghost use Rattle.std.specs.Prelude.{◌≡◌, length};
 ghost use Rattle.cam_shapes.specs.Swept.{IsInSwept, IsSoundSwept};
 ghost use Rattle.cam_rows.specs.Runs.{AreRuns, AreWideRows};
 
-use super::boxes::{box_runs, widened_ends};
+use super::boxes::box_runs;
 use super::narrowing::narrow_left;
 use crate::centres::Centres;
-use crate::swept::corner_reach;
-use cam_shapes::Swept;
+use cam_shapes::{Swept, Vector, corner_reach};
 
 /// The runs of the stroke of a rectangle along a straight line in wide rows, one below another from the top one: the
 /// columns in it or on its edge, none where a side is 0. A run goes from its first column on and before its end; points
@@ -33,13 +32,12 @@ pub fn swept_runs(swept: &Swept, top: &Centres, firsts: &mut [u32], ends: &mut [
         ends.fill(0);
         return;
     }
-    let (low, high) = widened_ends(&from, &to, width.0, height.0);
-    box_runs(&low, &high, top, firsts, ends);
+    box_runs(swept, top, firsts, ends);
     // along an axis, the stroke is the box
     if from.x == to.x || from.y == to.y {
         return;
     }
-    let reach = corner_reach(swept);
+    let reach = i128::from(corner_reach(Vector::between(from, to), width, height));
     narrow_left(&from, &to, reach, top, firsts, ends);
     narrow_left(&to, &from, reach, top, firsts, ends);
 }

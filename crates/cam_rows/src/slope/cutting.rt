@@ -1,6 +1,6 @@
 //! Runs of wide rows, one below another, cut where falling numbers cross 0.
 
-ghost use Rattle.std.specs.Prelude.{◌≡◌, ◌+◌, ◌^◌, ◌<◌, ◌≤◌, ℕ, None, length, min, slice_index};
+ghost use Rattle.std.specs.Prelude.{◌≡◌, ◌+◌, ◌^◌, ◌<◌, ◌≤◌, None, length};
 ghost use Rattle.cam_rows.specs.Machinery.Narrowing.{AreCounted, AreEndsCut, AreFirstsCut, IsUp};
 ghost use Rattle.cam_rows.specs.Machinery.Slopes.{AreSteps, IsCrossing, falling};
 ghost use Rattle.cam_rows.specs.Runs.{end_in};
@@ -19,23 +19,16 @@ pub(crate) fn cut_ends(top: Crossing, steps: &Steps, ends: &mut [u32])
         return;
     }
     if top.stays(steps, ends.len()) {
-        cut_all(ends, top.columns_before(u32::MAX));
+        let columns = top.columns_before(u32::MAX);
+        for row in 0..ends.len() {
+            ends[row] = ends[row].min(columns);
+        }
         return;
     }
     let mut crossing = top;
     for k in 0..ends.len() {
         ends[k] = crossing.columns_before(ends[k]);
         crossing = crossing.below(steps);
-    }
-}
-
-/// Cuts all ends to one number of columns.
-fn cut_all(ends: &mut [u32], columns: u32)
-    ensures size { length ends.new ≡ length ends.old }
-    ensures each { (k : ℕ) → k < length ends.old → slice_index ends.new k ≡ min (slice_index ends.old k) columns }
-{
-    for k in 0..ends.len() {
-        ends[k] = ends[k].min(columns);
     }
 }
 

@@ -1,6 +1,6 @@
 //! Where falling numbers cross 0 in the top row, and how that moves, by a division of 128 bits for each.
 
-ghost use Rattle.std.specs.Prelude.{◌≡◌, ◌^◌, ◌≤◌, ◌↔◌, IfSome, IsTrue};
+ghost use Rattle.std.specs.Prelude.{◌^◌, ◌≤◌, ◌↔◌, IfSome, IsTrue};
 ghost use Rattle.std.specs.Int.RustNames.{unsigned_abs};
 ghost use Rattle.cam_rows.specs.Machinery.Slopes.{AreSteps, AreStepsOf, IsTopOf};
 

@@ -4,5 +4,5 @@ use Rattle.cam_rows.proofs.obround.reach_at.Goals as goal
 pub returns-clause-each : goal.returns-clause-each
 returns-clause-each c = λ x.
     round_reach x c.args.over c.args.width c.args.height c.min-radius.result c.saturating_sub-past_straight.result
-    c.from.result c.half_chord.result c.min-radius.ensures c.saturating_sub-past_straight.ensures c.from.ensures
-    c.requires.low c.half_chord.ensures.within c.half_chord.ensures.greatest
+    c.from.result c.isqrt.result c.min-radius.ensures c.saturating_sub-past_straight.ensures c.from.ensures
+    c.requires.low c.isqrt.ensures.square c.isqrt.ensures.greatest

@@ -1,7 +1,31 @@
-use Rattle.std.proofs.Common.{rules}
-use Rattle.cam_shapes.specs.Plane.{dot, way}
+use Rattle.std.proofs.Common.{◌≡◌, ◌<◌, ◌^◌, ◌∙◌, ap, pos, rules, arith}
+use Rattle.std.proofs.lemmas.Int.{ints}
+use Rattle.std.proofs.lemmas.Nat.{mul-lt}
+use Rattle.cam_shapes.specs.Plane.{dot, square, way}
+use Rattle.cam_shapes.proofs.Widths.{size_square}
+use Rattle.cam_rows.proofs.Circling.{square_of}
 use Rattle.cam_rows.proofs.Rings.{near_in_full_ring, near_in_open_ring}
 use Rattle.cam_rows.proofs.ring.ring_of.Goals as goal
+use Rattle.cam_rows.proofs.ring.ring_of.Goals.{After-from-width}
+
+square_of_width : (c : After-from-width) → pos c.from-width.result ≡ square c.args.arc.now.width.0
+square_of_width c =
+    ap pos c.from-width.ensures ∙ square_of _ c.args.arc.now.width.0 (omega (arith, ints, c.requires.width))
+
+pub overflow_mul-width-3 : goal.overflow_mul-width-3
+overflow_mul-width-3 c =
+    let width : c.from-width.result < 2 ^ 56 =
+    omega (
+      arith,
+      ints,
+      size_square c.args.arc.now.width.0 c.requires.width,
+      square_of_width (goal.at.overflow_mul-width-3 c).After-from-width,
+    ) in
+    omega (
+      arith,
+      mul-lt c.from-width.result c.squared_distance-radius.result (2 ^ 56) (2 ^ 67) width
+          c.squared_distance-radius.ensures.bound,
+    )
 
 pub returns-then-radius-width : goal.returns-then-radius-width
 returns-then-radius-width c =
@@ -9,8 +33,8 @@ returns-then-radius-width c =
     let radius = dot (way arc.centre arc.from) (way arc.centre arc.from) in
     record {
       near = λ p.
-          rw c.from-spread.ensures (near_in_full_ring p c.squared_distance-radius.result c.squared_width-width.result
-          c.isqrt.result radius arc.width.0 c.squared_distance-radius.ensures.value c.squared_width-width.ensures.value
+          rw c.from-spread.ensures (near_in_full_ring p c.squared_distance-radius.result c.from-width.result
+          c.isqrt.result radius arc.width.0 c.squared_distance-radius.ensures.value (square_of_width (goal.at.returns-then-radius-width c).After-from-width)
           c.isqrt.ensures.square c.isqrt.ensures.greatest c.if-radius-width.true);
       inner = search rules;
       outer = search rules;
@@ -23,8 +47,8 @@ returns c =
     record {
       near = λ p.
           rw (c.saturating_sub.ensures, c.from-spread.ensures) (near_in_open_ring p c.squared_distance-radius.result
-          c.squared_width-width.result c.isqrt.result radius arc.width.0 c.squared_distance-radius.ensures.value
-          c.squared_width-width.ensures.value c.isqrt.ensures.square c.isqrt.ensures.greatest c.if-radius-width.false);
+          c.from-width.result c.isqrt.result radius arc.width.0 c.squared_distance-radius.ensures.value
+          (square_of_width (goal.at.returns c).After-from-width) c.isqrt.ensures.square c.isqrt.ensures.greatest c.if-radius-width.false);
       inner = search rules;
       outer = search rules;
     }

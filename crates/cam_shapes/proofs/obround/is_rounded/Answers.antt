@@ -1,6 +1,7 @@
 use Rattle.std.proofs.Common.{arith}
 use Rattle.std.proofs.lemmas.Int.{ints}
 use Rattle.cam_shapes.proofs.Obrounds.{high_is_rounded, wide_is_rounded}
+use Rattle.cam_shapes.proofs.Vectors.{same_vector}
 use Rattle.cam_shapes.proofs.obround.is_rounded.Goals as goal
 
 pub returns-then-width-height : goal.returns-then-width-height
@@ -10,6 +11,6 @@ returns-then-width-height c =
 
 pub returns-else-width-height : goal.returns-else-width-height
 returns-else-width-height c =
-    high_is_rounded c.is_along-else-width-height.result c.args.seen c.swapped.result c.args.width.0 c.args.height.0
+    high_is_rounded c.is_along-else-width-height.result c.args.seen _ c.args.width.0 c.args.height.0
     c.excess-else-width-height.result.0 (omega (arith, ints)) c.excess-else-width-height.ensures.value
-    c.swapped.ensures.value c.is_along-else-width-height.ensures
+    (same_vector _ _ (omega (arith, ints)) (omega (arith, ints))) c.is_along-else-width-height.ensures

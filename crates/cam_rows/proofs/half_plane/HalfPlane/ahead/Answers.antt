@@ -1,23 +1,70 @@
-use Rattle.std.proofs.Common.{◌∙◌, ap, pos, ◌-ℤ◌, ◌*ℤ◌, arith}
-use Rattle.cam_shapes.specs.Plane.{dot, seen_from, way}
-use Rattle.cam_rows.specs.Machinery.HalfPlanes.{numbers_of}
-use Rattle.cam_rows.specs.Rows.{row_below}
+use Rattle.std.proofs.Common.{◌≡◌, ◌<◌, ◌^◌, ◌∙◌, ap, pos, ◌+ℤ◌, ◌-ℤ◌, ◌*ℤ◌, FitsSigned, w64, refl, rules, arith}
+use Rattle.std.specs.Int.RustNames.{unsigned_abs}
+use Rattle.std.proofs.lemmas.Int.{ints}
+use Rattle.cam_shapes.specs.Plane.{dot, seen_from}
+use Rattle.cam_shapes.proofs.Widths.{wide}
+use Rattle.cam_rows.specs.Rows.{centre_at, first_centre, row_below}
 use Rattle.cam_rows.specs.declared.half_plane.HalfPlane.{HalfPlane}
 use Rattle.cam_rows.proofs.HalfPlanes.{by_numbers, dot_fits}
-use Rattle.cam_rows.proofs.Quotients.{kept_number}
-use Rattle.cam_rows.proofs.Slopes.{dot_below}
+use Rattle.cam_rows.proofs.WayProducts.{dots_are, first_in_reach, kept_sum, opposite_short, passed_centre}
+use Rattle.cam_rows.proofs.WayProducts.{step_product, step_short, sum_fits, sum_passed}
 use Rattle.cam_rows.proofs.half_plane.HalfPlane.ahead.Goals as goal
+use Rattle.cam_rows.proofs.half_plane.HalfPlane.ahead.Goals.{After-from-4}
+
+fits : (c : After-from-4) → FitsSigned w64 c.args.top.now.step
+fits c = search rules
+
+-- the numbers, as 128 bits compute them
+first : (c : After-from-4) → wide c.dot.result +ℤ wide c.args.reach
+    ≡ dot c.args.way (seen_from c.args.from.now (first_centre c.args.top.now)) +ℤ c.args.reach
+first c =
+    let from = c.args.from.now in
+    let seen : c.seen_from.result ≡ seen_from from (first_centre c.args.top.now) =
+    c.seen_from.ensures.value ∙ ap (seen_from from) (passed_centre c.args.top.now c.requires.row) in
+    sum_passed c.dot.result c.args.reach _ c.dot.ensures.bound c.requires.reach
+    (c.dot.ensures.value ∙ ap (dot c.args.way) seen)
+
+short : (c : After-from-4) → unsigned_abs (dot c.args.way (seen_from c.args.from.now (first_centre c.args.top.now)) +ℤ c.args.reach)
+    < 2 ^ 100
+short c =
+    dot_fits c.args.way c.args.from.now (first_centre c.args.top.now) c.args.reach c.requires.way c.requires.from
+    (first_in_reach c.args.top.now c.requires.row) c.requires.reach
+
+across : (c : After-from-4) → wide (wide c.from.result *ℤ wide c.from-2.result) ≡ c.args.way.x *ℤ c.args.top.now.step
+across c =
+    step_product c.args.way.x c.args.top.now.step c.from.result c.from-2.result c.requires.way.x (fits c)
+    c.from.ensures c.from-2.ensures
+
+fall : (c : After-from-4) → wide (wide c.from-3.result *ℤ wide c.from-4.result) ≡ c.args.way.y *ℤ c.args.top.now.step
+fall c =
+    step_product c.args.way.y c.args.top.now.step c.from-3.result c.from-4.result c.requires.way.y (fits c)
+    c.from-3.ensures c.from-4.ensures
+
+fall_short : (c : After-from-4) → unsigned_abs (pos 0 -ℤ c.args.way.y *ℤ c.args.top.now.step) < 2 ^ 100
+fall_short c = opposite_short (c.args.way.y *ℤ c.args.top.now.step) (step_short c.args.way.y c.args.top.now.step c.requires.way.y (fits c))
+
+pub overflow_add-result : goal.overflow_add-result
+overflow_add-result c = omega (arith, ints, c.dot.ensures.bound, c.requires.reach)
+
+pub overflow_sub-result : goal.overflow_sub-result
+overflow_sub-result c = rw (fall c) (sum_fits _ (fall_short c))
 
 pub returns : goal.returns
 returns c =
     let from = c.args.from.now in
-    let to = c.args.to.now in
+    let way = c.args.way in
     let top = c.args.top.now in
-    let fall = c.dot_down in
-    let kept = kept_number fall.result (omega (arith, fall.ensures.bound)) in
-    let half : HalfPlane = record { row = c.along.result; down = fall.result } in
-    rw kept (by_numbers top (λ s. dot (way from to) (seen_from from s)) half
-    (λ k i. dot_below from to top (numbers_of half) k i (c.along.ensures.value i)
-    (fall.ensures.value ∙ ap (λ z. pos 0 -ℤ z *ℤ top.step) c.between.ensures.y))
-    c.along.ensures.fits fall.ensures.bound
-    (λ k row. dot_fits from to (row_below top k) c.requires.from c.requires.to row))
+    let reach = c.args.reach in
+    let plane : HalfPlane = record {
+      first = dot way (seen_from from (first_centre top)) +ℤ reach;
+      step = way.x *ℤ top.step;
+      down = pos 0 -ℤ way.y *ℤ top.step;
+    } in
+    rw (first c, kept_sum _ (short c), across c, fall c, kept_sum _ (fall_short c)) (record {
+      holds = by_numbers top (λ s. dot way (seen_from from s) +ℤ reach) plane (dots_are way from top reach)
+          (record { first = short c; step = step_short way.x top.step c.requires.way.x (fits c); down = fall_short c })
+          (λ k row. dot_fits way from (centre_at (row_below top k) 0) reach c.requires.way c.requires.from
+          (row.centres 0 (omega (arith, row.count.0))) c.requires.reach);
+      numbers = dots_are way from top reach;
+      step = refl;
+    })

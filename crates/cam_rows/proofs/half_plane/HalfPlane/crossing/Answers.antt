@@ -6,8 +6,8 @@ use Rattle.cam_rows.proofs.half_plane.HalfPlane.crossing.Goals as goal
 pub returns : goal.returns
 returns c =
     let f = c.falling-falling in
-    let top = rw (kept_number f.result.row.first (omega (arith, f.ensures.first))) at c.in_ok-top.ensures in
-    let is = fell f.result c.in_ok-top.top c.in_ok-steps.steps f.result.row.first f.ensures.step f.ensures.bound
+    let top = rw (kept_number f.result.first (omega (arith, f.ensures.first))) at c.in_ok-top.ensures in
+    let is = fell f.result c.in_ok-top.top c.in_ok-steps.steps f.result.first f.ensures.step f.ensures.bound
     c.in_ok-steps.ensures top in
     record {
       few = omega (arith, c.if-rows-gt-MOST_ROWS.false);

@@ -1,15 +1,15 @@
 use Rattle.std.proofs.Common.{arith}
 use Rattle.std.proofs.lemmas.Int.{ints}
-use Rattle.cam_rows.specs.Machinery.HalfPlanes.{numbers_of}
 use Rattle.cam_rows.specs.Machinery.Narrowing.{IsUp}
 use Rattle.cam_rows.specs.Machinery.Slopes.{falling}
+use Rattle.cam_rows.proofs.NarrowedRuns.{next_run}
 use Rattle.cam_rows.proofs.SetRows.{ends_narrowed, firsts_narrowed}
 use Rattle.cam_rows.proofs.SlopeBits.{lacking_alike, up_alike}
 use Rattle.cam_rows.proofs.half_plane.HalfPlane.narrow.Goals as goal
 
 pub returns-in-Some : goal.returns-in-Some
 returns-in-Some c =
-    let numbers = numbers_of c.args.self.now in
+    let numbers = c.args.self.now in
     let crossing = falling c.in-Some.top c.in-Some.steps in
     ends_narrowed c.args.columns c.args.firsts.now c.args.ends.now c.cut_ends.new.ends (IsUp crossing) (IsUp numbers)
     c.requires.ends c.cut_ends.auto.ends
@@ -18,10 +18,18 @@ returns-in-Some c =
 
 pub returns-in-Some-2 : goal.returns-in-Some-2
 returns-in-Some-2 c =
-    let numbers = numbers_of c.args.self.now in
+    let numbers = c.args.self.now in
     let crossing = falling c.in-Some.top c.in-Some.steps in
     firsts_narrowed c.args.columns c.args.firsts.now c.args.ends.now c.cut_firsts.new.firsts (IsUp crossing)
     (IsUp numbers) c.requires.ends c.cut_firsts.auto.firsts
     (λ k i. lacking_alike numbers crossing k i
     (c.in-Some.ensures.rises (omega (arith, ints, c.if-self-lt0.false))))
     c.cut_firsts.ensures
+
+pub loop-k-preserved : goal.loop-k-preserved
+loop-k-preserved c = record {
+  narrowed =
+      next_run c.args.columns c.args.firsts.now c.args.ends.now (IsUp c.args.self.now) c.loop-k.firsts
+      c.loop-k.ends c.loop-k.k c.narrowed-part.result.first c.narrowed-part.result.end (omega arith) c.requires.ends
+      c.loop-k.invariant.narrowed c.narrowed-part.ensures.each c.narrowed-part.ensures.within;
+}

@@ -12,7 +12,7 @@ pub returns-then-step-lt0-clause-each : goal.returns-then-step-lt0-clause-each
 returns-then-step-lt0-clause-each c = λ i small.
     let number = c.number_below-number in
     let told = falling_told c.args.self.now c.args.steps i c.columns_up_to.result number.result number.ensures
-    (short (goal.at.returns-then-step-lt0-clause-each c).After-number_below-number) c.requires.short.row.step
+    (short (goal.at.returns-then-step-lt0-clause-each c).After-number_below-number) c.requires.short.plane.step
     (c.columns_up_to.ensures.each i small) in
     let least = c.min.ensures in (
       (λ on. ((on.0, omega (arith, least, on.1)), told.0 (omega (arith, least, on.1)))),
@@ -24,7 +24,7 @@ returns-then-step-gt0-clause-each c = λ i small.
     let number = c.number_below-number in
     let before = c.columns_up_to-then-step-gt0 in
     let told = rising_told c.args.self.now c.args.steps i before.result number.result number.ensures
-    (short (goal.at.returns-then-step-gt0-clause-each c).After-number_below-number) c.requires.short.row.step
+    (short (goal.at.returns-then-step-gt0-clause-each c).After-number_below-number) c.requires.short.plane.step
     (before.ensures.each i small) in
     let most = c.max.ensures in (
       (λ on. ((omega (arith, most, on.0), on.1), told.1 (λ early. absurd (omega (arith, most, on.0, early))))),

@@ -11,9 +11,9 @@ returns c =
     let f = c.falling-falling in
     let t = c.in_ok-steps.steps in
     let e = c.excess in
-    let low = rw (kept_low f.result.row.first e.result c.args.reach f.ensures.first e.ensures.few c.requires.reach)
+    let low = rw (kept_low f.result.first e.result c.args.reach f.ensures.first e.ensures.few c.requires.reach)
     at c.in_ok-low.ensures in
-    let high = rw (kept_high f.result.row.first e.result c.args.reach f.ensures.first e.ensures.few c.requires.reach)
+    let high = rw (kept_high f.result.first e.result c.args.reach f.ensures.first e.ensures.few c.requires.reach)
     at c.in_ok-high.ensures in
     record {
       few = omega (arith, c.if-rows-gt-MOST_ROWS.false);
@@ -24,7 +24,7 @@ returns c =
           strip_within h f.result (falling c.in_ok-low.low t) (falling c.in_ok-high.high t) c.args.reach e.result
           (fell f.result c.in_ok-low.low t _ f.ensures.step f.ensures.bound c.in_ok-steps.ensures low)
           (fell f.result c.in_ok-high.high t _ f.ensures.step f.ensures.bound c.in_ok-steps.ensures high) k i
-          (by_lt_z h.row.step (pos 0)
+          (by_lt_z h.step (pos 0)
           (λ falls. inl (f.ensures.falls falls, e.ensures.falls falls))
           (λ rises. inr (f.ensures.rises rises, e.ensures.rises rises)));
     }

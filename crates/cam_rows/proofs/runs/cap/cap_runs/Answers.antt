@@ -3,14 +3,12 @@ use Rattle.cam_shapes.specs.Cap.{is_in_cap, is_in_circle, is_on_side}
 use Rattle.cam_shapes.specs.Plane.{seen_from, way}
 use Rattle.cam_rows.proofs.CapRows.{all_of_circle, part_of_circle}
 use Rattle.cam_rows.proofs.PassedOn.{no_rows, runs_of_none, some_rows}
-use Rattle.cam_rows.proofs.WideRows.{leftmost_rows, runs_like, half_narrowed, runs_kept, top_is_wide}
+use Rattle.cam_rows.proofs.WideRows.{runs_like, half_narrowed, runs_kept, top_is_wide}
 use Rattle.cam_rows.proofs.runs.cap.cap_runs.Goals as goal
 
 pub narrow-requires-clause-short : goal.narrow-requires-clause-short
 narrow-requires-clause-short c =
-    c.side.ensures.short _
-    (leftmost_rows c.args.top.now c.leftmost.result (length c.args.firsts.now) _ c.leftmost.ensures.value
-    c.circle_runs.auto.firsts c.requires.rows)
+    rw c.circle_runs.auto.firsts (c.side.ensures.short _ c.requires.rows)
 
 pub returns-then-eq : goal.returns-then-eq
 returns-then-eq c =
@@ -30,8 +28,7 @@ returns c =
     (runs_kept c.circle_runs.new.firsts c.circle_runs.new.ends c.narrow.new.firsts c.narrow.new.ends top
     (λ s. IsTrue (is_in_circle (way cap.centre cap.from) (seen_from cap.centre s))) (λ s. IsTrue (is_on_side s cap))
     c.circle_runs.ensures
-    (half_narrowed _ _ _ _ _ top c.leftmost.result (λ s. IsTrue (is_on_side s cap)) c.side.result c.leftmost.ensures.value
-    c.side.ensures c.narrow.ensures) c.narrow.auto.firsts)
+    (half_narrowed _ _ _ _ _ top (λ s. IsTrue (is_on_side s cap)) c.side.result c.side.ensures c.narrow.ensures) c.narrow.auto.firsts)
 
 pub returns-then-is_empty : goal.returns-then-is_empty
 returns-then-is_empty c =
@@ -41,8 +38,8 @@ returns-then-is_empty c =
 pub circle_runs-requires-clause-some : goal.circle_runs-requires-clause-some
 circle_runs-requires-clause-some c = some_rows _ _ c.is_empty.ensures c.if-is_empty.false
 
-pub leftmost-requires : goal.leftmost-requires
-leftmost-requires c =
+pub side-requires-clause-row : goal.side-requires-clause-row
+side-requires-clause-row c =
     top_is_wide c.args.top.now (length c.args.firsts.now) (some_rows _ _ c.is_empty.ensures c.if-is_empty.false)
     c.requires.rows
 

@@ -1,27 +1,21 @@
-use Rattle.std.proofs.Common.{◌≡◌, IsTrue, pos, ◌<ℤ◌, length, sym, ◌∙◌, arith, rules}
-use Rattle.cam_shapes.specs.Edge.{crosses_ray, edge, is_above}
+use Rattle.std.proofs.Common.{IsTrue, pos, ◌<ℤ◌, length, sym, ◌∙◌, arith, rules}
+use Rattle.cam_shapes.specs.Edge.{crosses_ray, edge}
 use Rattle.cam_shapes.specs.Plane.{cross, seen_from, way}
-use Rattle.cam_rows.specs.Rows.{first_centre}
 use Rattle.cam_rows.specs.Runs.{end_in}
 use Rattle.cam_rows.proofs.CountedRuns.{ends_like}
 use Rattle.cam_rows.proofs.EdgeSides.{falls_through, falls_to, rises_through, rises_to}
 use Rattle.cam_rows.proofs.runs.edge.edge_runs.Goals as goal
-use Rattle.cam_rows.proofs.runs.edge.edge_runs.Goals.{After-is_above}
-
--- whether the start is above the top row
-told : (c : After-is_above) → c.is_above.result ≡ is_above c.args.from (first_centre c.args.top.now)
-told c = rw c.leftmost.ensures.value at c.is_above.ensures
 
 pub runs_left-requires-clause-rises : goal.runs_left-requires-clause-rises
 runs_left-requires-clause-rises c =
     falls_to c.args.from c.args.to c.args.top.now
-    (sym (told (goal.at.runs_left-requires-clause-rises c).After-is_above) ∙ c.if-is_above.true)
+    (sym c.is_above.ensures ∙ c.if-is_above.true)
     (c.requires.crossed 0 (search rules))
 
 pub runs_left-requires-else-is_above-clause-rises : goal.runs_left-requires-else-is_above-clause-rises
 runs_left-requires-else-is_above-clause-rises c =
     rises_to c.args.from c.args.to c.args.top.now
-    (sym (told (goal.at.runs_left-requires-else-is_above-clause-rises c).After-is_above) ∙ c.if-is_above.false)
+    (sym c.is_above.ensures ∙ c.if-is_above.false)
     (c.requires.crossed 0 (search rules))
 
 pub returns-then-is_above : goal.returns-then-is_above
@@ -32,7 +26,7 @@ returns-then-is_above c =
     (λ s. IsTrue (crosses_ray s (edge p q)))
     (λ k i within.
     falls_through p q c.args.top.now k i (c.requires.rows k within).step
-    (sym (told (goal.at.returns-then-is_above c).After-is_above) ∙ c.if-is_above.true)
+    (sym c.is_above.ensures ∙ c.if-is_above.true)
     (c.requires.crossed k within))
     c.runs_left.ensures
 
@@ -45,7 +39,7 @@ returns-else-is_above c =
     (λ s. IsTrue (crosses_ray s (edge p q)))
     (λ k i within.
     rises_through p q c.args.top.now k i (c.requires.rows k within).step
-    (sym (told (goal.at.returns-else-is_above c).After-is_above) ∙ c.if-is_above.false)
+    (sym c.is_above.ensures ∙ c.if-is_above.false)
     (c.requires.crossed 0 (omega (arith, within)))
     (c.requires.crossed k within))
     left.ensures

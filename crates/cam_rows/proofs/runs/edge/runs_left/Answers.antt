@@ -1,9 +1,9 @@
-use Rattle.std.proofs.Common.{◌↔◌, ℤ, pos, negsuc, ◌+ℤ◌, ◌-ℤ◌, ◌*ℤ◌, ◌≤ℤ◌, ◌<ℤ◌, length, arith, refl}
+use Rattle.std.proofs.Common.{◌↔◌, ℤ, pos, negsuc, ◌+ℤ◌, ◌-ℤ◌, ◌*ℤ◌, ◌≤ℤ◌, ◌<ℤ◌, length, arith}
 use Rattle.std.proofs.lemmas.Int.{ints}
 use Rattle.cam_shapes.specs.Plane.{cross, seen_from, way}
 use Rattle.cam_rows.specs.Runs.{end_in}
 use Rattle.cam_rows.proofs.CountedRuns.{counted_ends, falls_right}
-use Rattle.cam_rows.proofs.WideRows.{leftmost_rows, top_is_wide}
+use Rattle.cam_rows.proofs.WideRows.{top_is_wide}
 use Rattle.cam_rows.proofs.runs.edge.runs_left.Goals as goal
 
 -- a whole number less 1 is not negative where it is more than 0
@@ -14,36 +14,30 @@ rises : (a b : ℤ) → a <ℤ b → pos 0 <ℤ (pos 2 *ℤ b -ℤ pos 2 *ℤ a)
 rises a b h = omega (arith, ints)
 
 pub count_columns-requires-clause-short : goal.count_columns-requires-clause-short
-count_columns-requires-clause-short c =
-    c.left.ensures.holds.short _
-    (leftmost_rows c.args.top.now c.leftmost.result (length c.args.ends.now) _ c.leftmost.ensures.value refl
-    c.requires.rows)
+count_columns-requires-clause-short c = c.left.ensures.holds.short _ c.requires.rows
 
 pub returns : goal.returns
 returns c =
     let from = c.args.from.now in
     let to = c.args.to.now in
-    counted_ends (end_in c.count_columns.result c.count_columns.new.ends) (length c.args.ends.now) c.args.top.now c.leftmost.result
+    counted_ends (end_in c.count_columns.result c.count_columns.new.ends) (length c.args.ends.now) c.args.top.now
     (λ s. pos 0 ≤ℤ (cross (way from to) (seen_from from s) +ℤ negsuc 0))
-    (λ s. pos 0 <ℤ cross (way from to) (seen_from from s)) c.left.result c.leftmost.ensures.value c.left.ensures.holds
+    (λ s. pos 0 <ℤ cross (way from to) (seen_from from s)) c.left.result c.left.ensures.holds
     (λ s. less_natural (cross (way from to) (seen_from from s))) c.count_columns.ensures
 
-pub leftmost-requires : goal.leftmost-requires
-leftmost-requires c = top_is_wide c.args.top.now (length c.args.ends.now) c.requires.some c.requires.rows
+pub left-requires-clause-row : goal.left-requires-clause-row
+left-requires-clause-row c = top_is_wide c.args.top.now (length c.args.ends.now) c.requires.some c.requires.rows
 
 pub count_columns-requires-clause-few : goal.count_columns-requires-clause-few
 count_columns-requires-clause-few c =
     (top_is_wide c.args.top.now (length c.args.ends.now) c.requires.some c.requires.rows).count.1
 
-pub left-requires-clause-row : goal.left-requires-clause-row
-left-requires-clause-row c = c.leftmost.ensures.row
-
 pub count_columns-requires-clause-falls : goal.count_columns-requires-clause-falls
 count_columns-requires-clause-falls c =
-    falls_right (way c.args.from.now c.args.to.now).y c.args.top.now.step c.left.result.row.step
+    falls_right (way c.args.from.now c.args.to.now).y c.args.top.now.step c.left.result.step
     (rises c.args.from.now.y c.args.to.now.y c.requires.rises)
     (top_is_wide c.args.top.now (length c.args.ends.now) c.requires.some c.requires.rows).step
-    (rw c.leftmost.ensures.value at c.left.ensures.step)
+    c.left.ensures.step
 
 pub count_columns-requires-clause-some : goal.count_columns-requires-clause-some
 count_columns-requires-clause-some c = c.requires.some

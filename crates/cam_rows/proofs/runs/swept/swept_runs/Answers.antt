@@ -1,17 +1,19 @@
-use Rattle.std.proofs.Common.{◌≡◌, ◌<ℤ◌, pos, inl, inr, sym, refl, ◌∙◌, arith}
+use Rattle.std.proofs.Common.{◌≡◌, ◌<◌, ◌^◌, ◌<ℤ◌, pos, inl, inr, sym, refl, ◌∙◌, arith}
+use Rattle.std.specs.Int.RustNames.{unsigned_abs}
+use Rattle.std.proofs.lemmas.Int.{ints}
 use Rattle.cam_units.specs.Boxes.{IsInBox}
-use Rattle.cam_shapes.specs.Swept.{IsAlongAxis, IsInSwept, high_corner, low_corner}
+use Rattle.cam_shapes.specs.Swept.{IsAlongAxis, IsInSwept, corner_reach, high_corner, low_corner}
+use Rattle.cam_shapes.specs.Plane.{way}
 use Rattle.cam_shapes.proofs.SweptLaws.{axis}
 use Rattle.cam_rows.specs.Machinery.HalfPlanes.{IsLeft}
-use Rattle.cam_rows.specs.Runs.{AreRuns}
 use Rattle.cam_rows.proofs.BesideWays.{near_line}
 use Rattle.cam_shapes.proofs.Widths.{wide as wide_number}
-use Rattle.cam_rows.proofs.PassedOn.{kept_reach, kept_size, no_rows, none_by_bits, passed_reach, passed_size}
+use Rattle.cam_rows.proofs.PassedOn.{kept_reach, no_rows, none_by_bits, passed_reach}
 use Rattle.cam_rows.proofs.PassedOn.{runs_of_none, same_by_bits, some_by_bits, some_rows}
 use Rattle.cam_rows.proofs.SweptRows.{in_box_and_near}
 use Rattle.cam_rows.proofs.WideRows.{empty_runs, runs_like, runs_kept}
 use Rattle.cam_rows.proofs.runs.swept.swept_runs.Goals as goal
-use Rattle.cam_rows.proofs.runs.swept.swept_runs.Goals.{After-box_runs}
+use Rattle.cam_rows.proofs.runs.swept.swept_runs.Goals.{After-box_runs, After-from-reach}
 use Rattle.cam_rows.proofs.runs.swept.swept_runs.Goals.{then-from-to-via-else-from-to+then-from-to-2}
 use Rattle.cam_rows.proofs.runs.swept.swept_runs.Goals.{then-from-to-via-then-from-to}
 use Rattle.cam_rows.proofs.runs.swept.swept_runs.Goals.{then-width-eq0-via-then-width-eq0}
@@ -23,20 +25,14 @@ wide c = some_by_bits c.args.swept.now.width.0 c.requires.swept.width c.if-width
 high : (c : After-box_runs) → pos 0 <ℤ c.args.swept.now.height.0
 high c = some_by_bits c.args.swept.now.height.0 c.requires.swept.height c.if-height-eq0.false
 
-boxed : (c : After-box_runs) → AreRuns c.box_runs.new.firsts c.box_runs.new.ends c.args.top.now
-    (λ s. IsInBox (low_corner c.args.swept.now) (high_corner c.args.swept.now) s)
-boxed c =
-    let r = c.args.swept.now in
-    let told = c.widened_ends.ensures in
-    let wide = kept_size r.width.0 c.requires.swept.width in
-    let high = kept_size r.height.0 c.requires.swept.height in
-    let left = rw wide at told.left in
-    let below = rw high at told.below in
-    let right = rw wide at told.right in
-    let above = rw high at told.above in
-    let low : c.widened_ends.result.0 ≡ low_corner r = λ i. record { x = left i; y = below i } in
-    let far : c.widened_ends.result.1 ≡ high_corner r = λ i. record { x = right i; y = above i } in
-    rw (low, far) at c.box_runs.ensures
+-- the reach, as it is passed
+short : (c : After-from-reach) → unsigned_abs c.from-reach.result < 2 ^ 64
+short c = omega (arith, ints, c.from-reach.ensures)
+
+value : (c : After-from-reach) → c.from-reach.result
+    ≡ corner_reach (way c.args.swept.now.from c.args.swept.now.to) c.args.swept.now.width.0 c.args.swept.now.height.0
+value c =
+    let told = rw c.between.ensures.value at c.corner_reach.ensures in omega (arith, ints, c.from-reach.ensures, told)
 
 pub returns-then-from-to : goal.returns-then-from-to
 returns-then-from-to c =
@@ -50,7 +46,7 @@ returns-then-from-to c =
     ] in
     runs_like c.box_runs.new.firsts c.box_runs.new.ends c.args.top.now
     (λ s. IsInBox (low_corner r) (high_corner r) s) (λ s. IsInSwept s r)
-    (λ s. let told = axis s r (wide at) (high at) along in (told.1, told.0)) (boxed at)
+    (λ s. let told = axis s r (wide at) (high at) along in (told.1, told.0)) c.box_runs.ensures
 
 pub returns : goal.returns
 returns c =
@@ -59,16 +55,16 @@ returns c =
     let top = c.args.top.now in
     let first = c.narrow_left.new in
     let second = c.narrow_left-2.new in
-    let reach = wide_number c.corner_reach-reach.result in
-    let kept = kept_reach c.corner_reach-reach.result c.corner_reach-reach.ensures.bound in
+    let reach = wide_number c.from-reach.result in
+    let kept = kept_reach c.from-reach.result (short (goal.at.returns c).After-from-reach) in
     let one = runs_kept c.box_runs.new.firsts c.box_runs.new.ends first.firsts first.ends top
-    (λ s. IsInBox (low_corner r) (high_corner r) s) (IsLeft r.from r.to reach) (boxed at) c.narrow_left.ensures
+    (λ s. IsInBox (low_corner r) (high_corner r) s) (IsLeft r.from r.to reach) c.box_runs.ensures c.narrow_left.ensures
     c.narrow_left.auto.firsts in
     let two = runs_kept first.firsts first.ends second.firsts second.ends top _ (IsLeft r.to r.from reach) one
     c.narrow_left-2.ensures c.narrow_left-2.auto.firsts in
     runs_like second.firsts second.ends top _ (λ s. IsInSwept s r)
     (λ s.
-    let told = in_box_and_near r (wide at) (high at) reach (kept ∙ c.corner_reach-reach.ensures.value) s in
+    let told = in_box_and_near r (wide at) (high at) reach (kept ∙ value (goal.at.returns c).After-from-reach) s in
     let near = near_line r.from r.to reach s in (
       (λ held. told.1 (held.0.0, near.1 (held.0.1, held.1))),
       (λ inside.
@@ -93,14 +89,8 @@ returns-then-width-eq0 c =
           none_by_bits _ c.requires.swept.height w.if-height-eq0.true inside.high
     ])
 
-pub widened_ends-requires-clause-across : goal.widened_ends-requires-clause-across
-widened_ends-requires-clause-across c = passed_size c.args.swept.now.width.0 c.requires.swept.width
-
-pub widened_ends-requires-clause-along : goal.widened_ends-requires-clause-along
-widened_ends-requires-clause-along c = passed_size c.args.swept.now.height.0 c.requires.swept.height
-
 pub narrow_left-requires-clause-reach : goal.narrow_left-requires-clause-reach
-narrow_left-requires-clause-reach c = passed_reach c.corner_reach-reach.result c.corner_reach-reach.ensures.bound
+narrow_left-requires-clause-reach c = passed_reach c.from-reach.result (short (goal.at.narrow_left-requires-clause-reach c).After-from-reach)
 
 pub narrow_left-requires-clause-some : goal.narrow_left-requires-clause-some
 narrow_left-requires-clause-some c = rw c.box_runs.auto.firsts (some_rows _ _ c.is_empty.ensures c.if-is_empty.false)
@@ -112,7 +102,7 @@ pub narrow_left-requires-clause-ends : goal.narrow_left-requires-clause-ends
 narrow_left-requires-clause-ends c = c.box_runs.auto.ends ∙ c.requires.ends ∙ sym c.box_runs.auto.firsts
 
 pub narrow_left-requires-2-clause-reach : goal.narrow_left-requires-2-clause-reach
-narrow_left-requires-2-clause-reach c = passed_reach c.corner_reach-reach.result c.corner_reach-reach.ensures.bound
+narrow_left-requires-2-clause-reach c = passed_reach c.from-reach.result (short (goal.at.narrow_left-requires-2-clause-reach c).After-from-reach)
 
 pub narrow_left-requires-2-clause-some : goal.narrow_left-requires-2-clause-some
 narrow_left-requires-2-clause-some c =
@@ -124,12 +114,6 @@ narrow_left-requires-2-clause-rows c = rw (c.narrow_left.auto.firsts, c.box_runs
 pub narrow_left-requires-2-clause-ends : goal.narrow_left-requires-2-clause-ends
 narrow_left-requires-2-clause-ends c =
     rw (c.narrow_left.auto.ends, c.narrow_left.auto.firsts, c.box_runs.auto.ends, c.box_runs.auto.firsts) c.requires.ends
-
-pub box_runs-requires-clause-left : goal.box_runs-requires-clause-left
-box_runs-requires-clause-left c = c.widened_ends.ensures.low_bound
-
-pub box_runs-requires-clause-right : goal.box_runs-requires-clause-right
-box_runs-requires-clause-right c = c.widened_ends.ensures.high_bound
 
 pub box_runs-requires-clause-rows : goal.box_runs-requires-clause-rows
 box_runs-requires-clause-rows c = c.requires.rows

@@ -21,8 +21,17 @@ loop-k-preserved c =
       cut =
           next_set _ ends c.loop-k.ends c.loop-k.k _ (omega arith) was.cut
           (end_cut top c.loop-k.crossing steps c.loop-k.k _ c.requires.steps was.here was.lowered _ _
-          (rw (was.cut.same c.loop-k.k (omega arith)) at c.columns_before-in-loop-k.ensures));
+          (rw (was.cut.same c.loop-k.k (omega arith)) at c.columns_before.ensures));
     }
+
+pub loop-row-init : goal.loop-row-init
+loop-row-init c = none_set _ _
+
+pub loop-row-preserved : goal.loop-row-preserved
+loop-row-preserved c =
+    let was = c.loop-row.invariant in
+    next_set _ c.args.ends.now c.loop-row.ends c.loop-row.row _ (omega arith) was
+    (rw (was.same c.loop-row.row (omega arith)) at c.min.ensures)
 
 pub returns-then-stays : goal.returns-then-stays
 returns-then-stays c = λ k i within.
@@ -30,8 +39,8 @@ returns-then-stays c = λ k i within.
     let ends = c.args.ends.now in
     let last = length ends - 1 in
     let short : slice_index ends k < 2 ^ 32 = search rules in
-    end_cut_to (slice_index ends k) (slice_index c.cut_all.new.ends k) c.columns_before.result (2 ^ 32 - 1) i _ _
-    (c.cut_all.ensures.each k within) (omega (arith, short)) (c.columns_before.ensures i)
+    end_cut_to (slice_index ends k) (slice_index c.loop-row.ends k) c.columns_before-columns.result (2 ^ 32 - 1) i _ _
+    (c.loop-row.invariant.above k (omega (arith, within, c.loop-row-test.false, c.loop-row.invariant.size))) (omega (arith, short)) (c.columns_before-columns.ensures i)
     (stays_tells top c.args.steps.now _ k last i c.requires.steps c.requires.top (omega (arith, within)) (c.stays.ensures.0 c.if-stays.true))
 
 pub returns : goal.returns

@@ -1,4 +1,4 @@
-use Rattle.std.proofs.Common.{◌≡◌, ◌↔◌, ℕ, ◌+◌, ◌*◌, ◌^◌, ◌<◌, slice_index}
+use Rattle.std.proofs.Common.{◌≡◌, ◌↔◌, min, ℕ, ◌+◌, ◌*◌, ◌^◌, ◌<◌, slice_index}
 use Rattle.cam_rows.specs.Machinery.Narrowing.{IsUp}
 use Rattle.cam_rows.specs.Machinery.Slopes.{IsCrossing, falling, lowered}
 use Rattle.cam_rows.proofs.SetRows.{AreSetAbove}
@@ -12,3 +12,6 @@ invariant-loop-k l = record {
       (λ k end. (i : ℕ) → (i < end) ↔ ((i < slice_index l.fn.ends k) × IsUp (falling l.fn.top l.steps) k i))
       l.fn.ends l.k l.ends;
 }
+
+abbrev pub invariant-loop-row : goal.invariant-loop-row
+invariant-loop-row l = AreSetAbove (λ k end. end ≡ min (slice_index l.fn.ends k) l.columns) l.fn.ends l.row l.ends

@@ -1,7 +1,0 @@
-use Rattle.std.proofs.Common.{arith}
-use Rattle.std.proofs.lemmas.Int.{ints}
-use Rattle.cam_shapes.proofs.Vectors.{same_vector}
-use Rattle.cam_shapes.proofs.obround.swapped.Goals as goal
-
-pub returns-clause-value : goal.returns-clause-value
-returns-clause-value c = same_vector _ _ (omega (arith, ints)) (omega (arith, ints))
