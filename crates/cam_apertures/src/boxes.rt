@@ -8,7 +8,7 @@ ghost use Rattle.cam_shapes.specs.Plane.{place_of};
 ghost use Rattle.cam_macros.specs.declared.primitive.PrimShape.TheVariants.{Outline};
 ghost use Rattle.cam_apertures.specs.Primitives.{IsMacroPoint, IsSoundPrim, IsSoundShape, box_about, box_of_point};
 ghost use Rattle.cam_apertures.specs.Primitives.{box_of_prims, primitive_box};
-ghost use Rattle.cam_apertures.specs.Machinery.Boxes.{IsSmallBox, across, reversed, spanned, up};
+ghost use Rattle.cam_apertures.specs.Machinery.Boxes.{IsSmallBox, reversed, spanned};
 ghost use Rattle.cam_apertures.specs.Turned.{IsTurnableBox, turned_box};
 
 use cam_macros::{Prim, PrimShape};
@@ -22,26 +22,6 @@ struct Span {
 }
 
 impl Span {
-    /// What a box from one corner to the other covers in x.
-    fn across(low: Spot, high: Spot) -> Span
-        ensures { result ≡ across low high }
-    {
-        Span {
-            low: low.x,
-            high: high.x,
-        }
-    }
-
-    /// What a box from one corner to the other covers in y.
-    fn up(low: Spot, high: Spot) -> Span
-        ensures { result ≡ up low high }
-    {
-        Span {
-            low: low.y,
-            high: high.y,
-        }
-    }
-
     /// The span on the other side of 0.
     fn reversed(self) -> Span
         requires low { unsigned_abs self.low < 2 ^ 63 }
@@ -76,8 +56,14 @@ pub fn turned(bounds: Bounds, turn: Turn) -> Bounds
     let Bounds::Closed { low, high } = bounds else {
         return Bounds::Empty;
     };
-    let across = Span::across(low, high);
-    let up = Span::up(low, high);
+    let across = Span {
+        low: low.x,
+        high: high.x,
+    };
+    let up = Span {
+        low: low.y,
+        high: high.y,
+    };
     match turn {
         Turn::R0 => spanned(across, up),
         Turn::R90 => spanned(up.reversed(), across),

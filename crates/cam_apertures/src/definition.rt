@@ -4,9 +4,9 @@ ghost use Rattle.std.specs.Prelude.{◌≡◌, ◌≤◌, ◌<◌, ◌==◌, ◌
 ghost use Rattle.std.specs.Char.{is_ascii_digit};
 ghost use Rattle.std.specs.List.{before_first, list_all, position_or_len, prefix_len, slice_split};
 ghost use Rattle.std.specs.Option.{option_copied};
-ghost use Rattle.cam_apertures.specs.Definition.{are_runs, behind_comma, circle, definition, template_form, is_comma};
-ghost use Rattle.cam_apertures.specs.Definition.{is_of_runs, length_at, numbered, obround, parameters_of};
-ghost use Rattle.cam_apertures.specs.Definition.{rect, values_of, with_number, IsDefined, IsDefinitionRefused};
+ghost use Rattle.cam_apertures.specs.Definition.{are_runs, behind_comma, definition, template_form, is_comma};
+ghost use Rattle.cam_apertures.specs.Definition.{is_of_runs, length_at, numbered, parameters_of};
+ghost use Rattle.cam_apertures.specs.Definition.{values_of, with_number, IsDefined, IsDefinitionRefused};
 ghost use Rattle.cam_apertures.specs.declared.fault.AdFault.TheVariants.{BadNumber};
 ghost use Rattle.cam_apertures.specs.Machinery.Outcomes.{outcome, standard_outcome, template_outcome};
 ghost use Rattle.cam_apertures.specs.Machinery.Outcomes.{IsErr};
@@ -190,35 +190,6 @@ fn length_at(unit: Unit, values: &[i64], k: usize) -> Nm
     fix9_nm(values.get(k).copied().unwrap_or(0), unit)
 }
 
-fn circle(unit: Unit, values: &[i64]) -> Aperture
-    ensures { result ≡ circle unit values.now }
-{
-    Aperture::Circle {
-        diameter: length_at(unit, values, 0),
-        hole: length_at(unit, values, 1),
-    }
-}
-
-fn rect(unit: Unit, values: &[i64]) -> Aperture
-    ensures { result ≡ rect unit values.now }
-{
-    Aperture::Rect {
-        width: length_at(unit, values, 0),
-        height: length_at(unit, values, 1),
-        hole: length_at(unit, values, 2),
-    }
-}
-
-fn obround(unit: Unit, values: &[i64]) -> Aperture
-    ensures { result ≡ obround unit values.now }
-{
-    Aperture::Obround {
-        width: length_at(unit, values, 0),
-        height: length_at(unit, values, 1),
-        hole: length_at(unit, values, 2),
-    }
-}
-
 /// A standard aperture, if it has the parameters that it needs, at most one more, and sizes within
 /// the limits.
 #[tactic(auto, unfolding(crate::specs::Machinery::Outcomes::standard_outcome))]
@@ -252,13 +223,27 @@ fn template(
     ensures macros { macros.new ≡ macros.old }
 {
     if name == b"C".as_slice() {
-        return standard(1, values.len(), circle(unit, &values));
+        let circle = Aperture::Circle {
+            diameter: length_at(unit, &values, 0),
+            hole: length_at(unit, &values, 1),
+        };
+        return standard(1, values.len(), circle);
     }
     if name == b"R".as_slice() {
-        return standard(2, values.len(), rect(unit, &values));
+        let rect = Aperture::Rect {
+            width: length_at(unit, &values, 0),
+            height: length_at(unit, &values, 1),
+            hole: length_at(unit, &values, 2),
+        };
+        return standard(2, values.len(), rect);
     }
     if name == b"O".as_slice() {
-        return standard(2, values.len(), obround(unit, &values));
+        let obround = Aperture::Obround {
+            width: length_at(unit, &values, 0),
+            height: length_at(unit, &values, 1),
+            hole: length_at(unit, &values, 2),
+        };
+        return standard(2, values.len(), obround);
     }
     if name == b"P".as_slice() {
         return Err(AdFault::TemplateRefused);

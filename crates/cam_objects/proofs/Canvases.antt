@@ -1,8 +1,9 @@
 -- leaves that are painted on canvases, one list beneath another
-use Rattle.std.proofs.Common.{◌≡◌, ◌↔◌, ℕ, ◌+◌, ◌<◌, Bool, List, [], ◌∷◌, ◌++◌, length, drop, get_or, Option, inl, inr, refl, sym, ap, subst, ◌∙◌, arith}
+use Rattle.std.proofs.Common.{◌≡◌, ◌↔◌, ℕ, ◌+◌, ◌<◌, Bool, List, [], ◌∷◌, ◌++◌, length, drop, get_or, slice_get, Option, Some, inl, inr, refl, sym, ap, subst, ◌∙◌, arith}
 use Rattle.std.specs.List.{flat_map}
 use Rattle.std.specs.Option.{option_or}
 use Rattle.std.proofs.lemmas.List.{drop_more, drop_all}
+use Rattle.std.proofs.lemmas.Option.{get_or_from_slice_get, slice_get-get_or}
 use Rattle.cam_units.specs.Boxes.{Holds}
 use Rattle.cam_units.specs.declared.bounds.Bounds.{Bounds}
 use Rattle.cam_units.specs.declared.point.Spot.{Spot}
@@ -99,3 +100,13 @@ module _ {V : Type 0} (has : V → ℕ → ℕ → Type 0) (place : V → ℕ �
       subst (λ ls. Paints has place ink u ls w)
       (sym (ap (flat_map f) (drop_more xs i x h) ∙ (λ k. f (sym e k) ++ flat_map f (drop (one k) xs))))
       (paints_beneath u v w (f x) (flat_map f (drop j xs)) later here)
+
+  -- that at a place of the list
+  pub paints_listed : {X : Type 0} (f : X → List Leaf) (xs : List X) (i j : ℕ) (u v w : V) → i + 1 ≡ j → i < length xs
+      → Paints has place ink u (flat_map f (drop j xs)) v
+      → ((x : X) → slice_get xs i ≡ Some x → Paints has place ink v (f x) w) → Paints has place ink u (flat_map f (drop i xs)) w
+  paints_listed f [] i j u v w one h later here = absurd (omega arith)
+  paints_listed f (y ∷ xs) i j u v w one h later here =
+      let x = get_or (y ∷ xs) i y in
+      let at = slice_get-get_or (y ∷ xs) i y h in
+      paints_next f (y ∷ xs) i j x u v w one h (sym (get_or_from_slice_get (y ∷ xs) i x x at)) later (here x at)

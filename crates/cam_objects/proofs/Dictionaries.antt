@@ -1,41 +1,9 @@
 -- what a number stands for, step by step
-use Rattle.std.proofs.Common.{
-  ◌≡◌,
-  ℕ,
-  zero,
-  suc,
-  ◌+◌,
-  ◌<◌,
-  ◌≤◌,
-  Bool,
-  true,
-  false,
-  cond,
-  List,
-  [],
-  ◌∷◌,
-  ◌++◌,
-  length,
-  take,
-  reverse,
-  get_or,
-  slice_get,
-  Option,
-  None,
-  Some,
-  refl,
-  sym,
-  ap,
-  ◌∙◌,
-  arith,
-  nat_eq,
-  inl,
-  inr,
-}
+use Rattle.std.proofs.Common.{◌≡◌, ℕ, zero, suc, ◌+◌, ◌<◌, ◌≤◌, Bool, true, false, cond, List, [], ◌∷◌, length, take, reverse, get_or, slice_get, Option, None, Some, refl, sym, ap, ◌∙◌, arith, nat_eq, inl, inr}
 use Rattle.std.specs.List.{IsDistinct}
 use Rattle.std.specs.Map.{keys_of, lookup}
 use Rattle.std.proofs.lemmas.List.{take_all, take_more, reverse-append, get_or-map, length-map}
-use Rattle.std.proofs.lemmas.Option.{get_or_from_slice_get, slice_get-get_or, slice_get_within}
+use Rattle.std.proofs.lemmas.Option.{get_or_from_slice_get, slice_get_within}
 use Rattle.std.proofs.lemmas.Map.Keys.{apart_from_distinct}
 use Rattle.std.proofs.lemmas.Bool.{eq-eqb, ne_eqb, eqb-false, cases_lt}
 use Rattle.cam_objects.specs.declared.entry.Entry.{Entry}
@@ -136,12 +104,3 @@ module _ {M : Type 0} (nothing : M) (means : (ℕ → M) → Entry → M) where
   -- the number stands nowhere
   pub meant-absent : (es : Pairs) (k n : ℕ) → lookup (nat_eq n) es ≡ None → k ≤ length es → meant k es n ≡ nothing
   meant-absent es k n h within = nowhere es k n (n, Block []) within (λ j b. absent_at es n j (n, Block []) h (omega arith))
-
-pub take_pair : (es : Pairs) (k n : ℕ) (e : Entry) → slice_get es k ≡ Some (n, e) → take (k + 1) es ≡ take k es ++ (n, e) ∷ []
-take_pair es k n e at =
-    take_more es k (n, e) (slice_get_within es k (n, e) at)
-    ∙ ap (λ x. take k es ++ x ∷ []) (get_or_from_slice_get es k (n, e) (n, e) at)
-
-pub not_past : (es : Pairs) (k : ℕ) → k < length es → slice_get es k ≡ None → ⊥
-not_past [] k h e = absurd (omega arith)
-not_past (x ∷ es) k h e = let some = slice_get-get_or (x ∷ es) k x h in cc

@@ -74,11 +74,12 @@ module _ {X : Type 0} (f : X → ℕ) (before after : List X) (x : X) where
   length_at : length (before ++ x ∷ after) ≡ 1 + length (before ++ after)
   length_at = omega (arith, length-append before (x ∷ after), length-append before after)
 
-  sum_behind : sum_by f ((before ++ after) ++ x ∷ []) ≡ f x + sum_by f (before ++ after)
-  sum_behind = omega (arith, sum_by-append f (before ++ after) (x ∷ []), sum_by-cons f x [])
+  -- what fits behind the others fits between them
+  leaves_at : (n : ℕ) → sum_by f ((before ++ after) ++ x ∷ []) ≤ n → sum_by f (before ++ x ∷ after) ≤ n
+  leaves_at n h = omega (arith, h, sum_at, sum_by-append f (before ++ after) (x ∷ []), sum_by-cons f x [])
 
-  length_behind : length ((before ++ after) ++ x ∷ []) ≡ 1 + length (before ++ after)
-  length_behind = omega (arith, length-append (before ++ after) (x ∷ []))
+  room_at : (n : ℕ) → length ((before ++ after) ++ x ∷ []) ≤ n → length (before ++ x ∷ after) ≤ n
+  room_at n h = omega (arith, h, length_at, length-append (before ++ after) (x ∷ []))
 
 -- the same elements beside it, and it in another place
 module _ {X : Type 0} (before after before' after' : List X) (x : X) (same : before' ++ after' ≡ before ++ after) where
@@ -115,12 +116,8 @@ layer_edits = record {
     entries = h.entries;
     items = all_with (IsSoundItem es) before after item good h.items;
     limits = record {
-      few =
-          subst (λ k. k ≤ 1000000) (length_behind (item_count (weight_in es)) before after item
-          ∙ sym (length_at (item_count (weight_in es)) before after item)) room.few;
-      leaves =
-          subst (λ k. k ≤ 4000000) (sum_behind (item_count (weight_in es)) before after item
-          ∙ sym (sum_at (item_count (weight_in es)) before after item)) room.leaves;
+      few = room_at (item_count (weight_in es)) before after item 1000000 room.few;
+      leaves = leaves_at (item_count (weight_in es)) before after item 4000000 room.leaves;
     };
   };
   remove = λ es before after item h. record {
@@ -139,10 +136,15 @@ layer_edits = record {
             all_with (IsSoundItem es) before after there (sound_kept by es item (all_at (IsSoundItem es) before after item h.items) inside)
             (all_without (IsSoundItem es) before after item h.items);
         limits = record {
-          few = subst (λ k. k ≤ 1000000) (length_at w before after item ∙ sym (length_at w before after there)) h.limits.few;
-          leaves = subst (λ k. k ≤ 4000000)
-              (sum_at w before after item ∙ ap (λ k. k + sum_by w (before ++ after)) (sym (item_count_kept by (weight_in es) item))
-              ∙ sym (sum_at w before after there)) h.limits.leaves;
+          few = omega (arith, h.limits.few, length_at w before after item, length_at w before after there);
+          leaves =
+              omega (
+                arith,
+                h.limits.leaves,
+                sum_at w before after item,
+                sum_at w before after there,
+                item_count_kept by (weight_in es) item,
+              );
         };
       };
   replace = λ es before after item new h good room. record {
@@ -228,12 +230,8 @@ drill_edits = record {
     distinct = h.distinct;
     items = all_with (IsSoundDrillItem ts) before after item good h.items;
     limits = record {
-      few =
-          subst (λ k. k ≤ 1000000) (length_behind drill_count_of before after item ∙ sym (length_at drill_count_of before after item))
-          room.few;
-      leaves =
-          subst (λ k. k ≤ 4000000) (sum_behind drill_count_of before after item ∙ sym (sum_at drill_count_of before after item))
-          room.leaves;
+      few = room_at drill_count_of before after item 1000000 room.few;
+      leaves = leaves_at drill_count_of before after item 4000000 room.leaves;
     };
   };
   remove = λ ts before after item h. record {
@@ -254,13 +252,15 @@ drill_edits = record {
             (drill_kept ts by item (all_at (IsSoundDrillItem ts) before after item h.items) inside)
             (all_without (IsSoundDrillItem ts) before after item h.items);
         limits = record {
-          few =
-              subst (λ k. k ≤ 1000000) (length_at drill_count_of before after item ∙ sym (length_at drill_count_of before after there))
-              h.limits.few;
-          leaves = subst (λ k. k ≤ 4000000)
-              (sum_at drill_count_of before after item
-              ∙ ap (λ k. k + sum_by drill_count_of (before ++ after)) (sym (drill_count_kept by item))
-              ∙ sym (sum_at drill_count_of before after there)) h.limits.leaves;
+          few = omega (arith, h.limits.few, length_at drill_count_of before after item, length_at drill_count_of before after there);
+          leaves =
+              omega (
+                arith,
+                h.limits.leaves,
+                sum_at drill_count_of before after item,
+                sum_at drill_count_of before after there,
+                drill_count_kept by item,
+              );
         };
       };
   replace = λ ts before after item new h good room. record {

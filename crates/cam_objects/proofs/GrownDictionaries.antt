@@ -78,7 +78,7 @@ apart es n m absent known = by (nat_eq n m) refl
         absurd (false≢true (subst IsSome (ap (λ k. lookup (nat_eq k) es) (sym same) ∙ absent) known))
     by false e = refl
 
-known_more : (es more : Pairs) (n : ℕ) → HasNumber es n → HasNumber (es ++ more) n
+pub known_more : (es more : Pairs) (n : ℕ) → HasNumber es n → HasNumber (es ++ more) n
 known_more [] more n h = absurd (false≢true h)
 known_more (e ∷ es) more n h = by (nat_eq n e.0) (known_more es more n) h
   where
@@ -101,7 +101,7 @@ module _ (es : Pairs) (n : ℕ) (e : Entry) (absent : lookup (nat_eq n) es ≡ N
   means_same : (m : ℕ) → HasNumber es m → meaning_in grown m ≡ meaning_in es m
   means_same = stands_same no_meaning entry_meaning
 
-  weighs_same : (m : ℕ) → HasNumber es m → weight_in grown m ≡ weight_in es m
+  pub weighs_same : (m : ℕ) → HasNumber es m → weight_in grown m ≡ weight_in es m
   weighs_same = stands_same no_weight entry_weight
 
   -- ---- objects
@@ -121,13 +121,13 @@ module _ (es : Pairs) (n : ℕ) (e : Entry) (absent : lookup (nat_eq n) es ≡ N
   count_same (Arc ccw dark m from to centre) h = refl
   count_same (Region c dark) h = refl
 
-  drawable_same : (o : Object) → IsKnown es o → IsDrawable (meaning_in es) o → IsDrawable (meaning_in grown) o
+  pub drawable_same : (o : Object) → IsKnown es o → IsDrawable (meaning_in es) o → IsDrawable (meaning_in grown) o
   drawable_same (Flash m at t dark) h k = refl
   drawable_same (Draw m from to t dark) h k = subst (λ (x : Meaning). IsSome x.tip) (sym (means_same m h)) k
   drawable_same (Arc ccw dark m from to centre) h k = subst (λ (x : Meaning). IsSome (round_width x.tip)) (sym (means_same m h)) k
   drawable_same (Region c dark) h k = refl
 
-  known_same : (o : Object) → IsKnown es o → IsKnown grown o
+  pub known_same : (o : Object) → IsKnown es o → IsKnown grown o
   known_same (Flash m at t dark) h = known_more es ((n, e) ∷ []) m h
   known_same (Draw m from to t dark) h = known_more es ((n, e) ∷ []) m h
   known_same (Arc ccw dark m from to centre) h = known_more es ((n, e) ∷ []) m h
@@ -141,7 +141,7 @@ module _ (es : Pairs) (n : ℕ) (e : Entry) (absent : lookup (nat_eq n) es ≡ N
   block_same (o ∷ objects) h p =
       λ i. object_same p o (All-head (IsKnown es) o objects h) i ++ block_same objects (All-tail (IsKnown es) o objects h) p i
 
-  block_count_same : (objects : List Object) → All (IsKnown es) objects
+  pub block_count_same : (objects : List Object) → All (IsKnown es) objects
       → block_count (weight_in grown) objects ≡ block_count (weight_in es) objects
   block_count_same [] h = refl
   block_count_same (o ∷ objects) h =
@@ -167,7 +167,7 @@ module _ (es : Pairs) (n : ℕ) (e : Entry) (absent : lookup (nat_eq n) es ≡ N
   item_count_same (One o) h = count_same o (All-head (IsKnown es) o [] h)
   item_count_same (Repeat columns rows x y objects) h = ap (λ k. columns * rows * k) (block_count_same objects h)
 
-  sound_same : (item : Item) → IsSoundItem es item → IsSoundItem grown item
+  pub sound_same : (item : Item) → IsSoundItem es item → IsSoundItem grown item
   sound_same item h =
       let m = meets es item h in
       sound grown item (record {
@@ -188,7 +188,7 @@ module _ (es : Pairs) (n : ℕ) (e : Entry) (absent : lookup (nat_eq n) es ≡ N
         };
       })
 
-  sum_same : (items : List Item) → All IsKnownItem items
+  pub sum_same : (items : List Item) → All IsKnownItem items
       → sum_by (item_count (weight_in grown)) items ≡ sum_by (item_count (weight_in es)) items
   sum_same [] h = refl
   sum_same (x ∷ items) h =

@@ -1,13 +1,13 @@
 -- the cells that items reach, read and followed
-use Rattle.std.proofs.Common.{◌≡◌, ℕ, ◌+◌, ◌-◌, ◌<◌, ◌≤◌, ◌⊎◌, ℤ, ◌≤ℤ◌, inl, inr, List, [], ◌∷◌, ◌++◌, length, map, get_or}
+use Rattle.std.proofs.Common.{◌≡◌, ℕ, ◌+◌, ◌-◌, ◌<◌, ◌≤◌, ◌⊎◌, ℤ, ◌≤ℤ◌, inl, inr, List, [], ◌∷◌, ◌++◌, length, get_or}
 use Rattle.std.proofs.Common.{slice_get, slice_set, take, insert, remove, Some, refl, sym, ap, subst, ◌∙◌, arith}
 use Rattle.std.proofs.lemmas.Bool.{cases_eq, cases_lt}
 use Rattle.std.proofs.lemmas.Int.{ints}
-use Rattle.std.proofs.lemmas.List.{get_or-map, get_or-set_same, get_or-set_other, get_or-take, get_or_append_left}
+use Rattle.std.proofs.lemmas.List.{get_or-set_same, get_or-set_other, get_or-take, get_or_append_left}
 use Rattle.std.proofs.lemmas.List.{length-append, length-set, length-take, take_more}
 use Rattle.std.proofs.lemmas.List.Edits.{get_or-insert_above, get_or-insert_at, get_or-insert_below, get_or-remove_above}
 use Rattle.std.proofs.lemmas.List.Edits.{get_or-remove_below, length-insert, length-remove}
-use Rattle.std.proofs.lemmas.Option.{get_or_from_slice_get, slice_get-get_or}
+use Rattle.std.proofs.lemmas.Option.{get_or_from_slice_get}
 use Rattle.std.proofs.Math.Seq.{get_or-append_seam, set-append_seam}
 use Rattle.cam_units.specs.Boxes.{HaveCommonPlace}
 use Rattle.cam_units.specs.declared.bounds.Bounds.{Bounds}
@@ -26,13 +26,6 @@ use Rattle.cam_objects.specs.Machinery.Painting.{StandsOnBoard}
 use Rattle.cam_objects.specs.Soundness.{HasSoundItems, IsInside, IsSoundItem}
 use Rattle.cam_objects.proofs.SoundItems.{meets}
 use Rattle.cam_objects.specs.Machinery.Sides.{AreSidesOf, HasSides, MeetsAt}
-
--- what is read of an item is so in a list of that of each
-pub read_at : {X Y : Type 0} (f : X → Y) (R : Y → Type 0) (d : Y) (items : List X) (k : ℕ) → k < length items
-    → ((item : X) → slice_get items k ≡ Some item → R (f item)) → R (get_or (map f items) k d)
-read_at f R d [] k h told = absurd (omega arith)
-read_at f R d (x ∷ xs) k h told =
-    subst R (sym (get_or-map f (x ∷ xs) k x d h)) (told (get_or (x ∷ xs) k x) (slice_get-get_or (x ∷ xs) k x h))
 
 -- the item read is that of the layer shown
 pub read_box : (layer shown : Layer) (place : ℕ) (x item : Item) (b : Bounds) → layer ≡ shown

@@ -7,11 +7,11 @@ pub mod Canvases
 pub mod CarriedNumbers
 pub mod ClearItems
 pub mod Computed
-pub mod Copied
 pub mod CopyBoxes
 pub mod Counting
 pub mod CoveredBoxes
 pub mod Covering
+pub mod Copies
 pub mod Dictionaries
 pub mod DrillBoxes
 pub mod EditedAttributes

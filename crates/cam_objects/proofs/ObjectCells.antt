@@ -100,14 +100,20 @@ measurable es columns rows i j objects sound item =
       leaves = omega (arith, m.limits.leaves, mul-le 1 count (columns * rows) count (omega (arith, some)) (omega arith));
     }
 
--- those of an item at a place of a sound layer that is a repeat
+-- those of a sound item that is one
+pub measured : (es : List (ℕ × Entry)) (item : Item) (columns rows : ℕ) (i j : ℤ) (objects slice : List Object)
+    → IsSoundDictionary es → IsSoundItem es item → item ≡ Repeat columns rows i j objects → slice ≡ objects → AreMeasurable es slice
+measured es item columns rows i j objects slice sound is_sound is same =
+    subst (λ (os : List Object). AreMeasurable es os) (sym same)
+    (measurable es columns rows i j objects sound (subst (IsSoundItem es) is is_sound))
+
+-- and of one at a place of a sound layer
 pub listed_measurable : (layer : Layer) (place : ℕ) (x : Item) (columns rows : ℕ) (i j : ℤ) (objects slice : List Object)
     → HasSoundItems layer → place < length layer.items.items → x ≡ get_or layer.items.items place x
     → x ≡ Repeat columns rows i j objects → slice ≡ objects → AreMeasurable layer.apertures slice
 listed_measurable layer place x columns rows i j objects slice sound within here is same =
-    subst (λ (os : List Object). AreMeasurable layer.apertures os) (sym same)
-    (measurable layer.apertures columns rows i j objects sound.entries
-    (subst (IsSoundItem layer.apertures) (sym here ∙ is) (sound.items place x within)))
+    measured layer.apertures x columns rows i j objects slice sound.entries
+    (subst (IsSoundItem layer.apertures) (sym here) (sound.items place x within)) is same
 
 -- one whose box has no place in common with what a canvas shows, seen from the place where it is painted
 object_unseen : {V : Type 0} (has : V → ℕ → ℕ → Type 0) (place : V → ℕ → ℕ → Spot) (v : V) (es : List (ℕ × Entry))

@@ -1,42 +1,14 @@
 -- what lists ask for, painted on a canvas one element beneath another
-use Rattle.std.proofs.Common.{
-  ◌≡◌,
-  ℕ,
-  zero,
-  suc,
-  ◌+◌,
-  ◌*◌,
-  ◌-◌,
-  ◌<◌,
-  ◌≤◌,
-  Bool,
-  true,
-  Option,
-  ℤ,
-  List,
-  [],
-  ◌∷◌,
-  length,
-  drop,
-  get_or,
-  refl,
-  sym,
-  ap,
-  subst,
-  ◌∙◌,
-  arith,
-}
+use Rattle.std.proofs.Common.{◌≡◌, ℕ, ◌+◌, ◌-◌, ◌<◌, ◌≤◌, Bool, true, Option, List, [], ◌∷◌, length, drop, get_or, refl, sym, ap, subst, ◌∙◌, arith}
 use Rattle.std.specs.List.{flat_map, range_with_len}
-use Rattle.std.proofs.Math.Nat.{mul-pos}
 use Rattle.std.proofs.lemmas.List.{drop_more, length-drop}
 use Rattle.std.proofs.lemmas.List.FromFn.{length-range_with_len}
 use Rattle.cam_units.specs.declared.length.Nm.{Nm}
 use Rattle.cam_units.specs.declared.point.Point.{Point}
 use Rattle.cam_units.specs.declared.point.Spot.{Spot}
 use Rattle.cam_objects.specs.Canvases.{Paints}
-use Rattle.cam_objects.specs.declared.object.Object.{Object}
 use Rattle.cam_objects.specs.Drilling.{rout_leaves, slots_from}
-use Rattle.cam_objects.specs.Leaves.{Leaf, Meaning, Stroke, leaf, repeat_leaves}
+use Rattle.cam_objects.specs.Leaves.{Leaf, Stroke, leaf}
 use Rattle.cam_objects.specs.Machinery.Slots.{slots_of}
 use Rattle.cam_objects.proofs.Canvases.{paints_beneath, paints_next, paints_nothing}
 use Rattle.cam_objects.proofs.Painting.{at_range}
@@ -66,20 +38,6 @@ few_slots : (d : Nm) (ps : List Point) → length ps ≤ 1 → slots_of d ps ≡
 few_slots d [] few = refl
 few_slots d (p ∷ []) few = refl
 few_slots d (p ∷ q ∷ ps) few = absurd (omega arith)
-
--- ---- copies
-
-no_columns : (ks : List ℕ) → flat_map {A = Leaf} (λ k. []) ks ≡ []
-no_columns [] = refl
-no_columns (k ∷ ks) = no_columns ks
-
--- a repeat without columns or rows
-pub no_copies : (means : ℕ → Meaning) (columns rows : ℕ) (i j : ℤ) (objects : List Object) → columns * rows ≡ 0
-    → repeat_leaves means columns rows i j objects ≡ []
-no_copies means zero rows i j objects none = refl
-no_copies means (suc columns) zero i j objects none = no_columns (range_with_len 0 (suc columns))
-no_copies means (suc columns) (suc rows) i j objects none =
-    absurd (omega (arith, none, mul-pos {m = suc columns} {n = suc rows} (omega arith) (omega arith)))
 
 -- ---- on a canvas, from the last one on
 

@@ -106,7 +106,7 @@ use Rattle.cam_objects.specs.Leaves.{
   round_width,
   turned_tip,
 }
-use Rattle.cam_objects.specs.Machinery.Boxes.{AreSized, IsNearBox, IsSizedShape, IsBoxReach, IsNearSpot, IsSizedTip}
+use Rattle.cam_objects.specs.Machinery.Boxes.{AreSized, IsNearBox, IsSizedShape, IsBoxReach, IsSizedTip}
 use Rattle.cam_objects.specs.Machinery.Painting.{meaning_before}
 use Rattle.cam_objects.specs.Soundness.{
   AreOnBoard,
@@ -276,9 +276,6 @@ board_point p h =
 
 pub near_point : (p : Point) → IsOnBoard p → IsNearBox (box_of_point p)
 near_point p h = within_near inner (box_of_point p) (omega arith) (board_point p h)
-
-pub near_place : (p : Point) → IsOnBoard p → IsNearSpot (place_of p)
-near_place p h = (near_point p h).0
 
 pub size_reach : (n : Nm) → IsSize n.0 → IsBoxReach n
 size_reach n h = record { some = h.0; few = omega (arith, ints, h.1) }

@@ -12,6 +12,5 @@ pub mod Runs
 pub mod Repeats
 pub mod Extents
 pub mod FirstCopies
-pub mod Measures
 pub mod Sides
 pub mod Lines

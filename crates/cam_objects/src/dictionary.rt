@@ -13,7 +13,6 @@ ghost use Rattle.std.specs.Prelude.{
   None,
   Some,
   IfNone,
-  IfOk,
   IfSome,
   OnErr,
   OnOk,
@@ -47,7 +46,7 @@ use std::marker::Model;
 
 /// The dictionary of a layer: apertures and blocks by their numbers, in the order in which they
 /// were added. No number stands twice, and each entry might have been added to those before it.
-#[derive(Drop)]
+#[derive(Clone, Drop)]
 pub struct Dictionary {
     map: IndexMap<u32, Entry>,
     facts: Vec<Facts>,
@@ -281,29 +280,5 @@ impl Dictionary {
         self.cells.push_reserved(cells);
         keep_place(&mut self.places, number, place);
         Ok(())
-    }
-
-    /// Adds copies of the entries of another one to none.
-    fn add_copies(&mut self, others: &Dictionary, alloc: Global) -> Result<(), AllocError>
-        requires { self.old ≡ [] }
-        ensures { OnOk result (self.new ≡ others.now) }
-    {
-        others.soundness();
-        for place in 0..others.len() {
-            match others.at(place) {
-                Some((number, entry)) => self.push(number, entry.try_clone(alloc)?)?,
-                None => return Ok(()),
-            }
-        }
-        Ok(())
-    }
-
-    /// A copy; an error where no memory is left for it.
-    pub fn try_clone(&self, alloc: Global) -> Result<Dictionary, AllocError>
-        ensures { IfOk result (λ d. d ≡ self.now) }
-    {
-        let mut copy = Dictionary::new(alloc);
-        copy.add_copies(self, alloc)?;
-        Ok(copy)
     }
 }

@@ -15,7 +15,6 @@ ghost use Rattle.cam_objects.specs.DrillSoundness.{
 ghost use Rattle.cam_objects.specs.Image.{IsBlack};
 ghost use Rattle.cam_objects.specs.Tests.{is_black};
 
-use crate::copying::copies_of;
 use crate::drill::checks::{
     check_drilling, fits_limits, fits_limits_beside, fits_tool, leaf_count,
 };
@@ -30,7 +29,7 @@ use std::alloc::{AllocError, Global};
 ///
 /// It is sound where every tool and every item is, and the limits hold: at most 1,000,000 items, and
 /// at most 4,000,000 holes and slots.
-#[derive(Drop)]
+#[derive(Clone, Drop)]
 pub struct DrillLayer {
     pub tools: Tools,
     pub items: Vec<DrillItem>,
@@ -148,9 +147,6 @@ impl DrillLayer {
         ensures tools { IfOk result (λ copy. copy.tools ≡ self.now.tools) }
         ensures items { IfOk result (λ copy. copy.items.items ≡ self.now.items.items) }
     {
-        let alloc = *self.items.allocator();
-        let items = copies_of(&self.items, alloc)?;
-        let tools = self.tools.try_clone()?;
-        Ok(DrillLayer { tools, items })
+        self.clone()
     }
 }

@@ -9,7 +9,6 @@ ghost use Rattle.cam_objects.specs.Soundness.{HasSoundItems, IsSoundItem, KeepsL
 ghost use Rattle.cam_objects.specs.Tests.{is_black};
 
 use crate::attribute::Attribute;
-use crate::copying::copies_of;
 use crate::dictionary::Dictionary;
 use crate::entry::Entry;
 use crate::image::Pixel;
@@ -23,7 +22,7 @@ use std::alloc::{AllocError, Global};
 /// It is sound where the attributes are sound and no name stands twice, each entry might have been added to those
 /// before it, every item is sound, and the limits hold: at most 1,000 attributes, at most 1,000,000 items, and at
 /// most 4,000,000 leaves. The attributes change nothing of what it paints.
-#[derive(Drop)]
+#[derive(Clone, Drop)]
 pub struct Layer {
     pub attributes: Vec<Attribute>,
     pub apertures: Dictionary,
@@ -123,15 +122,7 @@ impl Layer {
         ensures apertures { IfOk result (λ copy. copy.apertures ≡ self.now.apertures) }
         ensures items { IfOk result (λ copy. copy.items.items ≡ self.now.items.items) }
     {
-        let alloc = *self.items.allocator();
-        let attributes = copies_of(&self.attributes, alloc)?;
-        let items = copies_of(&self.items, alloc)?;
-        let apertures = self.apertures.try_clone(alloc)?;
-        Ok(Layer {
-            attributes,
-            apertures,
-            items,
-        })
+        self.clone()
     }
 }
 

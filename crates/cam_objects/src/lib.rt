@@ -39,7 +39,6 @@ mod boxes;
 mod canvas;
 mod cells;
 mod checks;
-mod copying;
 mod dictionary;
 mod drill;
 mod drill_item;

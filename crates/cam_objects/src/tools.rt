@@ -8,7 +8,6 @@ ghost use Rattle.std.specs.Prelude.{
   [],
   None,
   Some,
-  IfOk,
   IsSome,
   OnErr,
   OnOk,
@@ -27,7 +26,7 @@ use std::marker::Model;
 
 /// The tools of a drill layer in their order: the diameter of each number, in nm. No number stands
 /// twice.
-#[derive(Drop)]
+#[derive(Clone, Drop)]
 pub struct Tools {
     map: IndexMap<u16, Nm>,
 }
@@ -106,14 +105,5 @@ impl Tools {
         ensures before { diameter_of self.old tool ≡ Some result }
     {
         self.map.insert(tool, diameter).unwrap().unwrap()
-    }
-
-    /// A copy; an error where no memory is left for it.
-    pub fn try_clone(&self) -> Result<Tools, AllocError>
-        ensures { IfOk result (λ tools. tools ≡ self.now) }
-    {
-        Ok(Tools {
-            map: self.map.clone()?,
-        })
     }
 }

@@ -12,13 +12,6 @@ use Rattle.cam_apertures.specs.Primitives.{IsSoundPrim, box_of_prims}
 abbrev pub spanned : Span → Span → Bounds
 spanned x y = Closed (record { x = x.low; y = y.low }) (record { x = x.high; y = y.high })
 
--- a box from one corner to the other covers in x, and in y
-abbrev pub across : Spot → Spot → Span
-across low high = record { low = low.x; high = high.x }
-
-abbrev pub up : Spot → Spot → Span
-up low high = record { low = low.y; high = high.y }
-
 abbrev pub reversed : Span → Span
 reversed s = record { low = neg_ℤ s.high; high = neg_ℤ s.low }
 

@@ -1,6 +1,6 @@
 //! Whole numbers of 10^-9 units.
 
-ghost use Rattle.std.specs.Prelude.{◌≡◌, ◌<◌, ◌≤◌, ◌^◌, ◌*ℤ◌, pos, neg_ℤ, option_map, unsigned_abs};
+ghost use Rattle.std.specs.Prelude.{◌≡◌, ◌<◌, ◌≤◌, ◌^◌, ◌*ℤ◌, pos, Some, option_map, unsigned_abs};
 ghost use Rattle.cam_units.specs.Nearest.{nearest_of};
 ghost use Rattle.cam_macros.specs.Arithmetic.{within, operator_applied, quotient};
 ghost use Rattle.cam_macros.specs.Numbers.{billion};
@@ -20,40 +20,17 @@ pub(crate) struct Fixed {
     pub(crate) billionths: i64,
 }
 
-/// A number in 10^-9 units that may still be too large.
-#[derive(Clone, Copy)]
-pub(crate) struct Wide {
-    pub(crate) billionths: i128,
-}
-
-/// What stands before an operator and behind it.
-#[derive(Clone, Copy)]
-pub(crate) struct Operands {
-    pub(crate) left: Fixed,
-    pub(crate) right: Fixed,
-}
-
-impl Wide {
+impl Fixed {
     /// The number, where it is less than 10^6 units in absolute value.
-    pub(crate) fn within(self) -> Option<Fixed>
-        ensures { option_map (λ value. value.billionths) result ≡ within self.billionths }
+    pub(crate) fn within(billionths: i128) -> Option<Fixed>
+        ensures { option_map (λ value. value.billionths) result ≡ within billionths }
     {
-        if self.billionths.unsigned_abs() < LIMIT {
+        if billionths.unsigned_abs() < LIMIT {
             Some(Fixed {
-                billionths: self.billionths as i64,
+                billionths: billionths as i64,
             })
         } else {
             None
-        }
-    }
-}
-
-impl Fixed {
-    pub(crate) fn wide(self) -> Wide
-        ensures { result.billionths ≡ self.billionths }
-    {
-        Wide {
-            billionths: i128::from(self.billionths),
         }
     }
 
@@ -64,64 +41,45 @@ impl Fixed {
     {
         i128::from(self.billionths) * i128::from(BILLION)
     }
+}
 
-    pub(crate) fn negative(self) -> Wide
-        ensures { result.billionths ≡ neg_ℤ self.billionths }
+impl Operator {
+    /// The answer in 10^-9 units, products and quotients rounded to nearest; `None` where the divisor is 0. It may still
+    /// be too large.
+    pub(crate) fn applied(self, left: Fixed, right: Fixed) -> Option<i128>
+        ensures { result ≡ operator_applied self left.billionths right.billionths }
     {
-        Wide {
-            billionths: -i128::from(self.billionths),
+        let above = i128::from(left.billionths);
+        let below = i128::from(right.billionths);
+        match self {
+            Operator::Add => Some(above + below),
+            Operator::Subtract => Some(above - below),
+            Operator::Multiply => nearest(above * below, BILLION),
+            Operator::Divide => quotient(left, right),
         }
     }
 }
 
-impl Operands {
-    /// The answer, products and quotients rounded to nearest; `None` where the divisor is 0.
-    pub(crate) fn applied(self, operator: Operator) -> Option<Wide>
-        ensures { option_map (λ value. value.billionths) result
-            ≡ operator_applied operator self.left.billionths self.right.billionths }
-    {
-        let left = i128::from(self.left.billionths);
-        let right = i128::from(self.right.billionths);
-        match operator {
-            Operator::Add => Some(Wide {
-                billionths: left + right,
-            }),
-            Operator::Subtract => Some(Wide {
-                billionths: left - right,
-            }),
-            Operator::Multiply => Some(nearest(Quotient {
-                above: left * right,
-                below: BILLION,
-            })),
-            Operator::Divide => self.quotient(),
-        }
-    }
-
-    fn quotient(self) -> Option<Wide>
-        ensures { option_map (λ value. value.billionths) result ≡ quotient self.left.billionths self.right.billionths }
-    {
-        let below = self.right.billionths.unsigned_abs();
-        if below == 0 {
-            return None;
-        }
-        let left = self.left.scaled();
-        if self.right.billionths < 0 {
-            return Some(nearest(Quotient {
-                above: -left,
-                below,
-            }));
-        }
-        Some(nearest(Quotient { above: left, below }))
-    }
-}
-
-/// The nearest whole number, ties away from zero.
-fn nearest(quotient: Quotient) -> Wide
-    requires some { 0 < quotient.below }
-    requires short { unsigned_abs quotient.above ≤ 2 ^ 126 }
-    ensures { result.billionths ≡ nearest_of quotient.above quotient.below }
+/// The quotient, rounded to nearest; `None` where the divisor is 0.
+fn quotient(left: Fixed, right: Fixed) -> Option<i128>
+    ensures { result ≡ quotient left.billionths right.billionths }
 {
-    Wide {
-        billionths: quotient.nearest(),
+    let below = right.billionths.unsigned_abs();
+    if below == 0 {
+        return None;
     }
+    let above = left.scaled();
+    if right.billionths < 0 {
+        return nearest(-above, below);
+    }
+    nearest(above, below)
+}
+
+/// The whole number nearest to a quotient, ties away from zero.
+fn nearest(above: i128, below: u64) -> Option<i128>
+    requires some { 0 < below }
+    requires short { unsigned_abs above ≤ 2 ^ 126 }
+    ensures { result ≡ Some (nearest_of above below) }
+{
+    Some(Quotient { above, below }.nearest())
 }

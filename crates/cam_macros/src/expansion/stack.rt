@@ -7,7 +7,7 @@ ghost use Rattle.cam_macros.specs.Machinery.Scanning.{IsFaultOf};
 ghost use Rattle.cam_macros.specs.Machinery.Stack.{put, stack_of, stepped, run, answer};
 ghost use Rattle.cam_macros.specs.Machinery.Variables.{looked_up};
 
-use crate::expansion::arithmetic::{Fixed, Operands, Wide};
+use crate::expansion::arithmetic::Fixed;
 use crate::expansion::variables::Variables;
 use crate::expression::Step;
 use crate::fault::MacroFault;
@@ -32,11 +32,11 @@ impl Model for Stack {
 impl Stack {
     /// Puts a value on top; a fault where it is too large.
     #[tactic(auto, using(crate::proofs::Evaluation::stack_of_push))]
-    fn put(&mut self, value: Wide) -> Result<(), MacroFault>
-        ensures ok { OnOk result (put self.old (within value.billionths) ≡ Some self.new) }
-        ensures fault { IfErr result (λ fault. IsFaultOf fault (put self.old (within value.billionths))) }
+    fn put(&mut self, value: i128) -> Result<(), MacroFault>
+        ensures ok { OnOk result (put self.old (within value) ≡ Some self.new) }
+        ensures fault { IfErr result (λ fault. IsFaultOf fault (put self.old (within value))) }
     {
-        let Some(value) = value.within() else {
+        let Some(value) = Fixed::within(value) else {
             return Err(MacroFault::Malformed);
         };
         self.values.push(value)?;
@@ -63,18 +63,16 @@ impl Stack {
         ensures fault { IfErr result (λ fault. IsFaultOf fault (stepped (looked_up variables.now) step self.old)) }
     {
         match step {
-            Step::Push(number) => self.put(Wide {
-                billionths: i128::from(number),
-            }),
+            Step::Push(number) => self.put(i128::from(number)),
             Step::Read(variable) => {
                 let value = variables.value(variable);
-                self.put(value.wide())
+                self.put(i128::from(value.billionths))
             }
             Step::Negate => {
                 let Some(value) = self.pop() else {
                     return Err(MacroFault::Malformed);
                 };
-                self.put(value.negative())
+                self.put(-i128::from(value.billionths))
             }
             Step::Apply(operator) => {
                 let Some(right) = self.pop() else {
@@ -83,7 +81,7 @@ impl Stack {
                 let Some(left) = self.pop() else {
                     return Err(MacroFault::Malformed);
                 };
-                let Some(value) = (Operands { left, right }).applied(operator) else {
+                let Some(value) = operator.applied(left, right) else {
                     return Err(MacroFault::Malformed);
                 };
                 self.put(value)

@@ -88,14 +88,10 @@ impl Scanner {
     fn end_operand(&mut self) -> Result<(), AllocError>
         ensures { OnOk result (self.new ≡ with_operand self.old) }
     {
-        let Level { sum, term, minuses } = self.level;
-        push_negations(&mut self.steps, minuses)?;
-        push_waiting(&mut self.steps, term)?;
-        self.level = Level {
-            sum,
-            term: None,
-            minuses: 0,
-        };
+        push_negations(&mut self.steps, self.level.minuses)?;
+        push_waiting(&mut self.steps, self.level.term)?;
+        self.level.term = None;
+        self.level.minuses = 0;
         Ok(())
     }
 
@@ -135,13 +131,8 @@ impl Scanner {
         ensures { IsStep result (option_map (with_sum operator) (charged self.old)) self.new }
     {
         self.charge()?;
-        let Level { sum, term, minuses } = self.level;
-        push_waiting(&mut self.steps, sum)?;
-        self.level = Level {
-            sum: Some(operator),
-            term,
-            minuses,
-        };
+        push_waiting(&mut self.steps, self.level.sum)?;
+        self.level.sum = Some(operator);
         Ok(())
     }
 
@@ -150,16 +141,7 @@ impl Scanner {
         ensures { IsStep result (option_map (with_term operator) (charged self.old)) self.new }
     {
         self.charge()?;
-        let Level {
-            sum,
-            term: _,
-            minuses,
-        } = self.level;
-        self.level = Level {
-            sum,
-            term: Some(operator),
-            minuses,
-        };
+        self.level.term = Some(operator);
         Ok(())
     }
 
@@ -303,13 +285,11 @@ impl Scanner {
         ensures shorter { IfOk result (λ rest. length rest.text.now ≤ length behind.now) }
         ensures fault { IfErr result (λ fault. IsFaultOf fault (scan Behind self.old (first ∷ behind.now))) }
     {
-        match self.behind_operand(mark_of(first)) {
-            Ok(wanted) => Ok(Rest {
-                wanted,
-                text: behind,
-            }),
-            Err(fault) => Err(fault),
-        }
+        let wanted = self.behind_operand(mark_of(first))?;
+        Ok(Rest {
+            wanted,
+            text: behind,
+        })
     }
 
     /// All steps, once the text is at its end; a fault where parentheses are open.
@@ -355,12 +335,9 @@ fn numeric_len(text: &[u8]) -> usize
     ensures value { result ≡ prefix_len is_run_byte text.now }
     ensures within { result ≤ length text.now }
 {
-    for (place, byte) in text.iter().enumerate() {
-        if !(byte.is_ascii_digit() || *byte == b'.') {
-            return place;
-        }
-    }
-    text.len()
+    text.iter()
+        .take_while(|byte| byte.is_ascii_digit() || **byte == b'.')
+        .count()
 }
 
 /// How many digits stand first.
@@ -368,12 +345,7 @@ fn digits_len(text: &[u8]) -> usize
     ensures value { result ≡ prefix_len is_ascii_digit text.now }
     ensures within { result ≤ length text.now }
 {
-    for (place, byte) in text.iter().enumerate() {
-        if !byte.is_ascii_digit() {
-            return place;
-        }
-    }
-    text.len()
+    text.iter().take_while(|byte| byte.is_ascii_digit()).count()
 }
 
 /// The steps of an expression; a fault where the text is none.

@@ -90,11 +90,11 @@ pub record IsBoxReach (reach : Nm) : Type 0 where
   pub some : pos 0 ≤ℤ reach.0
   pub few : reach.0 ≤ℤ pos 5700000000
 
-abbrev pub below : Spot → ℤ → ℤ → Spot
-below s across up = record { x = s.x -ℤ across; y = s.y -ℤ up }
-
-abbrev pub above : Spot → ℤ → ℤ → Spot
-above s across up = record { x = s.x +ℤ across; y = s.y +ℤ up }
+-- a box that reaches so far beyond another to the left and to the right, and so far below and above
+abbrev pub widened_by : ℤ → ℤ → Bounds → Bounds
+widened_by across up Empty = Empty
+widened_by across up (Closed low high) =
+    Closed (record { x = low.x -ℤ across; y = low.y -ℤ up }) (record { x = high.x +ℤ across; y = high.y +ℤ up })
 
 -- the copies of an item, of an object the one that it is
 abbrev pub copies_of : Item → Copies

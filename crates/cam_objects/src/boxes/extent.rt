@@ -6,11 +6,11 @@ ghost use Rattle.cam_units.specs.Boxes.{Holds};
 ghost use Rattle.cam_units.specs.declared.point.Spot.{Spot};
 ghost use Rattle.cam_objects.specs.Bounds.{bounds_of};
 ghost use Rattle.cam_objects.specs.Image.{IsUncovered};
-ghost use Rattle.cam_objects.specs.Leaves.{arc_leaves, draw_leaves, meaning_in, object_leaves, origin};
+ghost use Rattle.cam_objects.specs.Leaves.{meaning_in, object_leaves, origin};
 ghost use Rattle.cam_objects.specs.Machinery.Extents.{IsExtentIn};
 ghost use Rattle.cam_objects.specs.Machinery.Painting.{StandsOnBoard};
 ghost use Rattle.cam_objects.specs.Soundness.{IsSoundDictionary};
-ghost use Rattle.cam_objects.specs.declared.object.Object.TheVariants.{Draw, Flash};
+ghost use Rattle.cam_objects.specs.declared.object.Object.TheVariants.{Flash};
 
 use crate::boxes::lines::line_misses;
 use crate::boxes::shapes::{contour_bounds, drawn_bounds, sweep_bounds};
@@ -63,15 +63,6 @@ impl Extent {
         }
     }
 
-    /// Makes it that of a number, which is looked up.
-    #[inline(never)]
-    fn look_up(&mut self, entries: &Dictionary, number: u32)
-        ensures extent { IsExtentIn entries.now self.new }
-        ensures number { self.new.number ≡ number }
-    {
-        *self = Extent::of(entries, number);
-    }
-
     /// Makes it that of a number, which is looked up only where it is another one.
     #[inline]
     fn go_to(&mut self, entries: &Dictionary, number: u32)
@@ -80,19 +71,13 @@ impl Extent {
         ensures number { self.new.number ≡ number }
     {
         if self.number != number {
-            self.look_up(entries, number);
+            *self = Extent::of(entries, number);
         }
     }
 
     /// The box of what a flash paints. It becomes the extent of the aperture that is flashed.
     #[inline]
-    pub(crate) fn flash_bounds(
-        &mut self,
-        entries: &Dictionary,
-        aperture: u32,
-        at: Point,
-        turn: Turn,
-    ) -> Bounds
+    fn flash_bounds(&mut self, entries: &Dictionary, aperture: u32, at: Point, turn: Turn) -> Bounds
         requires extent { IsExtentIn entries.now self.old }
         requires at { IsOnBoard at }
         ensures value { (dark : Bool)
@@ -106,31 +91,6 @@ impl Extent {
             dark: true,
         };
         place.bounds(self.bounds)
-    }
-
-    /// The box of what a draw paints. It becomes the extent of the aperture that it is drawn with.
-    #[inline]
-    pub(crate) fn draw_bounds(
-        &mut self,
-        entries: &Dictionary,
-        aperture: u32,
-        from: &Point,
-        to: &Point,
-        turn: Turn,
-    ) -> Bounds
-        requires extent { IsExtentIn entries.now self.old }
-        requires sound { IsSoundDictionary entries.now }
-        requires from { IsOnBoard from.now }
-        requires to { IsOnBoard to.now }
-        ensures value { (dark : Bool) → result
-            ≡ bounds_of (object_leaves (meaning_in entries.now) origin (Draw aperture from.now to.now turn dark)) }
-        ensures extent { IsExtentIn entries.now self.new }
-    {
-        self.go_to(entries, aperture);
-        match self.tip {
-            Some(tip) => drawn_bounds(from, to, &tip.turned(turn)),
-            None => Bounds::Empty,
-        }
     }
 
     /// The box of what an object paints. It becomes the extent of the aperture that the object names.
@@ -154,7 +114,13 @@ impl Extent {
                 to,
                 turn,
                 ..
-            } => self.draw_bounds(entries, *aperture, from, to, *turn),
+            } => {
+                self.go_to(entries, *aperture);
+                match self.tip {
+                    Some(tip) => drawn_bounds(from, to, &tip.turned(*turn)),
+                    None => Bounds::Empty,
+                }
+            }
             Object::Arc {
                 aperture,
                 from,

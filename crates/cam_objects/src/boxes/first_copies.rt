@@ -2,7 +2,7 @@
 
 ghost use Rattle.std.specs.Prelude.{◌≡◌, ◌==◌, ◌+◌, ◌<◌, ◌≤◌, ◌^◌, [], IfSome, List, Some, filter, insert, length, map, not, remove, slice_get, ℕ};
 ghost use Rattle.cam_objects.specs.Cells.{AreFirstCopiesOf, IsFirstCopyOf};
-ghost use Rattle.cam_objects.specs.Machinery.FirstCopies.{once_come, once_gone};
+ghost use Rattle.cam_objects.specs.Machinery.FirstCopies.{once_gone};
 ghost use Rattle.cam_objects.specs.Soundness.{HasSoundItems};
 ghost use Rattle.cam_objects.specs.declared.entry.Entry.{Entry};
 ghost use Rattle.cam_objects.specs.declared.item.Item.{Item};
@@ -28,15 +28,6 @@ impl Model for FirstCopies {
     ghost view = { λ c. c.found.items };
 }
 
-/// Lets them follow an item that came to a place.
-fn make_room(found: &mut Vec<FirstCopy>, place: usize)
-    ensures { found.new.items ≡ map (once_come place) found.old.items }
-{
-    for first in found.iter_mut() {
-        first.make_room(place);
-    }
-}
-
 /// Lets that of the item at a place go.
 fn let_go(found: &mut Vec<FirstCopy>, place: usize)
     ensures { found.new.items ≡ filter (λ first. not (first.place == place)) found.old.items }
@@ -50,19 +41,6 @@ fn close_gap(found: &mut Vec<FirstCopy>, place: usize)
 {
     for first in found.iter_mut() {
         first.close_gap(place);
-    }
-}
-
-/// Reads that of the item at a place anew.
-fn renew(found: &mut Vec<FirstCopy>, layer: &Layer, place: usize)
-    requires sound { HasSoundItems layer.now }
-    requires within { place < length layer.now.items.items }
-    ensures { (before : List Item) (item : Item) → AreFirstCopiesOf layer.now.apertures before found.old.items
-        → place < length before → layer.now.items.items ≡ insert (remove before place) place item
-        → AreFirstCopiesOf layer.now.apertures layer.now.items.items found.new.items }
-{
-    for first in found.iter_mut() {
-        first.renew(layer, place);
     }
 }
 
@@ -93,7 +71,9 @@ impl FirstCopies {
             → place ≤ length before → length before + 1 < 2 ^ 64
             → AreFirstCopiesOf entries (insert before place item) self.new }
     {
-        make_room(&mut self.found, place);
+        for first in self.found.iter_mut() {
+            first.make_room(place);
+        }
     }
 
     /// Follows an item that left its place, counted from 0. Takes no memory.
@@ -113,7 +93,9 @@ impl FirstCopies {
             → place < length before → layer.now.items.items ≡ insert (remove before place) place item
             → AreFirstCopiesOf layer.now.apertures layer.now.items.items self.new }
     {
-        renew(&mut self.found, layer, place);
+        for first in self.found.iter_mut() {
+            first.renew(layer, place);
+        }
     }
 }
 

@@ -1,20 +1,19 @@
 //! The boxes of the items of a layer, one after another.
 
-ghost use Rattle.std.specs.Prelude.{◌≡◌, ◌<◌, ◌≤◌, IfSome, IsTrue, Some, length, slice_get, sum_by};
+ghost use Rattle.std.specs.Prelude.{◌≡◌, ◌<◌, IfSome, IsTrue, Some, length, map, slice_get};
 ghost use Rattle.cam_units.specs.Boxes.{Holds};
 ghost use Rattle.cam_units.specs.declared.point.Spot.{Spot};
 ghost use Rattle.cam_objects.specs.Bounds.{bounds_of};
-ghost use Rattle.cam_objects.specs.Cells.{AreFirstCopiesOf};
+ghost use Rattle.cam_objects.specs.Cells.{AreFirstCopiesOf, item_boxes};
 ghost use Rattle.cam_objects.specs.Image.{IsUncovered};
 ghost use Rattle.cam_objects.specs.Leaves.{item_leaves, meaning_in};
-ghost use Rattle.cam_refusals.specs.Limits.{leaf_limit};
-ghost use Rattle.cam_objects.specs.Machinery.Measures.{IsMeasureOf};
 ghost use Rattle.cam_objects.specs.Soundness.{HasSoundItems};
 ghost use Rattle.cam_objects.specs.Weights.{item_count, weight_in};
 ghost use Rattle.cam_objects.specs.declared.item.Item.{Item};
 
 use crate::boxes::extent::Extent;
 use crate::boxes::first_copies::FirstCopies;
+use crate::cells::item_list::BoxedItems;
 use crate::cells::reach::{Measure, Reach};
 use crate::item::Item;
 use crate::layer::Layer;
@@ -75,21 +74,6 @@ impl<'a> ItemBoxes<'a> {
         self.layer
     }
 
-    /// How many items there are.
-    pub(crate) fn len(&self) -> usize
-        ensures value { result ≡ length self.now.items.items }
-        ensures few { sum_by (item_count (weight_in self.now.apertures)) self.now.items.items ≤ leaf_limit }
-    {
-        self.layer.items.len()
-    }
-
-    /// How many leaves they have.
-    pub(crate) fn leaves(&self) -> u64
-        ensures { result ≡ sum_by (item_count (weight_in self.now.apertures)) self.now.items.items }
-    {
-        self.layer.leaf_count()
-    }
-
     /// The box of the item at a place of the list, counted from 0: that of `Layer::item_bounds`. Takes no memory.
     #[inline]
     pub fn read(&mut self, place: usize) -> Bounds
@@ -102,7 +86,10 @@ impl<'a> ItemBoxes<'a> {
         let item = &layer.items[place];
         match item {
             Item::One(object) => self.last.object_bounds(&layer.apertures, object),
-            Item::Repeat { .. } => layer.bounds_by(self.copies, place),
+            Item::Repeat { .. } => match self.copies {
+                Some(copies) => layer.bounds_with(item, copies.at(place)),
+                None => layer.bounds_of(item),
+            },
         }
     }
 
@@ -120,14 +107,22 @@ impl<'a> ItemBoxes<'a> {
             Item::Repeat { .. } => false,
         }
     }
+}
 
-    /// The cells that the box of the item at a place of the list reaches, and how many leaves it has. Takes no memory.
-    pub(crate) fn measure(&mut self, place: usize) -> Measure
-        requires { place < length self.old.items.items }
-        ensures value { (item : Item) → slice_get self.old.items.items place ≡ Some item
-            → IsMeasureOf self.old.apertures item result }
-        ensures layer { self.new ≡ self.old }
-    {
+impl<'a> BoxedItems for ItemBoxes<'a> {
+    ghost boxes = { λ r. item_boxes r.apertures r.items.items };
+
+    ghost leaf_counts = { λ r. map (item_count (weight_in r.apertures)) r.items.items };
+
+    fn count(&self) -> usize {
+        self.layer.items.len()
+    }
+
+    fn leaf_count(&self) -> u64 {
+        self.layer.leaf_count()
+    }
+
+    fn measure_at(&mut self, place: usize) -> Measure {
         let layer = self.layer;
         Measure {
             reach: Reach::of(self.read(place)),

@@ -41,26 +41,6 @@ fn corner_reach(way: Spot, width: Nm, height: Nm) -> u64
     across + along
 }
 
-/// The end of a range whose product with a number is the greatest, wherever one counts from.
-fn greatest_end(by: i64, low: i64, high: i64) -> i64
-    requires low { unsigned_abs low < place_limit }
-    requires high { unsigned_abs high < place_limit }
-    ensures greatest { (at from : ℤ) → low ≤ℤ at → at ≤ℤ high → (by *ℤ (at -ℤ from)) ≤ℤ (by *ℤ (result -ℤ from)) }
-    ensures near { unsigned_abs result < place_limit }
-{
-    if by < 0 { low } else { high }
-}
-
-/// The end whose product is the least.
-fn least_end(by: i64, low: i64, high: i64) -> i64
-    requires low { unsigned_abs low < place_limit }
-    requires high { unsigned_abs high < place_limit }
-    ensures least { (at from : ℤ) → low ≤ℤ at → at ≤ℤ high → (by *ℤ (result -ℤ from)) ≤ℤ (by *ℤ (at -ℤ from)) }
-    ensures near { unsigned_abs result < place_limit }
-{
-    if by < 0 { high } else { low }
-}
-
 /// The corner of a box that lies farthest to the right of a way: no place of the box has a lesser cross product with it,
 /// wherever both are seen from.
 fn rightmost(way: Spot, low: Spot, high: Spot) -> Spot
@@ -72,8 +52,8 @@ fn rightmost(way: Spot, low: Spot, high: Spot) -> Spot
         → crossed way (relative_to p result) ≤ℤ crossed way (relative_to p s) }
 {
     Spot {
-        x: greatest_end(way.y, low.x, high.x),
-        y: least_end(way.x, low.y, high.y),
+        x: if way.y < 0 { low.x } else { high.x },
+        y: if way.x < 0 { high.y } else { low.y },
     }
 }
 

@@ -1,15 +1,13 @@
 //! The boxes of the objects of a block or of a repeat, one after another, and the cells that they reach.
 
-ghost use Rattle.std.specs.Prelude.{◌≡◌, ◌<◌, ◌≤◌, Some, length, slice_get};
-ghost use Rattle.cam_refusals.specs.Limits.{leaf_limit};
-ghost use Rattle.cam_objects.specs.Machinery.Measures.{IsMeasureOf};
+ghost use Rattle.std.specs.Prelude.{◌≡◌, map};
+ghost use Rattle.cam_objects.specs.Cells.{object_boxes};
 ghost use Rattle.cam_objects.specs.Machinery.ObjectCells.{AreMeasurable, AreObjectCells, HasCells};
 ghost use Rattle.cam_objects.specs.Soundness.{IsSoundEntry};
-ghost use Rattle.cam_objects.specs.Weights.{block_count, weight_in};
-ghost use Rattle.cam_objects.specs.declared.item.Item.TheVariants.{One};
-ghost use Rattle.cam_objects.specs.declared.object.Object.{Object};
+ghost use Rattle.cam_objects.specs.Weights.{object_count, weight_in};
 
 use crate::boxes::extent::Extent;
+use crate::cells::item_list::BoxedItems;
 use crate::cells::kept::ItemCells;
 use crate::cells::reach::{Measure, Reach};
 use crate::checks::facts::leaf_count;
@@ -55,29 +53,22 @@ impl<'a> ObjectBoxes<'a> {
             last: Extent::none(entries),
         }
     }
+}
 
-    /// How many objects there are.
-    pub(crate) fn len(&self) -> usize
-        ensures value { result ≡ length self.now.1 }
-        ensures few { block_count (weight_in self.now.0) self.now.1 ≤ leaf_limit }
-    {
+impl<'a> BoxedItems for ObjectBoxes<'a> {
+    ghost boxes = { λ r. object_boxes r.0 r.1 };
+
+    ghost leaf_counts = { λ r. map (object_count (weight_in r.0)) r.1 };
+
+    fn count(&self) -> usize {
         self.objects.len()
     }
 
-    /// How many leaves they have.
-    pub(crate) fn leaves(&self) -> u64
-        ensures { result ≡ block_count (weight_in self.now.0) self.now.1 }
-    {
+    fn leaf_count(&self) -> u64 {
         leaf_count(self.entries, self.objects)
     }
 
-    /// The cells that the box of the object at a place reaches, counted from 0, and how many leaves it has.
-    pub(crate) fn measure(&mut self, place: usize) -> Measure
-        requires { place < length self.old.1 }
-        ensures value { (object : Object) → slice_get self.old.1 place ≡ Some object
-            → IsMeasureOf self.old.0 (One object) result }
-        ensures list { self.new ≡ self.old }
-    {
+    fn measure_at(&mut self, place: usize) -> Measure {
         let entries = self.entries;
         let object = &self.objects[place];
         Measure {

@@ -9,16 +9,15 @@ ghost use Rattle.cam_shapes.specs.Arc.{IsSoundArc};
 ghost use Rattle.cam_shapes.specs.Bar.{IsSoundCapsule};
 ghost use Rattle.cam_shapes.specs.Disc.{IsSoundDisc};
 ghost use Rattle.cam_shapes.specs.Plane.{dot, place_of, way};
-ghost use Rattle.cam_shapes.specs.Swept.{IsSoundSwept};
-ghost use Rattle.cam_apertures.specs.Primitives.{box_about, box_of_point};
+ghost use Rattle.cam_apertures.specs.Primitives.{box_of_point};
 ghost use Rattle.cam_objects.specs.Bounds.{box_of_contour, box_of_shape, circle_square, widened};
-ghost use Rattle.cam_objects.specs.Leaves.{Drilled, Stroke, Sweep, Swept as SweptLeaf, drawn};
-ghost use Rattle.cam_objects.specs.Machinery.Boxes.{IsBoxReach, IsNearBox, IsNearSpot, IsSizedTip, above, below};
+ghost use Rattle.cam_objects.specs.Leaves.{Drilled, Stroke, Sweep, drawn};
+ghost use Rattle.cam_objects.specs.Machinery.Boxes.{IsBoxReach, IsNearBox, IsSizedTip, widened_by};
 ghost use Rattle.cam_objects.specs.Machinery.Tracing.{followed};
 ghost use Rattle.cam_objects.specs.Soundness.{points_of_contour, points_of_seg};
 
 use crate::tip::Tip;
-use cam_shapes::{Arc, Capsule, Contour, Disc, Seg, Swept};
+use cam_shapes::{Arc, Capsule, Contour, Disc, Seg};
 use cam_units::{Bounds, Nm, Point, Spot, isqrt};
 
 /// The place of a point.
@@ -44,57 +43,25 @@ pub(crate) fn point_bounds(point: &Point) -> Bounds
     }
 }
 
-/// A place, moved so far to the left and so far down.
-fn below(spot: &Spot, across: &Nm, up: &Nm) -> Spot
-    requires spot { IsNearSpot spot.now }
-    requires across { IsBoxReach across.now }
-    requires up { IsBoxReach up.now }
-    ensures { result ≡ below spot.now across.now.0 up.now.0 }
-{
-    Spot {
-        x: spot.x - across.0,
-        y: spot.y - up.0,
-    }
-}
-
-/// A place, moved so far to the right and so far up.
-fn above(spot: &Spot, across: &Nm, up: &Nm) -> Spot
-    requires spot { IsNearSpot spot.now }
-    requires across { IsBoxReach across.now }
-    requires up { IsBoxReach up.now }
-    ensures { result ≡ above spot.now across.now.0 up.now.0 }
-{
-    Spot {
-        x: spot.x + across.0,
-        y: spot.y + up.0,
-    }
-}
-
-/// The box of a rectangle about a point.
-fn rectangle_bounds(centre: &Point, width: &Nm, height: &Nm) -> Bounds
-    requires centre { IsOnBoard centre.now }
-    requires width { IsSize width.now.0 }
-    requires height { IsSize height.now.0 }
-    ensures { result ≡ box_about (place_of centre.now) width.now.0 height.now.0 }
-{
-    let place = place(centre);
-    Bounds::Closed {
-        low: below(&place, width, height),
-        high: above(&place, width, height),
-    }
-}
-
-/// The box, widened to all sides.
-pub(crate) fn widened(bounds: &Bounds, by: &Nm) -> Bounds
+/// The box, widened so far to the left and to the right, and so far down and up.
+pub(crate) fn widened(bounds: &Bounds, across: &Nm, up: &Nm) -> Bounds
     requires bounds { IsNearBox bounds.now }
-    requires by { IsBoxReach by.now }
-    ensures { result ≡ widened by.now.0 bounds.now }
+    requires across { IsBoxReach across.now }
+    requires up { IsBoxReach up.now }
+    ensures sides { result ≡ widened_by across.now.0 up.now.0 bounds.now }
+    ensures even { across.now.0 ≡ up.now.0 → result ≡ widened across.now.0 bounds.now }
 {
     match bounds {
         Bounds::Empty => Bounds::Empty,
         Bounds::Closed { low, high } => Bounds::Closed {
-            low: below(low, by, by),
-            high: above(high, by, by),
+            low: Spot {
+                x: low.x - across.0,
+                y: low.y - up.0,
+            },
+            high: Spot {
+                x: high.x + across.0,
+                y: high.y + up.0,
+            },
         },
     }
 }
@@ -128,7 +95,8 @@ fn circle_square(centre: &Point, from: &Point) -> Bounds
     ensures { result ≡ circle_square centre.now from.now }
 {
     let radius = isqrt(squared_length(centre, from));
-    widened(&point_bounds(centre), &Nm(radius as i64 + 1))
+    let half = Nm(radius as i64 + 1);
+    widened(&point_bounds(centre), &half, &half)
 }
 
 /// The box of both ends of a stroke.
@@ -155,23 +123,14 @@ pub(crate) fn stroke_bounds(stroke: &Capsule) -> Bounds
     requires { IsSoundCapsule stroke.now }
     ensures { result ≡ box_of_shape (Stroke stroke.now) }
 {
-    widened(&ends(&stroke.from, &stroke.to), &stroke.width)
+    widened(
+        &ends(&stroke.from, &stroke.to),
+        &stroke.width,
+        &stroke.width,
+    )
 }
 
-/// The box of a stroke of a rectangle along a line: the rectangles at both ends.
-#[inline(never)]
-pub(crate) fn swept_bounds(swept: &Swept) -> Bounds
-    requires { IsSoundSwept swept.now }
-    ensures { result ≡ box_of_shape (SweptLeaf swept.now) }
-{
-    rectangle_bounds(&swept.from, &swept.width, &swept.height).joined(rectangle_bounds(
-        &swept.to,
-        &swept.width,
-        &swept.height,
-    ))
-}
-
-/// The box of a straight stroke of a tip.
+/// The box of a straight stroke of a tip: of a rectangle those at both ends.
 #[inline]
 pub(crate) fn drawn_bounds(from: &Point, to: &Point, tip: &Tip) -> Bounds
     requires from { IsOnBoard from.now }
@@ -179,15 +138,17 @@ pub(crate) fn drawn_bounds(from: &Point, to: &Point, tip: &Tip) -> Bounds
     requires tip { IsSizedTip tip.now }
     ensures { result ≡ box_of_shape (drawn tip.now from.now to.now) }
 {
-    let (from, to) = (*from, *to);
     match *tip {
-        Tip::Round(width) => stroke_bounds(&Capsule { from, to, width }),
-        Tip::Rectangular { width, height } => swept_bounds(&Swept {
-            from,
-            to,
+        Tip::Round(width) => stroke_bounds(&Capsule {
+            from: *from,
+            to: *to,
             width,
-            height,
         }),
+        Tip::Rectangular { width, height } => {
+            let first = widened(&point_bounds(from), &width, &height);
+            let last = widened(&point_bounds(to), &width, &height);
+            first.joined(last)
+        }
     }
 }
 
@@ -201,6 +162,7 @@ pub(crate) fn sweep_bounds(stroke: &Arc) -> Bounds
     widened(
         &circle.joined(ends(&stroke.from, &stroke.to)),
         &stroke.width,
+        &stroke.width,
     )
 }
 
@@ -209,7 +171,7 @@ pub(crate) fn hole_bounds(hole: &Disc) -> Bounds
     requires { IsSoundDisc hole.now }
     ensures { result ≡ box_of_shape (Drilled hole.now) }
 {
-    widened(&point_bounds(&hole.centre), &hole.diameter)
+    widened(&point_bounds(&hole.centre), &hole.diameter, &hole.diameter)
 }
 
 /// What is known of a contour behind some of its segments: where it stands, the box of its points,

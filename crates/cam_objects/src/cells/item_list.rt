@@ -1,16 +1,11 @@
 //! Lists of items, by their boxes and their leaves.
 
-ghost use Rattle.std.specs.Prelude.{◌≡◌, ◌<◌, ◌≤◌, ℕ, List, length, map, slice_index, sum};
+ghost use Rattle.std.specs.Prelude.{◌≡◌, ◌<◌, ◌≤◌, ℕ, List, length, slice_index, sum};
 ghost use Rattle.cam_units.specs.declared.bounds.Bounds.{Bounds};
-ghost use Rattle.cam_objects.specs.Cells.{IsReachOf, box_at, drill_item_boxes, item_boxes, object_boxes};
-ghost use Rattle.cam_objects.specs.DrillSoundness.{drill_count_of};
+ghost use Rattle.cam_objects.specs.Cells.{IsReachOf, box_at};
 ghost use Rattle.cam_refusals.specs.Limits.{leaf_limit};
-ghost use Rattle.cam_objects.specs.Weights.{item_count, object_count, weight_in};
 
-use crate::boxes::item_boxes::ItemBoxes;
-use crate::boxes::object_boxes::ObjectBoxes;
 use crate::cells::reach::{Measure, Reach};
-use crate::drill::item_boxes::DrillItemBoxes;
 
 /// A list of items that are read, one after another.
 pub trait BoxedItems {
@@ -44,62 +39,5 @@ pub trait BoxedItems {
         ensures list { boxes self.new ≡ boxes self.old }
     {
         self.measure_at(place).reach
-    }
-}
-
-impl<'a> BoxedItems for ItemBoxes<'a> {
-    ghost boxes = { λ r. item_boxes r.apertures r.items.items };
-
-    ghost leaf_counts = { λ r. map (item_count (weight_in r.apertures)) r.items.items };
-
-    fn count(&self) -> usize {
-        self.len()
-    }
-
-    fn leaf_count(&self) -> u64 {
-        self.leaves()
-    }
-
-    #[inline(always)]
-    fn measure_at(&mut self, place: usize) -> Measure {
-        self.measure(place)
-    }
-}
-
-impl<'a> BoxedItems for ObjectBoxes<'a> {
-    ghost boxes = { λ r. object_boxes r.0 r.1 };
-
-    ghost leaf_counts = { λ r. map (object_count (weight_in r.0)) r.1 };
-
-    fn count(&self) -> usize {
-        self.len()
-    }
-
-    fn leaf_count(&self) -> u64 {
-        self.leaves()
-    }
-
-    #[inline(always)]
-    fn measure_at(&mut self, place: usize) -> Measure {
-        self.measure(place)
-    }
-}
-
-impl<'a> BoxedItems for DrillItemBoxes<'a> {
-    ghost boxes = { λ r. drill_item_boxes r.tools r.items.items };
-
-    ghost leaf_counts = { λ r. map drill_count_of r.items.items };
-
-    fn count(&self) -> usize {
-        self.len()
-    }
-
-    fn leaf_count(&self) -> u64 {
-        self.leaves()
-    }
-
-    #[inline(always)]
-    fn measure_at(&mut self, place: usize) -> Measure {
-        self.measure(place)
     }
 }

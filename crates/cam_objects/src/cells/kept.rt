@@ -4,7 +4,6 @@ ghost use Rattle.std.specs.Prelude.{◌≡◌, ◌<◌, ◌≤◌, ℕ, IfNone, 
 ghost use Rattle.cam_units.specs.declared.bounds.Bounds.{Bounds};
 ghost use Rattle.cam_units.specs.Boxes.{HaveCommonPlace};
 ghost use Rattle.cam_objects.specs.Cells.{AreCellsOf, box_at};
-ghost use Rattle.cam_objects.specs.Machinery.Sides.{AreSidesOf};
 
 use crate::cells::item_list::BoxedItems;
 use crate::cells::numbers::ItemNumbers;
@@ -16,7 +15,7 @@ use std::marker::Model;
 
 /// Of each item of a list, one after another, the cells that its box reaches: who looks for what meets some box passes
 /// over the others. The items behind those are read as they are.
-#[derive(Drop)]
+#[derive(Clone, Drop)]
 pub struct ItemCells {
     left: ItemNumbers,
     bottom: ItemNumbers,
@@ -39,35 +38,6 @@ fn zeros(alloc: Global, items: usize) -> Result<Vec<u16>, AllocError>
     let mut numbers = Vec::with_capacity(alloc, items)?;
     numbers.resize(items, 0)?;
     Ok(numbers)
-}
-
-/// Writes what each item of a list reaches, and answers how many leaves they have.
-fn read_all<B: BoxedItems>(
-    items: &mut B,
-    left: &mut [u16],
-    bottom: &mut [u16],
-    right: &mut [u16],
-    top: &mut [u16],
-) -> u64
-    requires left { length left.old ≡ length (B.boxes items.old) }
-    requires bottom { length bottom.old ≡ length (B.boxes items.old) }
-    requires right { length right.old ≡ length (B.boxes items.old) }
-    requires top { length top.old ≡ length (B.boxes items.old) }
-    ensures cells { AreCellsOf (B.boxes items.old)
-        (record { left = left.new; bottom = bottom.new; right = right.new; top = top.new }) }
-    ensures leaves { result ≡ sum (B.leaf_counts items.old) }
-    ensures list { items.new ≡ items.old }
-{
-    let mut leaves = 0;
-    for place in 0..items.count() {
-        let measure = items.measure_at(place);
-        leaves += measure.leaves;
-        left[place] = measure.reach.left;
-        bottom[place] = measure.reach.bottom;
-        right[place] = measure.reach.right;
-        top[place] = measure.reach.top;
-    }
-    leaves
 }
 
 impl ItemCells {
@@ -94,7 +64,15 @@ impl ItemCells {
         let mut bottom = zeros(alloc, count)?;
         let mut right = zeros(alloc, count)?;
         let mut top = zeros(alloc, count)?;
-        let leaves = read_all(items, &mut left, &mut bottom, &mut right, &mut top);
+        let mut leaves = 0;
+        for place in 0..count {
+            let measure = items.measure_at(place);
+            leaves += measure.leaves;
+            left[place] = measure.reach.left;
+            bottom[place] = measure.reach.bottom;
+            right[place] = measure.reach.right;
+            top[place] = measure.reach.top;
+        }
         let cells = ItemCells {
             left: ItemNumbers::from_vec(left),
             bottom: ItemNumbers::from_vec(bottom),
@@ -194,18 +172,6 @@ impl ItemCells {
         self.top.set(place, reach.top);
     }
 
-    /// The cells of the items.
-    fn sides(&self) -> Sides<'_>
-        ensures { AreSidesOf self.now result }
-    {
-        Sides {
-            left: self.left.as_slice(),
-            bottom: self.bottom.as_slice(),
-            right: self.right.as_slice(),
-            top: self.top.as_slice(),
-        }
-    }
-
     /// The place behind the last item before an end that may have a place in common with a box, in half nm, or 0: the
     /// items from there to the end have none.
     pub fn near_end(&self, end: usize, near: Bounds) -> usize
@@ -213,7 +179,13 @@ impl ItemCells {
         ensures apart { (boxes : List Bounds) → AreCellsOf boxes self.now → (k : ℕ) → result ≤ k → k < end
             → k < length boxes → ¬ HaveCommonPlace (box_at boxes k) near }
     {
-        self.sides().end_of_meeting(end, Reach::of(near))
+        let sides = Sides {
+            left: self.left.as_slice(),
+            bottom: self.bottom.as_slice(),
+            right: self.right.as_slice(),
+            top: self.top.as_slice(),
+        };
+        sides.end_of_meeting(end, Reach::of(near))
     }
 }
 

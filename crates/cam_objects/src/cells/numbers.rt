@@ -24,7 +24,7 @@ use std::marker::Model;
 
 /// A number of each item of a list, one after another from the first item on. The items behind have none, where memory
 /// was refused.
-#[derive(Drop)]
+#[derive(Clone, Drop)]
 pub struct ItemNumbers {
     numbers: Vec<u16>,
 }

@@ -19,17 +19,6 @@ pub(crate) struct Sides<'a> {
 const CHUNK_SIZE: usize = 64;
 
 impl<'a> Sides<'a> {
-    /// How many items have all four.
-    fn len(self) -> usize
-        ensures { HasSides self.entry result }
-    {
-        self.left
-            .len()
-            .min(self.bottom.len())
-            .min(self.right.len())
-            .min(self.top.len())
-    }
-
     /// Whether the item at a place reaches a cell of these.
     #[inline]
     fn meets(self, place: usize, reach: Reach) -> bool
@@ -76,8 +65,14 @@ impl<'a> Sides<'a> {
         ensures apart { (k : ℕ) → result ≤ k → k < end → ¬ MeetsAt self.entry k reach }
         ensures known { (result ≡ end) ⊎ HasSides self.entry end }
     {
+        let known = self
+            .left
+            .len()
+            .min(self.bottom.len())
+            .min(self.right.len())
+            .min(self.top.len());
         // where most are near, the last one is
-        if end == 0 || self.len() < end || self.meets(end - 1, reach) {
+        if end == 0 || known < end || self.meets(end - 1, reach) {
             return end;
         }
         let chunks = end / CHUNK_SIZE;

@@ -18,7 +18,7 @@ pub(crate) fn are_formed(objects: &[Object]) -> bool
     objects.iter().all(is_formed)
 }
 
-fn is_formed(object: &Object) -> bool
+pub(crate) fn is_formed(object: &Object) -> bool
     ensures { result ≡ is_formed object.now }
 {
     match object {
@@ -34,7 +34,7 @@ pub(crate) fn are_known(entries: &Dictionary, objects: &[Object]) -> bool
     objects.iter().all(|object| is_known(entries, object))
 }
 
-fn is_known(entries: &Dictionary, object: &Object) -> bool
+pub(crate) fn is_known(entries: &Dictionary, object: &Object) -> bool
     ensures { result ≡ is_known entries.now object.now }
 {
     match object {
@@ -62,7 +62,7 @@ pub(crate) fn are_drawable(entries: &Dictionary, objects: &[Object]) -> bool
     objects.iter().all(|object| is_drawable(entries, object))
 }
 
-fn is_drawable(entries: &Dictionary, object: &Object) -> bool
+pub(crate) fn is_drawable(entries: &Dictionary, object: &Object) -> bool
     ensures { result ≡ is_drawable (meaning_in entries.now) object.now }
 {
     match object {
@@ -89,7 +89,7 @@ pub(crate) fn have_radii(objects: &[Object]) -> bool
     objects.iter().all(has_radius)
 }
 
-fn has_radius(object: &Object) -> bool
+pub(crate) fn has_radius(object: &Object) -> bool
     ensures { result ≡ has_radius object.now }
 {
     match object {

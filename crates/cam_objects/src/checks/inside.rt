@@ -12,6 +12,7 @@ ghost use Rattle.cam_objects.specs.Soundness.{is_drawable, is_inside, points_of,
 ghost use Rattle.cam_objects.specs.declared.item.Item.TheVariants.{One, Repeat};
 
 use crate::boxes::placed::moved;
+use crate::boxes::shapes::point_bounds;
 use crate::dictionary::Dictionary;
 use crate::limits::PLACE_LIMIT;
 use crate::object::Object;
@@ -33,7 +34,9 @@ fn stands_on_board(object: &Object) -> bool
             centre,
             ..
         } => fits_board(*from) && fits_board(*to) && fits_board(*centre),
-        Object::Region { contour, .. } => stands_contour(contour),
+        Object::Region { contour, .. } => {
+            fits_board(contour.start) && fit_segs(contour.segs.as_slice())
+        }
     }
 }
 
@@ -42,16 +45,6 @@ fn stand_on_board(objects: &[Object]) -> bool
     ensures { IsTrue result ↔ All StandsOnBoard objects.now }
 {
     objects.iter().all(stands_on_board)
-}
-
-/// Whether the points of a contour lie on the board.
-fn stands_contour(contour: &Contour) -> bool
-    ensures { IsTrue result ↔ All IsOnBoard (points_of_contour contour.now) }
-{
-    if !fits_board(contour.start) {
-        return false;
-    }
-    fit_segs(contour.segs.as_slice())
 }
 
 /// Whether the points of the segments lie on the board.
@@ -73,39 +66,17 @@ fn fits_seg(seg: Seg) -> bool
 
 // ---- boxes
 
-/// The box of a point.
-fn point_box(point: &Point) -> Bounds
-    requires { IsOnBoard point.now }
-    ensures { result ≡ box_of_point point.now }
-{
-    let at = Spot {
-        x: 2 * point.x,
-        y: 2 * point.y,
-    };
-    Bounds::Closed { low: at, high: at }
-}
-
 /// The box that holds the points besides.
+#[inline(never)]
 pub(crate) fn joined_points(bounds: Bounds, points: &[Point]) -> Bounds
     requires { All IsOnBoard points.now }
     ensures { result ≡ box_behind bounds points.now }
 {
     let mut all = bounds;
     for point in points {
-        all = all.joined(point_box(point));
+        all = all.joined(point_bounds(point));
     }
     all
-}
-
-/// The box that holds the points of a segment besides.
-fn joined_seg(bounds: Bounds, seg: &Seg) -> Bounds
-    requires { All IsOnBoard (points_of_seg seg.now) }
-    ensures { result ≡ box_behind bounds (points_of_seg seg.now) }
-{
-    match seg {
-        Seg::Line { to } => joined_points(bounds, &[*to]),
-        Seg::Curve { to, centre, .. } => joined_points(bounds, &[*to, *centre]),
-    }
 }
 
 /// The box of the points of a contour.
@@ -113,9 +84,12 @@ fn contour_box(contour: &Contour) -> Bounds
     requires { All IsOnBoard (points_of_contour contour.now) }
     ensures { result ≡ box_of_all box_of_point (points_of_contour contour.now) }
 {
-    let mut all = point_box(&contour.start);
+    let mut all = point_bounds(&contour.start);
     for seg in contour.segs.as_slice() {
-        all = joined_seg(all, seg);
+        all = match seg {
+            Seg::Line { to } => joined_points(all, &[*to]),
+            Seg::Curve { to, centre, .. } => joined_points(all, &[*to, *centre]),
+        };
     }
     all
 }

@@ -1,26 +1,17 @@
 //! The checks of a layer: whether an item or an entry may join it.
 
-ghost use Rattle.std.specs.Prelude.{◌≡◌, ◌++◌, ◌∷◌, ◌<◌, ◌↔◌, [], IsTrue, length, slice_set, sum_by};
+ghost use Rattle.std.specs.Prelude.{◌≡◌, ◌↔◌, IsTrue};
 ghost use Rattle.cam_refusals.specs.Checks.{answer_of, first_holding};
-ghost use Rattle.cam_objects.specs.Soundness.{
-  HasSoundItems,
-  IsSoundBlock,
-  IsSoundEntry,
-  IsSoundItem,
-  KeepsLimits,
-  MayAddEntry,
-  item_checks,
-};
-ghost use Rattle.cam_objects.specs.Weights.{item_count, weight_in};
+ghost use Rattle.cam_objects.specs.Soundness.{IsSoundBlock, MayAddEntry, item_checks};
 ghost use Rattle.cam_objects.specs.declared.item.Item.TheVariants.{One, Repeat};
 
-use crate::checks::demands::{are_drawable, are_formed, are_known, has_number, have_radii};
+use crate::checks::demands::{
+    are_drawable, are_formed, are_known, has_number, has_radius, have_radii, is_drawable,
+    is_formed, is_known,
+};
 use crate::checks::facts::{depth, leaf_count};
 use crate::checks::inside::{is_object_inside, is_repeat_inside};
-use crate::checks::room::{
-    fits_object, fits_repeat, has_room, has_room_at_beside, has_room_beside, item_leaf_count,
-    items_leaf_count,
-};
+use crate::checks::room::{fits_repeat, has_few_segs};
 use crate::dictionary::Dictionary;
 use crate::entry::Entry;
 use crate::item::Item;
@@ -45,49 +36,6 @@ impl Layer {
         }
     }
 
-    /// Whether the layer with the item behind the others keeps its limits. Goes through all items and counts their
-    /// leaves.
-    pub fn has_room(&self, item: &Item) -> bool
-        ensures { IsTrue result ↔ KeepsLimits self.now.apertures (self.now.items.items ++ item.now ∷ []) }
-    {
-        has_room(&self.apertures, &self.items, item)
-    }
-
-    /// How many leaves the layer has. Goes through all items.
-    pub fn leaf_count(&self) -> u64
-        requires { HasSoundItems self.now }
-        ensures { result ≡ sum_by (item_count (weight_in self.now.apertures)) self.now.items.items }
-    {
-        items_leaf_count(&self.apertures, &self.items)
-    }
-
-    /// How many leaves a sound item has. Goes through no block.
-    pub fn item_leaf_count(&self, item: &Item) -> u64
-        requires { IsSoundItem self.now.apertures item.now }
-        ensures { result ≡ item_count (weight_in self.now.apertures) item.now }
-    {
-        item_leaf_count(&self.apertures, item)
-    }
-
-    /// What `has_room` answers, where it is known how many leaves the layer has: goes through no other item.
-    pub fn has_room_beside(&self, leaves: u64, item: &Item) -> bool
-        requires { leaves ≡ sum_by (item_count (weight_in self.now.apertures)) self.now.items.items }
-        ensures { IsTrue result ↔ KeepsLimits self.now.apertures (self.now.items.items ++ item.now ∷ []) }
-    {
-        has_room_beside(&self.apertures, &self.items, leaves, item)
-    }
-
-    /// Whether the layer, of which it is known how many leaves it has, keeps its limits with the item in place of the one
-    /// that stands at a place, counted from 0. Goes through no other item.
-    pub fn has_room_at_beside(&self, leaves: u64, place: usize, item: &Item) -> bool
-        requires sound { HasSoundItems self.now }
-        requires within { place < length self.now.items.items }
-        requires leaves { leaves ≡ sum_by (item_count (weight_in self.now.apertures)) self.now.items.items }
-        ensures { IsTrue result ↔ KeepsLimits self.now.apertures (slice_set self.now.items.items place item.now) }
-    {
-        has_room_at_beside(&self.apertures, &self.items, leaves, place, item)
-    }
-
     /// Whether the entry may be added under the number, from 10 to 2,147,483,647 and new: a sound aperture, or a
     /// block of sound objects that name entries of the layer, with at most 1,000,000 objects and 4,000,000 leaves,
     /// and at most 8 blocks in one another.
@@ -100,33 +48,35 @@ impl Layer {
         if has_number(&self.apertures, number) {
             return false;
         }
-        is_sound(&self.apertures, entry)
+        match entry {
+            Entry::Aperture(aperture) => aperture.is_sound(),
+            Entry::Block(objects) => is_sound_block(&self.apertures, objects.as_slice()),
+        }
     }
 }
 
 impl Dictionary {
     /// Whether the object is sound as an item beside these entries, or the first of its faults.
-    #[tactic(auto, unfolding(crate::specs::Soundness::item_checks))]
+    #[tactic(auto, unfolding(crate::specs::Soundness::item_checks, crate::specs::Soundness::is_within_limits))]
     pub fn check_object(&self, object: &Object) -> Result<(), ItemFault>
         ensures { result ≡ answer_of (first_holding (item_checks self.now (One object.now))) }
     {
-        let objects = std::slice::from_ref(object);
-        if !are_formed(objects) {
+        if !is_formed(object) {
             return Err(ItemFault::Malformed);
         }
-        if !are_known(self, objects) {
+        if !is_known(self, object) {
             return Err(ItemFault::UnknownAperture);
         }
-        if !are_drawable(self, objects) {
+        if !is_drawable(self, object) {
             return Err(ItemFault::WrongAperture);
         }
-        if !have_radii(objects) {
+        if !has_radius(object) {
             return Err(ItemFault::ZeroRadius);
         }
         if !is_object_inside(self, object) {
             return Err(ItemFault::OutOfBoard);
         }
-        if !fits_object(self, object) {
+        if !has_few_segs(object) || self.leaf_count(object) > LEAF_LIMIT {
             return Err(ItemFault::TooMuch);
         }
         Ok(())
@@ -159,16 +109,6 @@ fn check_repeat(entries: &Dictionary, copies: &Copies, objects: &[Object]) -> Re
         return Err(ItemFault::TooMuch);
     }
     Ok(())
-}
-
-/// Whether the entry is sound behind the others.
-fn is_sound(entries: &Dictionary, entry: &Entry) -> bool
-    ensures { IsTrue result ↔ IsSoundEntry entries.now entry.now }
-{
-    match entry {
-        Entry::Aperture(aperture) => aperture.is_sound(),
-        Entry::Block(objects) => is_sound_block(entries, objects.as_slice()),
-    }
 }
 
 /// Whether a block of the objects is sound behind the others.

@@ -1,25 +1,20 @@
 //! Whether items stay on the board when they are moved: the box of their control points moves with them.
 
-ghost use Rattle.std.specs.Prelude.{◌*◌, ◌<◌, ◌↔◌, All, IsTrue, map};
+ghost use Rattle.std.specs.Prelude.{◌↔◌, All, IsTrue, map};
 ghost use Rattle.cam_units.specs.Board.{IsOnBoard};
 ghost use Rattle.cam_shapes.specs.Shifting.{shifted_point};
 ghost use Rattle.cam_objects.specs.DrillSoundness.{IsSoundDrillItem, drill_points_of};
-ghost use Rattle.cam_objects.specs.Leaves.{meaning_in};
-ghost use Rattle.cam_objects.specs.Shifting.{IsMove, shifted_drill_item, shifted_item, shifted_object};
-ghost use Rattle.cam_objects.specs.Soundness.{IsInside, IsSoundItem, is_drawable};
-ghost use Rattle.cam_objects.specs.declared.item.Item.TheVariants.{One, Repeat};
+ghost use Rattle.cam_objects.specs.Shifting.{IsMove, shifted_drill_item, shifted_item};
+ghost use Rattle.cam_objects.specs.Soundness.{IsInside, IsSoundItem};
 
 use crate::boxes::placed::moved;
 use crate::checks::inside::{
     fits_box, joined_points, painted_box, painted_boxes, standing_box, standing_boxes,
 };
-use crate::dictionary::Dictionary;
 use crate::drill_item::DrillItem;
 use crate::drill_layer::DrillLayer;
 use crate::item::Item;
 use crate::layer::Layer;
-use crate::object::Object;
-use crate::placing::copies::Copies;
 use cam_units::{Bounds, Point};
 
 impl Layer {
@@ -30,10 +25,23 @@ impl Layer {
         ensures { IsTrue result ↔ IsInside self.now.apertures (shifted_item by item.now) }
     {
         match item {
-            Item::One(object) => can_move_object(&self.apertures, object, &by),
+            Item::One(object) => {
+                if !fits_box(&moved(standing_box(object), by)) {
+                    return false;
+                }
+                fits_box(&moved(painted_box(&self.apertures, object), by))
+            }
             Item::Repeat { objects, .. } => {
                 let copies = item.copies();
-                can_move_repeat(&self.apertures, &copies, objects.as_slice(), &by)
+                let objects = objects.as_slice();
+                if !fits_box(&moved(standing_boxes(objects), by)) {
+                    return false;
+                }
+                let one = moved(painted_boxes(&self.apertures, objects), by);
+                if !fits_box(&one) {
+                    return false;
+                }
+                fits_box(&moved(one, copies.last()))
             }
         }
     }
@@ -61,38 +69,4 @@ fn can_move_points(points: &[Point], by: &Point) -> bool
 {
     let bounds = joined_points(Bounds::Empty, points);
     fits_box(&moved(bounds, *by))
-}
-
-/// Whether the object, moved, lies on the board with all its leaves.
-fn can_move_object(entries: &Dictionary, object: &Object, by: &Point) -> bool
-    requires object { IsInside entries.now (One object.now) }
-    requires drawable { IsTrue (is_drawable (meaning_in entries.now) object.now) }
-    requires by { IsMove by.now }
-    ensures { IsTrue result ↔ IsInside entries.now (One (shifted_object by.now object.now)) }
-{
-    if !fits_box(&moved(standing_box(object), *by)) {
-        return false;
-    }
-    fits_box(&moved(painted_box(entries, object), *by))
-}
-
-/// Whether the objects of a repeat, moved, lie on the board with all its leaves.
-fn can_move_repeat(entries: &Dictionary, copies: &Copies, objects: &[Object], by: &Point) -> bool
-    requires repeat { IsInside entries.now
-        (Repeat copies.now.columns copies.now.rows copies.now.i copies.now.j objects.now) }
-    requires drawable { All (λ o. IsTrue (is_drawable (meaning_in entries.now) o)) objects.now }
-    requires copies { 1 < copies.now.columns * copies.now.rows }
-    requires by { IsMove by.now }
-    ensures { IsTrue result ↔ IsInside entries.now
-        (Repeat copies.now.columns copies.now.rows copies.now.i copies.now.j
-        (map (shifted_object by.now) objects.now)) }
-{
-    if !fits_box(&moved(standing_boxes(objects), *by)) {
-        return false;
-    }
-    let one = moved(painted_boxes(entries, objects), *by);
-    if !fits_box(&one) {
-        return false;
-    }
-    fits_box(&moved(one, copies.last()))
 }

@@ -21,23 +21,15 @@ ghost use Rattle.std.specs.Prelude.{
 };
 ghost use Rattle.std.specs.List.{list_all};
 ghost use Rattle.cam_refusals.specs.Limits.{count_limit, leaf_limit};
-ghost use Rattle.cam_objects.specs.Soundness.{KeepsLimits, has_few_segs, is_within_limits};
+ghost use Rattle.cam_objects.specs.Soundness.{HasSoundItems, IsSoundItem, KeepsLimits, has_few_segs};
 ghost use Rattle.cam_objects.specs.Weights.{block_count, item_count, weight_in};
-ghost use Rattle.cam_objects.specs.declared.item.Item.TheVariants.{One, Repeat};
 
 use crate::checks::facts::leaf_count;
 use crate::dictionary::Dictionary;
 use crate::item::Item;
+use crate::layer::Layer;
 use crate::object::Object;
 use cam_refusals::limits::{COUNT_LIMIT, LEAF_LIMIT};
-
-/// Whether the object, as an item, is within the limits.
-#[tactic(auto, unfolding(crate::specs::Soundness::is_within_limits))]
-pub(crate) fn fits_object(entries: &Dictionary, object: &Object) -> bool
-    ensures { result ≡ is_within_limits entries.now (One object.now) }
-{
-    has_few_segs(object) && entries.leaf_count(object) <= LEAF_LIMIT
-}
 
 /// Whether a repeat of so many copies is within the limits.
 pub(crate) fn fits_repeat(entries: &Dictionary, copies: u64, objects: &[Object]) -> bool
@@ -53,7 +45,7 @@ pub(crate) fn fits_repeat(entries: &Dictionary, copies: u64, objects: &[Object])
 }
 
 /// Whether the contour of a region has at most 1,000,000 segments.
-fn has_few_segs(object: &Object) -> bool
+pub(crate) fn has_few_segs(object: &Object) -> bool
     ensures { result ≡ has_few_segs object.now }
 {
     match object {
@@ -74,26 +66,6 @@ fn room_behind(leaves: u64, copies: u64, room: u64) -> Option<u64>
     None
 }
 
-/// The room that is left behind so many copies of the objects, if there is room for them.
-fn room_behind_copies(
-    entries: &Dictionary,
-    copies: u64,
-    objects: &[Object],
-    room: u64,
-) -> Option<u64>
-    requires { room ≤ leaf_limit }
-    ensures fits { IfSome result (λ left. left + copies * block_count (weight_in entries.now) objects.now ≡ room) }
-    ensures past { IfNone result (room < copies * block_count (weight_in entries.now) objects.now) }
-{
-    if copies == 0 {
-        return Some(room);
-    }
-    if objects.len() as u64 > LEAF_LIMIT {
-        return None;
-    }
-    room_behind(leaf_count(entries, objects), copies, room)
-}
-
 /// The room that is left behind an item, if there is room for it.
 fn room_behind_item(entries: &Dictionary, item: &Item, room: u64) -> Option<u64>
     requires { room ≤ leaf_limit }
@@ -109,7 +81,14 @@ fn room_behind_item(entries: &Dictionary, item: &Item, room: u64) -> Option<u64>
             ..
         } => {
             let copies = u64::from(*columns) * u64::from(*rows);
-            room_behind_copies(entries, copies, objects.as_slice(), room)
+            let objects = objects.as_slice();
+            if copies == 0 {
+                return Some(room);
+            }
+            if objects.len() as u64 > LEAF_LIMIT {
+                return None;
+            }
+            room_behind(leaf_count(entries, objects), copies, room)
         }
     }
 }
@@ -129,68 +108,54 @@ fn room_behind_items(entries: &Dictionary, items: &[Item]) -> Option<u64>
     Some(room)
 }
 
-/// Whether a layer of the items keeps the limits with one more behind them.
-pub(crate) fn has_room(entries: &Dictionary, items: &[Item], item: &Item) -> bool
-    ensures { IsTrue result ↔ KeepsLimits entries.now (items.now ++ item.now ∷ []) }
-{
-    if items.len() >= COUNT_LIMIT {
-        return false;
+impl Layer {
+    /// Whether the layer with the item behind the others keeps its limits. Goes through all items and counts their
+    /// leaves.
+    pub fn has_room(&self, item: &Item) -> bool
+        ensures { IsTrue result ↔ KeepsLimits self.now.apertures (self.now.items.items ++ item.now ∷ []) }
+    {
+        match room_behind_items(&self.apertures, &self.items) {
+            Some(room) => self.has_room_beside(LEAF_LIMIT - room, item),
+            None => false,
+        }
     }
-    match room_behind_items(entries, items) {
-        Some(room) => room_behind_item(entries, item, room).is_some(),
-        None => false,
+
+    /// How many leaves the layer has. Goes through all items.
+    pub fn leaf_count(&self) -> u64
+        requires { HasSoundItems self.now }
+        ensures { result ≡ sum_by (item_count (weight_in self.now.apertures)) self.now.items.items }
+    {
+        LEAF_LIMIT - room_behind_items(&self.apertures, &self.items).unwrap()
     }
-}
 
-/// How many leaves the items of a layer within the limits have.
-pub(crate) fn items_leaf_count(entries: &Dictionary, items: &[Item]) -> u64
-    requires { sum_by (item_count (weight_in entries.now)) items.now ≤ leaf_limit }
-    ensures { result ≡ sum_by (item_count (weight_in entries.now)) items.now }
-{
-    LEAF_LIMIT - room_behind_items(entries, items).unwrap()
-}
-
-/// Whether items with so many leaves, counted already, keep the limits with one more behind them.
-pub(crate) fn has_room_beside(
-    entries: &Dictionary,
-    items: &[Item],
-    leaves: u64,
-    item: &Item,
-) -> bool
-    requires { leaves ≡ sum_by (item_count (weight_in entries.now)) items.now }
-    ensures { IsTrue result ↔ KeepsLimits entries.now (items.now ++ item.now ∷ []) }
-{
-    if COUNT_LIMIT <= items.len() {
-        return false;
+    /// How many leaves a sound item has. Goes through no block.
+    pub fn item_leaf_count(&self, item: &Item) -> u64
+        requires { IsSoundItem self.now.apertures item.now }
+        ensures { result ≡ item_count (weight_in self.now.apertures) item.now }
+    {
+        LEAF_LIMIT - room_behind_item(&self.apertures, item, LEAF_LIMIT).unwrap()
     }
-    if leaves > LEAF_LIMIT {
-        return false;
+
+    /// What `has_room` answers, where it is known how many leaves the layer has: goes through no other item.
+    pub fn has_room_beside(&self, leaves: u64, item: &Item) -> bool
+        requires { leaves ≡ sum_by (item_count (weight_in self.now.apertures)) self.now.items.items }
+        ensures { IsTrue result ↔ KeepsLimits self.now.apertures (self.now.items.items ++ item.now ∷ []) }
+    {
+        if self.items.len() >= COUNT_LIMIT || leaves > LEAF_LIMIT {
+            return false;
+        }
+        room_behind_item(&self.apertures, item, LEAF_LIMIT - leaves).is_some()
     }
-    room_behind_item(entries, item, LEAF_LIMIT - leaves).is_some()
-}
 
-/// How many leaves an item within the limits has.
-pub(crate) fn item_leaf_count(entries: &Dictionary, item: &Item) -> u64
-    requires { item_count (weight_in entries.now) item.now ≤ leaf_limit }
-    ensures { result ≡ item_count (weight_in entries.now) item.now }
-{
-    LEAF_LIMIT - room_behind_item(entries, item, LEAF_LIMIT).unwrap()
-}
-
-/// Whether a layer of the items, which has so many leaves and keeps the limits, keeps them with another item in the place
-/// of one.
-pub(crate) fn has_room_at_beside(
-    entries: &Dictionary,
-    items: &[Item],
-    leaves: u64,
-    place: usize,
-    item: &Item,
-) -> bool
-    requires limits { KeepsLimits entries.now items.now }
-    requires within { place < length items.now }
-    requires leaves { leaves ≡ sum_by (item_count (weight_in entries.now)) items.now }
-    ensures { IsTrue result ↔ KeepsLimits entries.now (slice_set items.now place item.now) }
-{
-    let before = item_leaf_count(entries, &items[place]);
-    room_behind_item(entries, item, LEAF_LIMIT - (leaves - before)).is_some()
+    /// Whether the layer, of which it is known how many leaves it has, keeps its limits with the item in place of the one
+    /// that stands at a place, counted from 0. Goes through no other item.
+    pub fn has_room_at_beside(&self, leaves: u64, place: usize, item: &Item) -> bool
+        requires sound { HasSoundItems self.now }
+        requires within { place < length self.now.items.items }
+        requires leaves { leaves ≡ sum_by (item_count (weight_in self.now.apertures)) self.now.items.items }
+        ensures { IsTrue result ↔ KeepsLimits self.now.apertures (slice_set self.now.items.items place item.now) }
+    {
+        let before = self.item_leaf_count(&self.items[place]);
+        room_behind_item(&self.apertures, item, LEAF_LIMIT - (leaves - before)).is_some()
+    }
 }

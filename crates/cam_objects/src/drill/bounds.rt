@@ -3,7 +3,7 @@
 ghost use Rattle.std.specs.Prelude.{◌≡◌, ◌<◌, All, IfSome, Some, length, slice_get};
 ghost use Rattle.cam_units.specs.Board.{IsOnBoard, IsSize};
 ghost use Rattle.cam_objects.specs.Bounds.{bounds_of};
-ghost use Rattle.cam_objects.specs.Drilling.{drill_item_leaves, leaves_with, rout_leaves};
+ghost use Rattle.cam_objects.specs.Drilling.{drill_item_leaves, leaves_with};
 ghost use Rattle.cam_objects.specs.DrillSoundness.{IsSoundDrillItem, IsSoundDrillLayer, drill_points_of};
 ghost use Rattle.cam_objects.specs.Shifting.{IsMove, shifted_drill_item};
 ghost use Rattle.cam_objects.specs.declared.drill_item.DrillItem.{DrillItem};
@@ -15,16 +15,6 @@ use crate::drill_item::DrillItem;
 use crate::drill_layer::DrillLayer;
 use cam_shapes::Disc;
 use cam_units::{Bounds, Nm, Point};
-
-/// The box of a rout: that of its points, widened by the radius of the tool.
-#[inline(never)]
-fn rout_bounds(points: &[Point], diameter: &Nm) -> Bounds
-    requires points { All IsOnBoard points.now }
-    requires diameter { IsSize diameter.now.0 }
-    ensures { result ≡ bounds_of (rout_leaves diameter.now points.now) }
-{
-    widened(&joined_points(Bounds::Empty, points), diameter)
-}
 
 impl DrillItem {
     /// The box of the item with a tool of that diameter: of its points, widened by the radius. Takes no memory.
@@ -39,7 +29,10 @@ impl DrillItem {
                 centre: *at,
                 diameter,
             }),
-            DrillItem::Rout { points, .. } => rout_bounds(points.as_slice(), &diameter),
+            DrillItem::Rout { points, .. } => {
+                let points = joined_points(Bounds::Empty, points.as_slice());
+                widened(&points, &diameter, &diameter)
+            }
         }
     }
 

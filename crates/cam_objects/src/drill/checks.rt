@@ -1,6 +1,6 @@
 //! The checks of a drill layer.
 
-ghost use Rattle.std.specs.Prelude.{◌≡◌, ◌+◌, ◌++◌, ◌∷◌, ◌↔◌, ◌≤◌, [], All, IsTrue, sum_by};
+ghost use Rattle.std.specs.Prelude.{◌≡◌, ◌++◌, ◌∷◌, ◌↔◌, ◌≤◌, [], IsTrue, sum_by};
 ghost use Rattle.cam_refusals.specs.Checks.{answer_of, first_holding};
 ghost use Rattle.cam_objects.specs.DrillSoundness.{IsSoundTool, KeepsDrillLimits, drill_count_of, drilling_checks};
 ghost use Rattle.cam_objects.specs.Soundness.{are_on_board};
@@ -59,15 +59,7 @@ pub(crate) fn fits_limits_beside(items: &[DrillItem], leaves: u64, item: &DrillI
     requires leaves { leaves ≡ sum_by drill_count_of items.now }
     ensures { IsTrue result ↔ KeepsDrillLimits (items.now ++ item.now ∷ []) }
 {
-    items.len() < COUNT_LIMIT && adds_up(leaves, item.leaf_count())
-}
-
-/// Whether so many leaves and so many more are within the limit.
-fn adds_up(leaves: u64, more: usize) -> bool
-    requires { leaves ≤ leaf_limit }
-    ensures { IsTrue result ↔ (leaves + more ≤ leaf_limit) }
-{
-    more as u64 <= LEAF_LIMIT - leaves
+    items.len() < COUNT_LIMIT && item.leaf_count() as u64 <= LEAF_LIMIT - leaves
 }
 
 /// How many leaves the items have.

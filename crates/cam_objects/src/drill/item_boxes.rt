@@ -1,14 +1,14 @@
 //! The boxes of the items of a drill layer, one after another.
 
-ghost use Rattle.std.specs.Prelude.{◌≡◌, ◌<◌, ◌≤◌, Some, length, slice_get, sum_by};
+ghost use Rattle.std.specs.Prelude.{◌≡◌, ◌<◌, Some, length, map, slice_get};
 ghost use Rattle.cam_objects.specs.Bounds.{bounds_of};
+ghost use Rattle.cam_objects.specs.Cells.{drill_item_boxes};
 ghost use Rattle.cam_objects.specs.Drilling.{diameter_of, drill_item_leaves};
 ghost use Rattle.cam_objects.specs.DrillSoundness.{IsSoundDrillLayer, drill_count_of};
-ghost use Rattle.cam_refusals.specs.Limits.{leaf_limit};
 ghost use Rattle.cam_objects.specs.Machinery.Extents.{IsLastToolIn};
-ghost use Rattle.cam_objects.specs.Machinery.Measures.{IsDrillMeasureOf};
 ghost use Rattle.cam_objects.specs.declared.drill_item.DrillItem.{DrillItem};
 
+use crate::cells::item_list::BoxedItems;
 use crate::cells::reach::{Measure, Reach};
 use crate::drill_item::DrillItem;
 use crate::drill_layer::DrillLayer;
@@ -85,21 +85,6 @@ impl<'a> DrillItemBoxes<'a> {
         self.layer
     }
 
-    /// How many items there are.
-    pub(crate) fn len(&self) -> usize
-        ensures value { result ≡ length self.now.items.items }
-        ensures few { sum_by drill_count_of self.now.items.items ≤ leaf_limit }
-    {
-        self.layer.items.len()
-    }
-
-    /// How many holes and slots they have.
-    pub(crate) fn leaves(&self) -> u64
-        ensures { result ≡ sum_by drill_count_of self.now.items.items }
-    {
-        self.layer.leaf_count()
-    }
-
     /// The box of the item at a place of the list, counted from 0: that of `DrillLayer::item_bounds`. Takes no memory.
     #[inline]
     pub fn read(&mut self, place: usize) -> Bounds
@@ -112,15 +97,22 @@ impl<'a> DrillItemBoxes<'a> {
         let item = &layer.items[place];
         item.bounds_with(self.last.diameter_in(&layer.tools, item.tool()))
     }
+}
 
-    /// The cells that the box of the item at a place of the list reaches, and how many holes and slots it has. Takes no
-    /// memory.
-    pub(crate) fn measure(&mut self, place: usize) -> Measure
-        requires { place < length self.old.items.items }
-        ensures value { (item : DrillItem) → slice_get self.old.items.items place ≡ Some item
-            → IsDrillMeasureOf self.old.tools item result }
-        ensures layer { self.new ≡ self.old }
-    {
+impl<'a> BoxedItems for DrillItemBoxes<'a> {
+    ghost boxes = { λ r. drill_item_boxes r.tools r.items.items };
+
+    ghost leaf_counts = { λ r. map drill_count_of r.items.items };
+
+    fn count(&self) -> usize {
+        self.layer.items.len()
+    }
+
+    fn leaf_count(&self) -> u64 {
+        self.layer.leaf_count()
+    }
+
+    fn measure_at(&mut self, place: usize) -> Measure {
         let layer = self.layer;
         Measure {
             reach: Reach::of(self.read(place)),

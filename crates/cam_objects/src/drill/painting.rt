@@ -5,7 +5,7 @@ ghost use Rattle.cam_units.specs.Board.{IsOnBoard, IsSize};
 ghost use Rattle.cam_units.specs.declared.length.Nm.{Nm};
 ghost use Rattle.cam_objects.specs.Canvases.{Paints};
 ghost use Rattle.cam_objects.specs.Contents.{drill_content_leaves, drill_content_of};
-ghost use Rattle.cam_objects.specs.Drilling.{drill_item_leaves, drill_leaves, rout_leaves};
+ghost use Rattle.cam_objects.specs.Drilling.{drill_item_leaves, rout_leaves};
 ghost use Rattle.cam_objects.specs.DrillSoundness.{IsSoundDrillItem, IsSoundDrillLayer, IsSoundTool};
 ghost use Rattle.cam_objects.specs.declared.drill_item.DrillItem.{DrillItem};
 
@@ -79,17 +79,6 @@ fn paint_item<C: Canvas>(tools: &Tools, item: &DrillItem, canvas: &mut C)
     }
 }
 
-/// Paints items, from the last one on.
-fn paint_items<C: Canvas>(tools: &Tools, items: &[DrillItem], canvas: &mut C)
-    requires tools { All (λ (e : ℕ × Nm). IsSoundTool e.0 e.1) tools.now }
-    requires items { All (IsSoundDrillItem tools.now) items.now }
-    ensures { Paints C.has C.place C.ink canvas.old (drill_leaves tools.now items.now) canvas.new }
-{
-    for k in (0..items.len()).rev() {
-        paint_item(tools, &items[k], canvas);
-    }
-}
-
 impl DrillLayer {
     /// Paints a sound drill layer on a canvas, from the last hole or slot on, all dark. What has nothing left to paint in
     /// its box is passed over.
@@ -97,7 +86,9 @@ impl DrillLayer {
         requires { IsSoundDrillLayer self.now }
         ensures { Paints C.has C.place C.ink canvas.old (drill_content_leaves (drill_content_of self.now)) canvas.new }
     {
-        paint_items(&self.tools, &self.items, canvas);
+        for place in (0..self.items.len()).rev() {
+            self.paint_item(place, canvas);
+        }
     }
 
     /// Paints the item at a place of the list, counted from 0, from its last slot on.

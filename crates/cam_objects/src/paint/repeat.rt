@@ -43,7 +43,7 @@ impl<'a> Repeat<'a> {
     {
         let whole = canvas.bounds();
         let rows = self.copies.rows_over(self.first, whole);
-        if rows.is_empty() {
+        if rows.end <= rows.first {
             return;
         }
         if is_done_in(canvas, self.copies.bounds(self.first)) {

@@ -36,13 +36,6 @@ fn reached(count: u32, stride: u64, way: i64) -> u32
 }
 
 impl Run {
-    /// Whether it has no copy.
-    pub(crate) fn is_empty(self) -> bool
-        ensures { IsTrue result ↔ self.end ≤ self.first }
-    {
-        self.end <= self.first
-    }
-
     /// Of so many copies, each so far ahead of the one before, those from `least` to `most` ahead of the first.
     fn between(count: u32, stride: u64, least: i64, most: i64) -> Run
         ensures within { IsWithinCount count result }

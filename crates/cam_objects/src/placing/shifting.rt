@@ -13,7 +13,8 @@ ghost use Rattle.cam_objects.specs.Shifting.{
 
 use crate::drill_item::DrillItem;
 use crate::item::Item;
-use crate::object::Object;
+use crate::object::{Object, shift_objects};
+use crate::points::shift_points;
 use cam_shapes::shifted;
 use cam_units::Point;
 
@@ -54,7 +55,7 @@ impl Item {
     {
         match self {
             Item::One(object) => object.shift(by),
-            Item::Repeat { objects, .. } => objects.shift(by),
+            Item::Repeat { objects, .. } => shift_objects(objects, by),
         }
     }
 }
@@ -68,7 +69,7 @@ impl DrillItem {
     {
         match self {
             DrillItem::Hit { at, .. } => *at = shifted(*at, by),
-            DrillItem::Rout { points, .. } => points.shift(by),
+            DrillItem::Rout { points, .. } => shift_points(points, by),
         }
     }
 }

@@ -10,51 +10,36 @@ use Rattle.cam_objects.proofs.image.is_covered.Goals as goal
 reached : (s : Spot) → IsPlace s → IsInReach s
 reached s h = record { x = omega (arith, h.x); y = omega (arith, h.y) }
 
-pub in_capsule-requires-clause-spot : goal.in_capsule-requires-clause-spot
-in_capsule-requires-clause-spot c = reached c.args.spot c.requires.spot
-
-pub in_capsule-requires-clause-capsule : goal.in_capsule-requires-clause-capsule
-in_capsule-requires-clause-capsule c = subst IsSoundFigure c.in-Stroke.is c.requires.figure
+pub in_capsule-requires : goal.in_capsule-requires
+in_capsule-requires c = record { spot = reached c.args.spot c.requires.spot; capsule = subst IsSoundFigure c.in-Stroke.is c.requires.figure }
 
 pub returns-in-Stroke : goal.returns-in-Stroke
 returns-in-Stroke c =
     subst (λ (f : Figure). IsTrue c.in_capsule.result ↔ Covers (shape_of f) c.args.spot) (sym c.in-Stroke.is) c.in_capsule.ensures
 
-pub in_swept-requires-clause-spot : goal.in_swept-requires-clause-spot
-in_swept-requires-clause-spot c = reached c.args.spot c.requires.spot
-
-pub in_swept-requires-clause-swept : goal.in_swept-requires-clause-swept
-in_swept-requires-clause-swept c = subst IsSoundFigure c.in-Swept.is c.requires.figure
+pub in_swept-requires : goal.in_swept-requires
+in_swept-requires c = record { spot = reached c.args.spot c.requires.spot; swept = subst IsSoundFigure c.in-Swept.is c.requires.figure }
 
 pub returns-in-Swept : goal.returns-in-Swept
 returns-in-Swept c =
     subst (λ (f : Figure). IsTrue c.in_swept.result ↔ Covers (shape_of f) c.args.spot) (sym c.in-Swept.is) c.in_swept.ensures
 
-pub in_arc-requires-clause-spot : goal.in_arc-requires-clause-spot
-in_arc-requires-clause-spot c = reached c.args.spot c.requires.spot
-
-pub in_arc-requires-clause-arc : goal.in_arc-requires-clause-arc
-in_arc-requires-clause-arc c = subst IsSoundFigure c.in-Sweep.is c.requires.figure
+pub in_arc-requires : goal.in_arc-requires
+in_arc-requires c = record { spot = reached c.args.spot c.requires.spot; arc = subst IsSoundFigure c.in-Sweep.is c.requires.figure }
 
 pub returns-in-Sweep : goal.returns-in-Sweep
 returns-in-Sweep c =
     subst (λ (f : Figure). IsTrue c.in_arc.result ↔ Covers (shape_of f) c.args.spot) (sym c.in-Sweep.is) c.in_arc.ensures
 
-pub in_disc-requires-clause-spot : goal.in_disc-requires-clause-spot
-in_disc-requires-clause-spot c = reached c.args.spot c.requires.spot
-
-pub in_disc-requires-clause-disc : goal.in_disc-requires-clause-disc
-in_disc-requires-clause-disc c = subst IsSoundFigure c.in-Drilled.is c.requires.figure
+pub in_disc-requires : goal.in_disc-requires
+in_disc-requires c = record { spot = reached c.args.spot c.requires.spot; disc = subst IsSoundFigure c.in-Drilled.is c.requires.figure }
 
 pub returns-in-Drilled : goal.returns-in-Drilled
 returns-in-Drilled c =
     subst (λ (f : Figure). IsTrue c.in_disc.result ↔ Covers (shape_of f) c.args.spot) (sym c.in-Drilled.is) c.in_disc.ensures
 
-pub in_contour-requires-clause-spot : goal.in_contour-requires-clause-spot
-in_contour-requires-clause-spot c = reached c.args.spot c.requires.spot
-
-pub in_contour-requires-clause-contour : goal.in_contour-requires-clause-contour
-in_contour-requires-clause-contour c = subst IsSoundFigure c.in-Filled.is c.requires.figure
+pub in_contour-requires : goal.in_contour-requires
+in_contour-requires c = record { spot = reached c.args.spot c.requires.spot; contour = subst IsSoundFigure c.in-Filled.is c.requires.figure }
 
 pub returns-in-Filled : goal.returns-in-Filled
 returns-in-Filled c =

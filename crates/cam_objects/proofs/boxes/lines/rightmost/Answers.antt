@@ -1,16 +1,37 @@
-use Rattle.std.proofs.Common.{◌≡◌, pos, ◌*ℤ◌, to_z, of_z, w64, arith}
+use Rattle.std.proofs.Common.{◌≡◌, ◌⊎◌, inl, inr, ℤ, pos, ◌-ℤ◌, ◌*ℤ◌, ◌≤ℤ◌, to_z, w64, arith}
 use Rattle.std.proofs.lemmas.Int.{ints}
-use Rattle.cam_objects.proofs.BesideLines.{less_apart}
+use Rattle.cam_objects.proofs.BesideLines.{far_above, far_below, less_apart, near_above, near_below}
+use Rattle.cam_objects.proofs.boxes.lines.rightmost.Goals.{then-way-lt0, else-way-lt0}
 use Rattle.cam_objects.proofs.boxes.lines.rightmost.Goals as goal
 
-pub returns-clause-least : goal.returns-clause-least
-returns-clause-least c = λ p s inside.
-    let ax : to_z w64 (of_z w64 c.args.way.x) ≡ c.args.way.x = omega (arith, ints, c.requires.way.x) in
-    let ay : to_z w64 (of_z w64 c.args.way.y) ≡ c.args.way.y = omega (arith, ints, c.requires.way.y) in
-    let x : to_z w64 (of_z w64 c.greatest_end.result) ≡ c.greatest_end.result = omega (arith, ints, c.greatest_end.ensures.near) in
-    let y : to_z w64 (of_z w64 c.least_end.result) ≡ c.least_end.result = omega (arith, ints, c.least_end.ensures.near) in
-    let least =
-    c.least_end.ensures.least s.y (pos 2 *ℤ p.y) (omega (arith, ints, inside.below)) (omega (arith, ints, inside.above)) in
-    let greatest =
-    c.greatest_end.ensures.greatest s.x (pos 2 *ℤ p.x) (omega (arith, ints, inside.left)) (omega (arith, ints, inside.right)) in
-    rw (x, y) (less_apart _ _ _ _ (rw ax at least) (rw ay at greatest))
+abbrev IsEnd : ℤ → ℤ → ℤ → ℤ → Type 0
+IsEnd by low high end = ((by ≤ℤ pos 0) × (end ≡ low)) ⊎ ((pos 0 ≤ℤ by) × (end ≡ high))
+
+greatest : (by low high end at from : ℤ) → IsEnd by low high end → low ≤ℤ at → at ≤ℤ high
+    → (by *ℤ (at -ℤ from)) ≤ℤ (by *ℤ (end -ℤ from))
+greatest by low high end at from (inl h) left right = far_below by end at from low h.0 h.1 left
+greatest by low high end at from (inr h) left right = far_above by end at from high h.0 h.1 right
+
+pub returns-then-way-lt0-2-clause-least : goal.returns-then-way-lt0-2-clause-least
+returns-then-way-lt0-2-clause-least c = λ p s inside.
+    let x = to_z w64 c.if-way-lt0.result-bits in
+    let side = elim c.if-way-lt0.branch as (λ _. IsEnd c.args.way.y c.args.low.x c.args.high.x x) [
+      | then-way-lt0 w ↦ inl (omega (arith, ints, w.if-way-lt0.true, c.requires.way.y), omega (arith, ints, w.result-is, c.requires.low.x))
+      | else-way-lt0 w ↦ inr (omega (arith, ints, w.if-way-lt0.false, c.requires.way.y), omega (arith, ints, w.result-is, c.requires.high.x))
+    ] in
+    less_apart _ _ _ _
+    (near_above c.args.way.x _ s.y _ c.args.high.y (omega (arith, ints, c.if-way-lt0-2.true, c.requires.way.x))
+    (omega (arith, ints, c.requires.high.y)) inside.above)
+    (greatest c.args.way.y c.args.low.x c.args.high.x x s.x _ side inside.left inside.right)
+
+pub returns-else-way-lt0-2-clause-least : goal.returns-else-way-lt0-2-clause-least
+returns-else-way-lt0-2-clause-least c = λ p s inside.
+    let x = to_z w64 c.if-way-lt0.result-bits in
+    let side = elim c.if-way-lt0.branch as (λ _. IsEnd c.args.way.y c.args.low.x c.args.high.x x) [
+      | then-way-lt0 w ↦ inl (omega (arith, ints, w.if-way-lt0.true, c.requires.way.y), omega (arith, ints, w.result-is, c.requires.low.x))
+      | else-way-lt0 w ↦ inr (omega (arith, ints, w.if-way-lt0.false, c.requires.way.y), omega (arith, ints, w.result-is, c.requires.high.x))
+    ] in
+    less_apart _ _ _ _
+    (near_below c.args.way.x _ s.y _ c.args.low.y (omega (arith, ints, c.if-way-lt0-2.false, c.requires.way.x))
+    (omega (arith, ints, c.requires.low.y)) inside.below)
+    (greatest c.args.way.y c.args.low.x c.args.high.x x s.x _ side inside.left inside.right)

@@ -7,15 +7,11 @@ use Rattle.cam_objects.specs.Cells.{FirstCopied, IsFirstCopyOf}
 use Rattle.cam_objects.proofs.ObjectCells.{listed_measurable}
 use Rattle.cam_objects.proofs.layer.Layer.first_copy.Goals as goal
 
-pub block_bounds-requires-clause-stands : goal.block_bounds-requires-clause-stands
-block_bounds-requires-clause-stands c =
-    (listed_measurable c.args.self.now c.args.place c.index.result.now _ _ _ _ c.in-Repeat.objects c.as_slice-objects.result.now
-    c.requires.sound c.requires.within c.index.ensures c.in-Repeat.is c.as_slice-objects.ensures).stand
-
-pub block_bounds-requires-clause-board : goal.block_bounds-requires-clause-board
-block_bounds-requires-clause-board c =
-    (listed_measurable c.args.self.now c.args.place c.index.result.now _ _ _ _ c.in-Repeat.objects c.as_slice-objects.result.now
-    c.requires.sound c.requires.within c.index.ensures c.in-Repeat.is c.as_slice-objects.ensures).board
+pub block_bounds-requires : goal.block_bounds-requires
+block_bounds-requires c =
+    let m = listed_measurable c.args.self.now c.args.place c.index.result.now _ _ _ _ c.in-Repeat.objects c.as_slice-objects.result.now
+    c.requires.sound c.requires.within c.index.ensures c.in-Repeat.is c.as_slice-objects.ensures in
+    record { stands = m.stand; board = m.board }
 
 pub object_cells-requires : goal.object_cells-requires
 object_cells-requires c =

@@ -1,5 +1,13 @@
+use Rattle.std.proofs.Common.{ℕ, ◌<◌, ◌≤◌, Option, None, Some, IsSome, refl, arith}
+use Rattle.std.specs.Option.{IfNone}
 use Rattle.cam_objects.proofs.SoundItems.{meets}
 use Rattle.cam_objects.proofs.layer.Layer.item_leaf_count.Goals as goal
 
-pub item_leaf_count-requires : goal.item_leaf_count-requires
-item_leaf_count-requires c = (meets c.args.self.now.apertures c.args.item.now c.requires).limits.leaves
+has_room : (room : Option ℕ) (count : ℕ) → IfNone room (4000000 < count) → count ≤ 4000000 → IsSome room
+has_room None count past few = absurd (omega (arith, past, few))
+has_room (Some left) count past few = refl
+
+pub unwrap-requires : goal.unwrap-requires
+unwrap-requires c =
+    has_room c.room_behind_item.result _ c.room_behind_item.ensures.past
+    (meets c.args.self.now.apertures c.args.item.now c.requires).limits.leaves

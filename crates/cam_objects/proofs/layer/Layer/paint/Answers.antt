@@ -1,18 +1,20 @@
-use Rattle.std.proofs.Common.{List, sym, subst}
-use Rattle.std.specs.List.{All}
-use Rattle.cam_objects.specs.declared.item.Item.{Item}
-use Rattle.cam_objects.specs.Leaves.{leaves_of}
-use Rattle.cam_objects.specs.Machinery.Painting.{IsPaintableItem, IsReadyToPrint}
-use Rattle.cam_objects.proofs.SoundLayers.{paintable_items, ready_layer}
+use Rattle.std.proofs.Common.{◌≡◌, ◌-◌, drop, subst, arith}
+use Rattle.cam_objects.specs.Canvases.{Paints}
+use Rattle.cam_objects.specs.Leaves.{item_leaves, leaves_of, meaning_in}
+use Rattle.cam_objects.proofs.Canvases.{paints_listed}
 use Rattle.cam_objects.proofs.layer.Layer.paint.Goals as goal
 
-pub paint_items-requires-clause-items : goal.paint_items-requires-clause-items
-paint_items-requires-clause-items g c =
-    subst (λ (items : List Item). All IsPaintableItem items) (sym c.deref.ensures.value)
-    (paintable_items c.args.self.now c.requires)
-
-pub paint_items-requires-clause-ready : goal.paint_items-requires-clause-ready
-paint_items-requires-clause-ready g c =
+pub loop-place-preserved : goal.loop-place-preserved
+loop-place-preserved g c =
+    let canvas = g.C.Canvas in
     let layer = c.args.self.now in
-    subst (λ (items : List Item). IsReadyToPrint layer.apertures (leaves_of layer.apertures items))
-    (sym c.deref.ensures.value) (ready_layer layer c.requires)
+    paints_listed canvas.has canvas.place canvas.ink (item_leaves (meaning_in layer.apertures)) layer.items.items
+    (c.loop-place.place - 1) c.loop-place.place _ _ _ (omega arith) (omega arith) c.loop-place.invariant c.paint_item.ensures
+
+pub returns : goal.returns
+returns g c =
+    let canvas = g.C.Canvas in
+    let layer = c.args.self.now in
+    let first : c.loop-place.place ≡ 0 = omega arith in
+    subst (λ k. Paints canvas.has canvas.place canvas.ink c.args.canvas.now
+    (leaves_of layer.apertures (drop k layer.items.items)) c.loop-place.canvas) first c.loop-place.invariant

@@ -1,4 +1,6 @@
 use Rattle.std.proofs.Common.{◌≡◌, ℕ, ◌+◌, ◌-◌, ◌<◌, ◌≤◌, List, length, take, drop, slice_get, get_or, Some, sym, ap, subst, ◌∙◌, arith}
+use Rattle.std.specs.Option.{IfSome}
+use Rattle.cam_units.specs.Board.{IsSize}
 use Rattle.cam_objects.specs.declared.object.Object.{Object}
 use Rattle.cam_objects.specs.declared.entry.Entry.{Entry}
 use Rattle.cam_objects.specs.declared.entry.Entry.TheVariants.{Aperture, Block}
@@ -28,6 +30,7 @@ use Rattle.cam_objects.proofs.Painting.{
   swept_points,
 }
 use Rattle.cam_objects.proofs.Placed.{reach_box, reach_flashed, reach_offset}
+use Rattle.cam_objects.proofs.SizedLeaves.{round_sized}
 use Rattle.cam_objects.proofs.paint.objects.+paint.Goals as goal
 
 -- ---- a block
@@ -247,54 +250,37 @@ paint_object-paint_flash-requires g t c κs within = (
   ),
 )
 
-pub paint_object-paint_stroke-requires-clause-offset : goal.paint_object-paint_stroke-requires-clause-offset
-paint_object-paint_stroke-requires-clause-offset g t c = reach_offset (c.args.upto + 1) c.args.place.now c.requires.ready.reach
-
-pub paint_object-paint_stroke-requires-clause-from : goal.paint_object-paint_stroke-requires-clause-from
-paint_object-paint_stroke-requires-clause-from g t c =
+pub paint_object-paint_stroke-requires : goal.paint_object-paint_stroke-requires
+paint_object-paint_stroke-requires g t c =
     let means = meaning_before c.args.upto c.args.entries.now in
-    (drawn_points means c.args.place.now c.in-Draw.aperture c.in-Draw.from c.in-Draw.to c.in-Draw.turn c.in-Draw.dark c.in-Some.tip
-    c.in-Some.ensures.value
-    (subst StandsOnBoard c.in-Draw.is c.requires.object)
-    (subst (λ (o : Object). AreOnBoard (object_leaves means c.args.place.now o)) c.in-Draw.is c.requires.ready.board)).0
+    let here = c.in-Draw in
+    let ends = drawn_points means c.args.place.now here.aperture here.from here.to here.turn here.dark c.in-Some.tip
+    c.in-Some.ensures.value (subst StandsOnBoard here.is c.requires.object)
+    (subst (λ (o : Object). AreOnBoard (object_leaves means c.args.place.now o)) here.is c.requires.ready.board) in
+    record {
+      offset = reach_offset (c.args.upto + 1) c.args.place.now c.requires.ready.reach;
+      from = ends.0;
+      to = ends.1;
+      tip = c.turned-tip.ensures.sized;
+    }
 
-pub paint_object-paint_stroke-requires-clause-to : goal.paint_object-paint_stroke-requires-clause-to
-paint_object-paint_stroke-requires-clause-to g t c =
+pub paint_object-paint_sweep-requires : goal.paint_object-paint_sweep-requires
+paint_object-paint_sweep-requires g t c =
     let means = meaning_before c.args.upto c.args.entries.now in
-    (drawn_points means c.args.place.now c.in-Draw.aperture c.in-Draw.from c.in-Draw.to c.in-Draw.turn c.in-Draw.dark c.in-Some.tip
-    c.in-Some.ensures.value
-    (subst StandsOnBoard c.in-Draw.is c.requires.object)
-    (subst (λ (o : Object). AreOnBoard (object_leaves means c.args.place.now o)) c.in-Draw.is c.requires.ready.board)).1
-
-pub paint_object-paint_sweep-requires-clause-offset : goal.paint_object-paint_sweep-requires-clause-offset
-paint_object-paint_sweep-requires-clause-offset g t c = reach_offset (c.args.upto + 1) c.args.place.now c.requires.ready.reach
-
-pub paint_object-paint_sweep-requires-clause-from : goal.paint_object-paint_sweep-requires-clause-from
-paint_object-paint_sweep-requires-clause-from g t c =
-    let means = meaning_before c.args.upto c.args.entries.now in
-    (swept_points means c.args.place.now c.in-Arc.aperture c.in-Arc.from c.in-Arc.to c.in-Arc.centre c.in-Arc.ccw c.in-Arc.dark
+    let here = c.in-Arc in
+    let points = swept_points means c.args.place.now here.aperture here.from here.to here.centre here.ccw here.dark
     c.in-Some-round_width.width
     (c.in-Some-round_width.ensures ∙ ap (λ o. round_width o) c.tip-in-Arc.ensures.value)
-    (subst StandsOnBoard c.in-Arc.is c.requires.object)
-    (subst (λ (o : Object). AreOnBoard (object_leaves means c.args.place.now o)) c.in-Arc.is c.requires.ready.board)).0
-
-pub paint_object-paint_sweep-requires-clause-to : goal.paint_object-paint_sweep-requires-clause-to
-paint_object-paint_sweep-requires-clause-to g t c =
-    let means = meaning_before c.args.upto c.args.entries.now in
-    (swept_points means c.args.place.now c.in-Arc.aperture c.in-Arc.from c.in-Arc.to c.in-Arc.centre c.in-Arc.ccw c.in-Arc.dark
-    c.in-Some-round_width.width
-    (c.in-Some-round_width.ensures ∙ ap (λ o. round_width o) c.tip-in-Arc.ensures.value)
-    (subst StandsOnBoard c.in-Arc.is c.requires.object)
-    (subst (λ (o : Object). AreOnBoard (object_leaves means c.args.place.now o)) c.in-Arc.is c.requires.ready.board)).1
-
-pub paint_object-paint_sweep-requires-clause-centre : goal.paint_object-paint_sweep-requires-clause-centre
-paint_object-paint_sweep-requires-clause-centre g t c =
-    let means = meaning_before c.args.upto c.args.entries.now in
-    (swept_points means c.args.place.now c.in-Arc.aperture c.in-Arc.from c.in-Arc.to c.in-Arc.centre c.in-Arc.ccw c.in-Arc.dark
-    c.in-Some-round_width.width
-    (c.in-Some-round_width.ensures ∙ ap (λ o. round_width o) c.tip-in-Arc.ensures.value)
-    (subst StandsOnBoard c.in-Arc.is c.requires.object)
-    (subst (λ (o : Object). AreOnBoard (object_leaves means c.args.place.now o)) c.in-Arc.is c.requires.ready.board)).2
+    (subst StandsOnBoard here.is c.requires.object)
+    (subst (λ (o : Object). AreOnBoard (object_leaves means c.args.place.now o)) here.is c.requires.ready.board) in
+    record {
+      offset = reach_offset (c.args.upto + 1) c.args.place.now c.requires.ready.reach;
+      from = points.0;
+      to = points.1;
+      centre = points.2;
+      width = subst (λ o. IfSome o (λ w. IsSize w.0)) (sym c.round_width.ensures ∙ c.in-Some-round_width.is)
+          (round_sized c.tip-in-Arc.result c.tip-in-Arc.ensures.size);
+    }
 
 pub paint_object-paint_region-requires-clause-offset : goal.paint_object-paint_region-requires-clause-offset
 paint_object-paint_region-requires-clause-offset g t c = reach_offset (c.args.upto + 1) c.args.place.now c.requires.ready.reach

@@ -8,15 +8,11 @@ use Rattle.cam_objects.specs.Cells.{AreCellsOf, FirstCopied, IsFirstCopyOf, obje
 use Rattle.cam_objects.proofs.ObjectCells.{listed_measurable}
 use Rattle.cam_objects.proofs.boxes.first_copy.FirstCopy.renew.Goals as goal
 
-pub block_bounds-bounds-requires-clause-stands : goal.block_bounds-bounds-requires-clause-stands
-block_bounds-bounds-requires-clause-stands c =
-    (listed_measurable c.args.layer.now c.args.place c.index.result.now _ _ _ _ c.in-Repeat.objects c.as_slice-objects.result.now
-    c.requires.sound c.requires.within c.index.ensures c.in-Repeat.is c.as_slice-objects.ensures).stand
-
-pub block_bounds-bounds-requires-clause-board : goal.block_bounds-bounds-requires-clause-board
-block_bounds-bounds-requires-clause-board c =
-    (listed_measurable c.args.layer.now c.args.place c.index.result.now _ _ _ _ c.in-Repeat.objects c.as_slice-objects.result.now
-    c.requires.sound c.requires.within c.index.ensures c.in-Repeat.is c.as_slice-objects.ensures).board
+pub block_bounds-bounds-requires : goal.block_bounds-bounds-requires
+block_bounds-bounds-requires c =
+    let m = listed_measurable c.args.layer.now c.args.place c.index.result.now _ _ _ _ c.in-Repeat.objects c.as_slice-objects.result.now
+    c.requires.sound c.requires.within c.index.ensures c.in-Repeat.is c.as_slice-objects.ensures in
+    record { stands = m.stand; board = m.board }
 
 pub of-boxes-requires : goal.of-boxes-requires
 of-boxes-requires c =

@@ -1,9 +1,13 @@
-use Rattle.std.proofs.Common.{◌≡◌, Some, slice_get, ap, sym, subst, ◌∙◌}
+use Rattle.std.proofs.Common.{◌≡◌, ◌<◌, Some, length, ap, sym, subst, ◌∙◌}
+use Rattle.std.specs.Option.{IfSome}
+use Rattle.std.proofs.lemmas.Option.{slice_get-get_or}
 use Rattle.cam_objects.specs.declared.item.Item.{Item}
 use Rattle.cam_objects.specs.declared.layer.Layer.{Layer}
 use Rattle.cam_objects.specs.Bounds.{bounds_of}
+use Rattle.cam_objects.specs.Cells.{AreFirstCopiesOf}
 use Rattle.cam_objects.specs.Leaves.{item_leaves, meaning_in}
 use Rattle.cam_objects.proofs.KeptBoxes.{listed_stands, read_box}
+use Rattle.cam_objects.proofs.boxes.item_boxes.ItemBoxes.read.Goals.{in-Some, in-None}
 use Rattle.cam_objects.proofs.boxes.item_boxes.ItemBoxes.read.Goals as goal
 
 pub object_bounds-requires-clause-stands : goal.object_bounds-requires-clause-stands
@@ -19,7 +23,21 @@ returns-in-One-clause-value c = λ item at.
     (c.object_bounds.ensures.value
     ∙ ap (λ (x : Item). bounds_of (item_leaves (meaning_in layer.apertures) x)) (sym c.in-One.is))
 
-pub returns-in-Repeat-clause-value : goal.returns-in-Repeat-clause-value
-returns-in-Repeat-clause-value c =
-    subst (λ (l : Layer). (item : Item) → slice_get l.items.items c.args.place ≡ Some item
-    → c.bounds_by.result ≡ bounds_of (item_leaves (meaning_in l.apertures) item)) c.self.view_is c.bounds_by.ensures
+pub bounds_with-requires-clause-known : goal.bounds_with-requires-clause-known
+bounds_with-requires-clause-known c =
+    let layer = c.self.inside.layer.now in
+    let within : c.args.place < length layer.items.items =
+    subst (λ (l : Layer). c.args.place < length l.items.items) (sym c.self.view_is) c.requires in
+    c.at.ensures layer.apertures layer.items.items c.index-item.result.now
+    (subst (λ o. IfSome o (λ known. AreFirstCopiesOf layer.apertures layer.items.items known.now)) c.in-Some.is c.self.invariant.copies)
+    (slice_get-get_or layer.items.items c.args.place c.index-item.result.now within ∙ ap Some (sym c.index-item.ensures))
+
+pub returns-after-self-clause-value : goal.returns-after-self-clause-value
+returns-after-self-clause-value c = λ item at.
+    let layer = c.self.inside.layer.now in
+    let x = c.index-item.result.now in
+    read_box layer c.args.self.now c.args.place x item c.match-self.result c.self.view_is c.index-item.ensures at
+    (elim c.match-self.branch as (λ _. c.match-self.result ≡ bounds_of (item_leaves (meaning_in layer.apertures) x)) [
+      | in-Some w ↦ w.result-is ∙ w.bounds_with.ensures
+      | in-None w ↦ w.result-is ∙ w.bounds_of.ensures
+    ])

@@ -1,4 +1,4 @@
-use Rattle.std.proofs.Common.{◌-◌, ◌<◌, ◌≤◌, pos, ◌*ℤ◌, refl, arith}
+use Rattle.std.proofs.Common.{◌-◌, ◌<◌, pos, ◌*ℤ◌, arith}
 use Rattle.cam_objects.specs.Machinery.Repeats.{leaves_of_column, leaves_of_copy, leaves_of_repeat}
 use Rattle.cam_objects.proofs.Canvases.{paints_boxed}
 use Rattle.cam_objects.proofs.ItemBounds.{bounded_repeat, first_on_board}
@@ -8,18 +8,17 @@ use Rattle.cam_objects.proofs.PaintedRuns.{column_unseen, paints_end, paints_sta
 use Rattle.cam_objects.proofs.Painting.{ready_copy}
 use Rattle.cam_objects.proofs.paint.repeat.Repeat.paint.Goals as goal
 
-pub returns-then-is_empty : goal.returns-then-is_empty
-returns-then-is_empty g c =
+pub returns-then-rows : goal.returns-then-rows
+returns-then-rows g c =
     let canvas = g.C.Canvas in
     let v = c.args.canvas.now in
     let r = c.args.self.now in
-    let empty : c.rows_over-rows.result.end ≤ c.rows_over-rows.result.first = c.if-is_empty.ensures.0 refl in
     paints_end canvas.has canvas.place canvas.ink v (leaves_of_column r) 0 r.copies.columns (omega arith)
     (λ k from here.
     pieces_unseen canvas.has canvas.place v (leaves_of_copy r k) 0 r.copies.rows (λ row from below.
     row_unseen canvas.has canvas.place v r.entries.now r.copies r.objects.now r.first c.bounds-whole.result
     c.requires.repeat.first c.bounds-whole.ensures c.rows_over-rows.result k row
-    (c.rows_over-rows.ensures.each row (pos k *ℤ r.copies.i) (omega arith)) (λ h. omega (arith, h.from, h.below))))
+    (c.rows_over-rows.ensures.each row (pos k *ℤ r.copies.i) (omega arith)) (λ h. omega (arith, c.if-rows.true, h.from, h.below))))
 
 pub returns-then-is_done_in : goal.returns-then-is_done_in
 returns-then-is_done_in g c =

@@ -1,5 +1,0 @@
-use Rattle.std.proofs.lemmas.List.Sums.{sum-map}
-use Rattle.cam_objects.proofs.cells.item_list.ItemBoxesBoxedItems.count.Goals as goal
-
-pub returns-clause-few : goal.returns-clause-few
-returns-clause-few c = rw sum-map c.len.ensures.few

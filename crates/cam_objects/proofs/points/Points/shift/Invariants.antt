@@ -1,6 +1,0 @@
-use Rattle.std.proofs.Common.{◌≡◌, ◌++◌, map, take, drop}
-use Rattle.cam_shapes.specs.Shifting.{shifted_point}
-use Rattle.cam_objects.proofs.points.Points.shift.Given as goal
-
-abbrev pub invariant-loop-point : goal.invariant-loop-point
-invariant-loop-point l = l.point-items ≡ map (shifted_point l.by) (take l.point-index l.fn.self) ++ drop l.point-index l.fn.self
