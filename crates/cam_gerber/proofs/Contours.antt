@@ -180,18 +180,7 @@ next_tracks past operation old kept to m t inside moves ended e done = record {
 pub closed_tracks : (past : Past) (old kept : Running) → Tracks past old → Ended (Says EndRegion ∷ past) old kept
     → Tracks (Says EndRegion ∷ past) (record kept { region = record kept.region { inside = false } })
 closed_tracks past old kept t ended = record {
-  modal = subst (TracksModal (Says EndRegion ∷ past)) (sym ended.modal) (record {
-    format = t.modal.format;
-    unit = t.modal.unit;
-    dark = t.modal.dark;
-    mirror = t.modal.mirror;
-    rotation = t.modal.rotation;
-    aperture = t.modal.aperture;
-    mode = t.modal.mode;
-    arcs = t.modal.arcs;
-    code = t.modal.code;
-    point = t.modal.point;
-  });
+  modal = subst (TracksModal (Says EndRegion ∷ past)) (sym ended.modal) (search t.modal);
   region = record { inside = refl; start = ended.start ∙ t.region.start; segs = ended.segs };
   frames = ended.places.frames;
   built = ended.places.built;

@@ -34,11 +34,11 @@ use Rattle.cam_commands.specs.Commands.{DefineAperture}
 use Rattle.cam_objects.specs.declared.layer.Layer.{Layer}
 use Rattle.cam_gerber.specs.declared.running.Running.{Running}
 use Rattle.cam_gerber.specs.Machinery.Tracking.{Tracks}
-use Rattle.cam_gerber.proofs.Opening.{none_from}
+use Rattle.cam_gerber.proofs.Pasts.{none_of}
 use Rattle.std.proofs.lemmas.Bool.{or_parts}
 use Rattle.std.specs.Map.{lookup}
 use Rattle.cam_gerber.proofs.Least.{least_none, pass_least}
-use Rattle.cam_gerber.proofs.AscendingChecks.{least_is_first}
+use Rattle.cam_refusals.proofs.Checks.{least_is_first}
 
 -- bytes that do not count are dropped once
 pub packed_again : (text : List ℕ) → packed (packed text) ≡ packed text
@@ -100,7 +100,7 @@ pub new_number : (past : Past) (number : ℕ) (checks : Checks Refusal) (entries
 new_number past number checks entries e h =
     let met = pass_least (with_state past (Some number) checks) h in
     let free : is_defined past number ≡ false = (or_parts (is_defined past number) _ met.1.0).0 in
-    ap (lookup (nat_eq number)) e ∙ none_from (lookup (nat_eq number) (entries_in past)) free
+    ap (lookup (nat_eq number)) e ∙ none_of (lookup (nat_eq number) (entries_in past)) free
 
 pub defined_tracks : (past : Past) (text : List ℕ) (old : Running) (unit : FileUnit) (n : ℕ) (a : Aperture) (layer : Layer)
     → Tracks past old → unit ≡ unit_or_mm (unit_in past)
@@ -108,18 +108,7 @@ pub defined_tracks : (past : Past) (text : List ℕ) (old : Running) (unit : Fil
     → layer.items ≡ old.built.layer.items
     → Tracks (Says (DefineAperture (packed text)) ∷ past) (record old { built = record old.built { layer = layer } })
 defined_tracks past text old unit n a layer t u d entries items = record {
-  modal = record {
-    format = t.modal.format;
-    unit = t.modal.unit;
-    dark = t.modal.dark;
-    mirror = t.modal.mirror;
-    rotation = t.modal.rotation;
-    aperture = t.modal.aperture;
-    mode = t.modal.mode;
-    arcs = t.modal.arcs;
-    code = t.modal.code;
-    point = t.modal.point;
-  };
+  modal = search t.modal;
   region = record { inside = t.region.inside; start = t.region.start; segs = t.region.segs };
   frames = record { blocks = t.frames.blocks; repeat = t.frames.repeat };
   built = record {
@@ -171,7 +160,7 @@ said_none text none = (ap first (sym (same_pieces text)), λ parts r. none parts
 
 module _ (past : Past) (name : List ℕ) (parts : Option (List Part)) (macros : List Macro) (m : macros ≡ macros_in past) where
   told : least number_of (faults past (NamesMacro name parts)) ≡ of_checks.first_holding (faults past (NamesMacro name parts))
-  told = least_is_first 1 (faults past (NamesMacro name parts)) refl
+  told = least_is_first number_of 1 (faults past (NamesMacro name parts)) refl
 
   same_taken : (is_some (named (macros_in past) name) || is_reserved name) ≡ (is_some (named macros name) || is_reserved name)
   same_taken = ap (λ ms. is_some (named ms name) || is_reserved name) (sym m)
@@ -201,18 +190,7 @@ pub macro_tracks : (past : Past) (old : Running) (made : Macro) (macros : List M
     → macros ≡ old.built.macros ++ made ∷ []
     → Tracks (NamesMacro made.name (Some made.parts) ∷ past) (record old { built = record old.built { macros = macros } })
 macro_tracks past old made macros t e = record {
-  modal = record {
-    format = t.modal.format;
-    unit = t.modal.unit;
-    dark = t.modal.dark;
-    mirror = t.modal.mirror;
-    rotation = t.modal.rotation;
-    aperture = t.modal.aperture;
-    mode = t.modal.mode;
-    arcs = t.modal.arcs;
-    code = t.modal.code;
-    point = t.modal.point;
-  };
+  modal = search t.modal;
   region = record { inside = t.region.inside; start = t.region.start; segs = t.region.segs };
   frames = record { blocks = t.frames.blocks; repeat = t.frames.repeat };
   built = record {

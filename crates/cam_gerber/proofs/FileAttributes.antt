@@ -89,18 +89,7 @@ pub set_tracks : (past : Past) (text : List ℕ) (old : Running) (attributes : L
     → attributes ≡ with_attribute (attribute_of (attribute_name text) (attribute_fields text)) old.attributes
     → Tracks (Says (KeepText FileAttribute text) ∷ past) (record old { attributes = attributes })
 set_tracks past text old attributes t e = record {
-  modal = record {
-    format = t.modal.format;
-    unit = t.modal.unit;
-    dark = t.modal.dark;
-    mirror = t.modal.mirror;
-    rotation = t.modal.rotation;
-    aperture = t.modal.aperture;
-    mode = t.modal.mode;
-    arcs = t.modal.arcs;
-    code = t.modal.code;
-    point = t.modal.point;
-  };
+  modal = search t.modal;
   region = record { inside = t.region.inside; start = t.region.start; segs = t.region.segs };
   frames = record { blocks = t.frames.blocks; repeat = t.frames.repeat };
   built = record { entries = t.built.entries; items = t.built.items; macros = t.built.macros; leaves = t.built.leaves };

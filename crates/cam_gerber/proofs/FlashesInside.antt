@@ -1,6 +1,6 @@
 -- A flash is well made, and a check tells whether a leaf of it lies outside the board.
 use Rattle.std.proofs.Common.{◌≡◌, ℕ, ◌+◌, List, [], ◌∷◌, length, arith, Bool, true, false, Option, Some, None, Result, refl, sym, ap, ap₂, subst, ◌∙◌}
-use Rattle.std.specs.Prelude.{map, ◌&&◌, not, is_some}
+use Rattle.std.specs.Prelude.{◌&&◌, not, is_some}
 use Rattle.std.specs.Option.{option_map}
 use Rattle.std.proofs.lemmas.List.Elements.{All-cons, All-head, All-nil}
 use Rattle.std.proofs.lemmas.Option.{slice_get_within}
@@ -25,18 +25,16 @@ use Rattle.cam_gerber.specs.State.{Past}
 use Rattle.cam_gerber.specs.Homes.{Opened, home, home_by, open_blocks, open_repeat}
 use Rattle.cam_gerber.specs.Layers.{entries_in}
 use Rattle.cam_gerber.specs.Faults.{are_leaves_on_board, is_left_out, is_outside, is_outside_at}
-use Rattle.cam_gerber.specs.Machinery.Tracking.{HasPast, TracksPlaces, Weighs, block_of, repeat_of}
+use Rattle.cam_gerber.specs.Machinery.Tracking.{HasPast, TracksPlaces, Weighs, repeat_of}
 use Rattle.cam_gerber.specs.Machinery.WellMade.{IsOfAperture, IsWellMade, NamesAperture, is_of_board}
-use Rattle.cam_gerber.proofs.Outside.{on_board, outside_is, passes_board, told_outside}
+use Rattle.cam_gerber.proofs.Outside.{outside_is, passes_board, told_outside}
+use Rattle.cam_gerber.proofs.JoiningParts.{on_board}
+use Rattle.cam_gerber.proofs.Settling.{empty_map}
 use Rattle.cam_gerber.proofs.StandingLeaves.{stands}
 use Rattle.cam_gerber.proofs.SoundViews.{IsKnownNumber}
 use Rattle.cam_gerber.proofs.SoundJoining.{sound_past}
 
 -- ---- what is judged at once
-
-empty_map : (past : Past) (numbers : List ℕ) → is_left_out (map (block_of past) numbers) ≡ is_left_out numbers
-empty_map past [] = refl
-empty_map past (n ∷ outer) = refl
 
 some_map : (past : Past) (repeat : Option Opened) → is_some (option_map (repeat_of past) repeat) ≡ is_some repeat
 some_map past None = refl

@@ -15,7 +15,6 @@ pub mod Expansions
 pub mod LowNumbers
 pub mod Places
 pub mod LeastFaults
-pub mod GrownEntries
 pub mod StandingLeaves
 pub mod SoundParts
 pub mod JoiningParts

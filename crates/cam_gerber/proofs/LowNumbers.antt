@@ -1,12 +1,13 @@
 -- Each refusal that a file may be told has a number under that of memory.
-use Rattle.std.proofs.Common.{◌≡◌, ℕ, List, [], ◌∷◌, length, Bool, true, false, cond, Option, Some, None, Result}
-use Rattle.std.proofs.Common.{Ok, Err, refl, sym, ap, ◌∙◌, inl, inr}
-use Rattle.std.specs.Prelude.{ℤ, codes, nat_le, unwrap_or, ◌&&◌}
+use Rattle.std.proofs.Common.{◌≡◌, ℕ, List, [], length, Bool, true, false, cond, Option, Some, None, Result}
+use Rattle.std.proofs.Common.{Ok, Err, refl}
+use Rattle.std.specs.Prelude.{ℤ, codes, nat_le, unwrap_or}
 use Rattle.std.specs.List.{list_all}
 use Rattle.std.specs.Str.{bytes_eq}
 use Rattle.cam_refusals.specs.declared.refusal.Refusal.{Refusal}
 use Rattle.cam_refusals.specs.Checks.{Checks, Holds}
 use Rattle.cam_refusals.specs.Refusals.{number_of}
+use Rattle.cam_refusals.proofs.Checks.{each_has}
 use Rattle.cam_units.specs.declared.length.Unit.{Unit as FileUnit}
 use Rattle.cam_macros.specs.declared.aperture_macro.Macro.{Macro}
 use Rattle.cam_macros.specs.declared.fault.MacroFault.{MacroFault}
@@ -30,17 +31,9 @@ use Rattle.cam_gerber.proofs.Expansions.{MayBe, expansion_may_be}
 abbrev pub are_low : Checks Refusal → Bool
 are_low checks = list_all (λ c. nat_le (number_of c.0) 29) checks
 
-both : (a b : Bool) → (a && b) ≡ true → (a ≡ true) × (b ≡ true)
-both true b h = (refl, h)
-both false b h = absurd cc
-
 pub low_number : (checks : Checks Refusal) (refusal : Refusal) → are_low checks ≡ true → Holds checks refusal
     → nat_le (number_of refusal) 29 ≡ true
-low_number [] refusal all h = absurd h
-low_number (check ∷ checks) refusal all (inl here) =
-    ap (λ r. nat_le (number_of r) 29) (sym here.0) ∙ (both (nat_le (number_of check.0) 29) (are_low checks) all).0
-low_number (check ∷ checks) refusal all (inr later) =
-    low_number checks refusal (both (nat_le (number_of check.0) 29) (are_low checks) all).1 later
+low_number checks refusal all h = each_has (λ r. nat_le (number_of r) 29) checks refusal all h
 
 -- ---- definitions of apertures
 

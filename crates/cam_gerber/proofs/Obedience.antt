@@ -21,7 +21,7 @@ said (DefineAperture text) h = absurd h
 said (DefineMacro text) h = absurd h
 said _ h = refl
 
-pub obeys : (command : Command) (old new : Running) (result : Result (Unit {0}) Stop) → IsPlain command
+obeys : (command : Command) (old new : Running) (result : Result (Unit {0}) Stop) → IsPlain command
     → Takes command old result new → Obeys command old result new
 obeys command old new (Ok done) plain takes = λ past none t.
     let k = takes past none t in
@@ -29,6 +29,11 @@ obeys command old new (Ok done) plain takes = λ past none t.
 obeys command old new (Err Memory) plain takes = tt
 obeys command old new (Err (Fault code)) plain takes =
     λ past none t. (Says command, said command plain, least_of_command past command plain ∙ takes past none t)
+
+-- the same of the command that the code has
+pub taken : (command now : Command) (old new : Running) (result : Result (Unit {0}) Stop) → now ≡ command → IsPlain command
+    → Takes command old result new → Obeys now old result new
+taken command now old new result is plain takes = rw is (obeys command old new result plain takes)
 
 -- what is answered behind checks that tell nothing is answered with them
 lift : (result : Result (Unit {0}) Stop) (front rest : Checks Refusal) (P : Type 0) → first_holding front ≡ None → Answers result rest P
@@ -55,18 +60,7 @@ leads past operation refusal h =
 -- a text that nobody reads
 pub idle : (past : Past) (r : Running) → Tracks past r → Tracks (Says Nothing ∷ past) r
 idle past r t = record {
-  modal = record {
-    format = t.modal.format;
-    unit = t.modal.unit;
-    dark = t.modal.dark;
-    mirror = t.modal.mirror;
-    rotation = t.modal.rotation;
-    aperture = t.modal.aperture;
-    mode = t.modal.mode;
-    arcs = t.modal.arcs;
-    code = t.modal.code;
-    point = t.modal.point;
-  };
+  modal = search t.modal;
   region = record { inside = t.region.inside; start = t.region.start; segs = t.region.segs };
   frames = record { blocks = t.frames.blocks; repeat = t.frames.repeat };
   built = record { entries = t.built.entries; items = t.built.items; macros = t.built.macros; leaves = t.built.leaves };

@@ -38,18 +38,7 @@ opened_tracks past old n blocks t free outside closed few written =
     ap (nat_le 8) (sym (length_map past (open_blocks past)) ∙ ap length (sym t.frames.blocks)) ∙ few in (
       rw (free, region, repeat, room) refl,
       record {
-        modal = record {
-          format = t.modal.format;
-          unit = t.modal.unit;
-          dark = t.modal.dark;
-          mirror = t.modal.mirror;
-          rotation = t.modal.rotation;
-          aperture = t.modal.aperture;
-          mode = t.modal.mode;
-          arcs = t.modal.arcs;
-          code = t.modal.code;
-          point = t.modal.point;
-        };
+        modal = search t.modal;
         region = record { inside = t.region.inside; start = t.region.start; segs = t.region.segs };
         frames = record {
           blocks = written ∙ ap₂ (λ (b : Frame) (rest : List Frame). b ∷ rest)
@@ -61,7 +50,3 @@ opened_tracks past old n blocks t free outside closed few written =
         attributes = t.attributes;
       },
     )
-
-pub none_from : {A : Type 0} (o : Option A) → is_some o ≡ false → o ≡ None
-none_from None h = refl
-none_from (Some x) h = absurd cc

@@ -1,10 +1,10 @@
 -- The tests of the board say what the demands say, and an item that is well made is refused for the board alone.
 use Rattle.std.proofs.Common.{◌≡◌, ℕ, List, [], ◌∷◌, Bool, true, false, Result, refl, sym, ap, ◌∙◌}
-use Rattle.std.specs.Prelude.{not, nat_lt, unsigned_abs}
+use Rattle.std.specs.Prelude.{not, unsigned_abs}
 use Rattle.std.specs.List.{All, list_all}
-use Rattle.std.proofs.lemmas.Bool.{and_parts, lt-ltb, ltb-true}
+use Rattle.std.proofs.lemmas.Bool.{lt-ltb}
 use Rattle.std.proofs.lemmas.List.Elements.{All-weaker}
-use Rattle.std.proofs.lemmas.List.Sums.{AllPass-from_list_all, list_all-from_AllPass}
+use Rattle.std.proofs.lemmas.List.Sums.{list_all-from_AllPass}
 use Rattle.cam_units.specs.Board.{IsOnBoard}
 use Rattle.cam_units.specs.declared.point.Point.{Point}
 use Rattle.cam_objects.specs.declared.entry.Entry.{Entry}
@@ -20,11 +20,7 @@ use Rattle.cam_gerber.specs.State.{Past}
 use Rattle.cam_gerber.specs.Layers.{entries_in}
 use Rattle.cam_gerber.specs.Faults.{are_leaves_on_board, is_outside}
 use Rattle.cam_gerber.specs.Machinery.WellMade.{IsWellMade, IsWellMadeItem, is_of_board}
-
-pub on_board : (p : Point) → is_on_board p ≡ true → IsOnBoard p
-on_board p h =
-    let both = and_parts (nat_lt (unsigned_abs p.x) 1000000000) (nat_lt (unsigned_abs p.y) 1000000000) h in
-    record { x = ltb-true (unsigned_abs p.x) 1000000000 both.0; y = ltb-true (unsigned_abs p.y) 1000000000 both.1 }
+use Rattle.cam_gerber.proofs.JoiningParts.{leaves_on_board}
 
 pub passes_board : (p : Point) → IsOnBoard p → is_on_board p ≡ true
 passes_board p h = rw (lt-ltb (unsigned_abs p.x) 1000000000 h.x, lt-ltb (unsigned_abs p.y) 1000000000 h.y) refl
@@ -36,13 +32,6 @@ leaves_pass leaves h =
     (λ (l : Leaf). list_all is_on_board (points_of_shape l.shape) ≡ true)
     (λ l points. list_all-from_AllPass is_on_board (points_of_shape l.shape)
     (All-weaker IsOnBoard (λ p. is_on_board p ≡ true) passes_board (points_of_shape l.shape) points)) leaves h)
-
-leaves_on_board : (leaves : List Leaf) → are_leaves_on_board leaves ≡ true → AreOnBoard leaves
-leaves_on_board leaves h =
-    All-weaker (λ (l : Leaf). list_all is_on_board (points_of_shape l.shape) ≡ true) (λ (l : Leaf). All IsOnBoard (points_of_shape l.shape))
-    (λ l points. All-weaker (λ p. is_on_board p ≡ true) IsOnBoard on_board (points_of_shape l.shape)
-    (AllPass-from_list_all is_on_board (points_of_shape l.shape) points)) leaves
-    (AllPass-from_list_all _ leaves h)
 
 module _ (es : List (ℕ × Entry)) (item : Item) (well : IsWellMadeItem es item) where
   inside : are_leaves_on_board (item_leaves (meaning_in es) item) ≡ true → IsInside es item

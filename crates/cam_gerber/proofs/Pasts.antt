@@ -108,7 +108,7 @@ still_free es m e (n ∷ numbers) h free =
     let parts = or_parts (eqb n m) (has m numbers) h in
     (ap is_some (lookup_append es n m e parts.0) ∙ free.0, still_free es m e numbers parts.1 free.1)
 
-none_of : {A : Type 0} (o : Option A) → is_some o ≡ false → o ≡ None
+pub none_of : {A : Type 0} (o : Option A) → is_some o ≡ false → o ≡ None
 none_of None h = refl
 none_of (Some x) h = absurd cc
 

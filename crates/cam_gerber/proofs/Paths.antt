@@ -1,7 +1,8 @@
 -- What a line or an arc may be refused for.
 use Rattle.std.proofs.Common.{◌≡◌, Bool, true, false, cond, Option, Some, None, refl, ap₂, arith}
-use Rattle.std.specs.Prelude.{◌&&◌, not, ◌||◌}
+use Rattle.std.specs.Prelude.{not, ◌||◌}
 use Rattle.std.specs.Ordering.{int_eq}
+use Rattle.std.proofs.lemmas.Bool.{and_parts}
 use Rattle.std.proofs.lemmas.Bool.Decides.{Decides-int_eq, nat_tests}
 use Rattle.cam_refusals.specs.declared.refusal.Refusal.{Refusal}
 use Rattle.cam_refusals.specs.declared.refusal.Refusal.TheVariants.{OutOfBoard, ZeroRadius}
@@ -11,13 +12,9 @@ use Rattle.cam_units.specs.declared.point.Point.{Point}
 use Rattle.cam_gerber.specs.Faults.{is_same_point, path_faults}
 use Rattle.cam_objects.specs.Soundness.{is_on_board}
 
-both : (a b : Bool) → (a && b) ≡ true → (a ≡ true) × (b ≡ true)
-both true b h = (refl, h)
-both false b h = absurd cc
-
-same_points : (p q : Point) → is_same_point p q ≡ true → p ≡ q
+pub same_points : (p q : Point) → is_same_point p q ≡ true → p ≡ q
 same_points p q h =
-    let parts = both (int_eq p.x q.x) (int_eq p.y q.y) h in
+    let parts = and_parts (int_eq p.x q.x) (int_eq p.y q.y) h in
     let x : p.x ≡ q.x = (Decides-int_eq p.x q.x).0 parts.0 in
     let y : p.y ≡ q.y = (Decides-int_eq p.y q.y).0 parts.1 in
     ap₂ (λ a b. record { x = a; y = b }) x y

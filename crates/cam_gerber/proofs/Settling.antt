@@ -24,7 +24,7 @@ use Rattle.cam_gerber.specs.Machinery.Tracking.{IsSettled, Tracks, TracksModal, 
 use Rattle.cam_gerber.specs.Machinery.Closing.{opened_by, step_by}
 use Rattle.cam_gerber.proofs.UnusedRepeats.{unused_repeat}
 
-empty_map : (past : Past) (numbers : List ℕ) → is_left_out (map (block_of past) numbers) ≡ is_left_out numbers
+pub empty_map : (past : Past) (numbers : List ℕ) → is_left_out (map (block_of past) numbers) ≡ is_left_out numbers
 empty_map past [] = refl
 empty_map past (n ∷ outer) = refl
 
@@ -85,18 +85,7 @@ set_tracks : (past : Past) (old new : Running) (repeat : Repeat) (opens : Option
 set_tracks past old new repeat opens t settled is =
     let now : Past = Says (SetRepeat repeat) ∷ past in
     record {
-      modal = subst (TracksModal now) (sym settled.modal) (record {
-        format = t.modal.format;
-        unit = t.modal.unit;
-        dark = t.modal.dark;
-        mirror = t.modal.mirror;
-        rotation = t.modal.rotation;
-        aperture = t.modal.aperture;
-        mode = t.modal.mode;
-        arcs = t.modal.arcs;
-        code = t.modal.code;
-        point = t.modal.point;
-      });
+      modal = subst (TracksModal now) (sym settled.modal) (search t.modal);
       region = subst (TracksRegion now) (sym settled.region)
           (record { inside = t.region.inside; start = t.region.start; segs = t.region.segs });
       frames = record {

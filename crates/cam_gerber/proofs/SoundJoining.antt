@@ -10,10 +10,10 @@ use Rattle.cam_gerber.specs.Making.{home_objects}
 use Rattle.cam_gerber.specs.Layers.{entries_in, home_leaves}
 use Rattle.cam_gerber.specs.Laws.{IsFaultless}
 use Rattle.cam_gerber.specs.Machinery.OpenNumbers.{AreWithin}
-use Rattle.cam_gerber.proofs.Pasts.{AreFree, stay_apart}
+use Rattle.cam_gerber.proofs.Pasts.{AreFree, none_of, stay_apart}
 use Rattle.cam_gerber.proofs.SoundParts.{closed}
 use Rattle.cam_gerber.proofs.SoundViews.{IsBlockView, block_at}
-use Rattle.cam_gerber.proofs.SoundPasts.{Sound, at_start, no_some, sound_step}
+use Rattle.cam_gerber.proofs.SoundPasts.{Sound, at_start, sound_step}
 
 pub sound_past : (past : Past) → IsFaultless past → AreWithin past → Sound past
 sound_past [] faultless within = at_start
@@ -29,6 +29,6 @@ block_may_join past n outer faultless within e =
     record {
       least = blocks.0.0.0;
       greatest = blocks.0.0.1;
-      absent = no_some (lookup (nat_eq n) (entries_in past)) free.0;
+      absent = none_of (lookup (nat_eq n) (entries_in past)) free.0;
       sound = closed (entries_in past) (home_objects (InBlock n) past) (home_leaves (InBlock n) past) blocks.0.1;
     }

@@ -16,7 +16,7 @@ use Rattle.cam_objects.specs.Soundness.{AreOnBoard, IsSoundBlock, IsSoundItem}
 use Rattle.cam_objects.specs.Soundness.{objects_of, points_of, segs_of}
 use Rattle.cam_objects.specs.Weights.{Weight, block_count, item_count, object_count, object_depth, weight_in}
 use Rattle.cam_objects.proofs.SoundItems.{HasRadius, IsDrawable, IsFormed, IsKnown, meets, sound}
-use Rattle.cam_gerber.proofs.GrownEntries.{block_count_same, drawable_same, known_same, sound_same, sum_same, weighs_same}
+use Rattle.cam_objects.proofs.GrownDictionaries.{block_count_same, drawable_same, known_same, sound_same, sum_same, weighs_same}
 
 abbrev pub Pairs : Type 0
 Pairs = List (ℕ × Entry)

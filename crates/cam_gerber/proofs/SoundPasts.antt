@@ -1,7 +1,7 @@
 -- Each statement without a fault leaves what is in hand sound.
 use Rattle.std.proofs.Common.{◌≡◌, ℕ, ◌+◌, ◌*◌, ◌<◌, ◌≤◌, List, [], ◌∷◌, ◌++◌, drop, length, map, Bool, true, false}
 use Rattle.std.proofs.Common.{cond, Option, Some, None, nat_eq, refl, sym, subst, arith, lit≤, lit<}
-use Rattle.std.specs.Prelude.{◌||◌, ◌&&◌, not, IfSome, is_some, unsigned_abs, unwrap_or}
+use Rattle.std.specs.Prelude.{◌||◌, ◌&&◌, not, IfSome, unsigned_abs, unwrap_or}
 use Rattle.std.specs.Option.{option_map}
 use Rattle.std.specs.List.{AllByRecursion, list_any}
 use Rattle.std.specs.Map.{lookup}
@@ -39,7 +39,7 @@ use Rattle.cam_objects.specs.Soundness.{is_short}
 use Rattle.cam_gerber.specs.Laws.{IsFaultless}
 use Rattle.cam_gerber.specs.Machinery.OpenNumbers.{IsEntryNumber, StatesWithin}
 use Rattle.cam_gerber.proofs.Least.{pass_least}
-use Rattle.cam_gerber.proofs.Pasts.{AreFree, stay_apart, unused}
+use Rattle.cam_gerber.proofs.Pasts.{AreFree, none_of, stay_apart, unused}
 use Rattle.cam_gerber.proofs.UnusedRepeats.{unused_repeat}
 use Rattle.cam_gerber.proofs.SoundParts.{Pairs, IsSoundOpen, IsSoundRepeated, IsMade, closed}
 use Rattle.cam_gerber.proofs.SoundContours.{turned}
@@ -53,10 +53,6 @@ abbrev pub Sound : Past → Type 0
 Sound past = IsSoundView (view past)
 
 -- ---- objects
-
-pub no_some : {A : Type 0} (o : Option A) → is_some o ≡ false → o ≡ None
-no_some None e = refl
-no_some (Some a) e = absurd cc
 
 operates : (past : Past) (operation : Operation) → Sound past → least number_of (faults past (Says (Operate operation))) ≡ None
     → Sound (Says (Operate operation) ∷ past)
@@ -174,7 +170,7 @@ closes_at past (n ∷ ns) some free blocks s =
     (record {
       least = blocks.0.0.0;
       greatest = blocks.0.0.1;
-      absent = no_some (lookup (nat_eq n) (entries_in past)) free.0;
+      absent = none_of (lookup (nat_eq n) (entries_in past)) free.0;
       sound = closed (entries_in past) (home_objects (InBlock n) past) (home_leaves (InBlock n) past) blocks.0.1;
     })
     rest
@@ -203,7 +199,7 @@ pub all_absent : (past : Past) (more : Pairs) → AllByRecursion (λ e. is_taken
     → AllByRecursion (λ e. lookup (nat_eq e.0) (entries_in past) ≡ None) more
 all_absent past [] h = tt
 all_absent past (e ∷ more) h = (
-  no_some (lookup (nat_eq e.0) (entries_in past))
+  none_of (lookup (nat_eq e.0) (entries_in past))
       (or_parts (is_defined past e.0) (list_any (λ m. nat_eq m e.0) (open_blocks past)) h.0).0,
   all_absent past more h.1,
 )

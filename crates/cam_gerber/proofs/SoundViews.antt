@@ -23,7 +23,8 @@ use Rattle.cam_gerber.specs.Making.{home_objects, segments_in, start_in}
 use Rattle.cam_gerber.specs.Layers.{entries_in, items_in, leaves_in, home_leaves, closed_by, copied_leaves, repeat_by}
 use Rattle.cam_gerber.specs.Faults.{are_leaves_on_board, is_outside, is_layer_full, is_left_out, holds_of_one}
 use Rattle.cam_gerber.specs.Machinery.OpenNumbers.{IsEntryNumber}
-use Rattle.cam_gerber.proofs.GrownEntries.{known_more, sound_grows}
+use Rattle.cam_objects.proofs.GrownDictionaries.{known_more}
+use Rattle.cam_objects.proofs.KeptFacts.{sound_grows}
 use Rattle.cam_gerber.proofs.SoundParts.{Pairs, IsSoundOpen, IsSoundRepeated, IsSoundBuilt, open_more, repeated_more, built_more}
 use Rattle.cam_gerber.proofs.SoundContours.{IsContourTo}
 use Rattle.cam_gerber.proofs.SoundDefinitions.{AreDefined}

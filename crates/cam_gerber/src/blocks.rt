@@ -1,10 +1,9 @@
 //! Blocks.
 
-ghost use Rattle.std.specs.Prelude.{◌≡◌, ◌==◌, ◌||◌, nat_eq, is_some};
+ghost use Rattle.std.specs.Prelude.{◌≡◌, ◌==◌};
 ghost use Rattle.std.specs.List.{list_any};
 ghost use Rattle.cam_commands.specs.Commands as command;
 ghost use Rattle.cam_gerber.specs.Faults.{is_taken};
-ghost use Rattle.cam_gerber.specs.Laws.{IsFaultless};
 ghost use Rattle.cam_gerber.specs.State.{Past};
 ghost use Rattle.cam_gerber.specs.Machinery.Tracking.{HasPast, Takes, TracksPlaces};
 

@@ -1,6 +1,6 @@
 //! Definitions of apertures and macros.
 
-ghost use Rattle.std.specs.Prelude.{◌≡◌, ◌==◌, ◌≤◌, length, ◌∷◌, ◌||◌, is_none, Some, IfOk, is_some, if◌then◌else◌};
+ghost use Rattle.std.specs.Prelude.{◌≡◌, ◌∷◌, ◌||◌, is_none, Some, is_some, if◌then◌else◌};
 ghost use Rattle.std.specs.List.{before_first};
 ghost use Rattle.cam_words.specs.Heads.{packed};
 ghost use Rattle.cam_words.specs.Bytes.{is_star};
@@ -41,17 +41,6 @@ fn lower(fault: Refusal, holds: bool, told: Option<Refusal>) -> Option<Refusal>
     }
 }
 
-/// Whether the name is that of a standard template.
-#[tactic(auto, unfolding(crate::specs::Faults::is_reserved))]
-fn is_reserved(name: &[u8]) -> bool
-    ensures { result ≡ is_reserved name.now }
-{
-    name == b"C".as_slice()
-        || name == b"R".as_slice()
-        || name == b"O".as_slice()
-        || name == b"P".as_slice()
-}
-
 /// What stands before the first star.
 fn before_star(text: &[u8]) -> &[u8]
     ensures { result.now ≡ before_first is_star text.now }
@@ -61,13 +50,15 @@ fn before_star(text: &[u8]) -> &[u8]
 
 impl Running {
     /// Whether a macro or a standard template has the name.
+    #[tactic(auto, unfolding(crate::specs::Faults::is_reserved))]
     fn is_named(&self, name: &[u8]) -> bool
         ensures { result ≡ (is_some (named self.now.built.macros name.now) || is_reserved name.now) }
     {
-        if self.built.macros.contains(name) {
-            return true;
-        }
-        is_reserved(name)
+        self.built.macros.contains(name)
+            || name == b"C".as_slice()
+            || name == b"R".as_slice()
+            || name == b"O".as_slice()
+            || name == b"P".as_slice()
     }
 
     /// The lower of a definition's fault and of those that the commands before it make.

@@ -18,24 +18,11 @@ use cam_objects::Object;
 use cam_refusals::{Refusal, Stop};
 
 impl Running {
-    /// How many leaves the object has, and how deep its blocks lie.
-    fn weight_of(&self, object: &Object) -> Weight
-        ensures { Weighs result self.now.built.layer.apertures object.now }
-    {
-        Weight {
-            leaves: self.built.layer.apertures.leaf_count(object),
-            depth: self.built.layer.apertures.depth(object),
-        }
-    }
-
     /// Whether the next object belongs to a repeat.
     fn is_in_repeat(&self) -> bool
         ensures { result ≡ (is_left_out self.now.frames.blocks.items && is_some self.now.frames.repeat) }
     {
-        if !self.frames.blocks.is_empty() {
-            return false;
-        }
-        self.frames.repeat.is_some()
+        self.frames.blocks.is_empty() && self.frames.repeat.is_some()
     }
 
     /// Whether a leaf of the flash lies outside the board; in a repeat that is judged when it is closed.
@@ -65,7 +52,10 @@ impl Running {
         if self.is_outside_at(object) {
             return None;
         }
-        Some(self.weight_of(object))
+        Some(Weight {
+            leaves: self.built.layer.apertures.leaf_count(object),
+            depth: self.built.layer.apertures.depth(object),
+        })
     }
 
     /// D03 outside a region.
@@ -104,28 +94,13 @@ impl Running {
         if let Some(code) = self.modal.leading_fault(operation) {
             return Err(Stop::Fault(code));
         }
-        match code_of(operation) {
-            OperationCode::Plot => {
-                if self.region.inside {
-                    self.segment(operation)
-                } else {
-                    self.stroke(operation)
-                }
-            }
-            OperationCode::Move => {
-                if self.region.inside {
-                    self.next_contour(operation)
-                } else {
-                    self.move_to(operation)
-                }
-            }
-            OperationCode::Flash => {
-                if self.region.inside {
-                    Err(Stop::Fault(Refusal::FlashInRegion))
-                } else {
-                    self.flash(operation)
-                }
-            }
+        match (code_of(operation), self.region.inside) {
+            (OperationCode::Plot, true) => self.segment(operation),
+            (OperationCode::Plot, false) => self.stroke(operation),
+            (OperationCode::Move, true) => self.next_contour(operation),
+            (OperationCode::Move, false) => self.move_to(operation),
+            (OperationCode::Flash, true) => Err(Stop::Fault(Refusal::FlashInRegion)),
+            (OperationCode::Flash, false) => self.flash(operation),
         }
     }
 }

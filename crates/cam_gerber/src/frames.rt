@@ -1,10 +1,6 @@
 //! The open blocks and the open repeat.
 
-ghost use Rattle.std.specs.Prelude.{[]};
-ghost use Rattle.cam_gerber.specs.Machinery.Tracking.{TracksFrames};
-
 use crate::object_list::ObjectList;
-use std::alloc::Global;
 use std::collections::VecDeque;
 
 /// A block that is open.
@@ -34,16 +30,4 @@ pub struct Frames {
     /// Innermost first.
     pub blocks: VecDeque<OpenBlock>,
     pub repeat: Option<OpenRepeat>,
-}
-
-impl Frames {
-    /// Nothing is open.
-    pub fn new(alloc: Global) -> Frames
-        ensures { TracksFrames [] result }
-    {
-        Frames {
-            blocks: VecDeque::new(alloc),
-            repeat: None,
-        }
-    }
 }

@@ -1,17 +1,15 @@
 //! Objects join the innermost open block, else the open repeat, else the layer.
 
-ghost use Rattle.std.specs.Prelude.{◌≡◌, ◌++◌, ◌∷◌, ◌≤◌, ◌<◌, [], false, true, Some, None, length, nat_eq, nat_le};
-ghost use Rattle.std.specs.Prelude.{◌+◌, is_some, is_none, IsTrue, OnOk};
+ghost use Rattle.std.specs.Prelude.{◌≡◌, ◌+◌, nat_eq, nat_le, is_some, IsTrue, OnOk};
 ghost use Rattle.std.specs.Map.{lookup};
 ghost use Rattle.cam_objects.specs.Leaves.{meaning_in, solid_tip};
 ghost use Rattle.cam_objects.specs.declared.object.Object.{Object};
 ghost use Rattle.cam_refusals.specs.Limits.{leaf_limit};
 ghost use Rattle.cam_gerber.specs.Faults.{can_draw, is_full};
 ghost use Rattle.cam_gerber.specs.Homes.{home};
-ghost use Rattle.cam_gerber.specs.Laws.{IsFaultless};
 ghost use Rattle.cam_gerber.specs.State.{Past};
-ghost use Rattle.cam_gerber.specs.Machinery.WellMade.{IsOfAperture, NamesAperture};
-ghost use Rattle.cam_gerber.specs.Machinery.Tracking.{Keeps, Tracks, TracksPlaces, Weighs};
+ghost use Rattle.cam_gerber.specs.Machinery.WellMade.{IsOfAperture};
+ghost use Rattle.cam_gerber.specs.Machinery.Tracking.{Keeps, TracksPlaces, Weighs};
 
 use crate::built::Built;
 use crate::running::Running;
@@ -27,10 +25,7 @@ const LEAF_CAP: u64 = LEAF_LIMIT + 1;
 pub fn has_room(leaves: u64, more: u64) -> bool
     ensures { result ≡ nat_le (leaves + more) leaf_limit }
 {
-    if leaves > LEAF_LIMIT {
-        return false;
-    }
-    more <= LEAF_LIMIT - leaves
+    leaves <= LEAF_LIMIT && more <= LEAF_LIMIT - leaves
 }
 
 /// Whether an arc or a straight line may be drawn with an aperture.
@@ -57,24 +52,17 @@ impl Built {
         }
     }
 
-    /// Whether the number is that of an aperture, and not of a block.
-    fn is_aperture(&self, number: u32) -> bool
-        ensures { IsTrue result → NamesAperture self.now.layer.apertures number }
-    {
-        let Some((_, entry)) = self.layer.apertures.find(number) else {
-            return false;
-        };
-        matches!(entry, Entry::Aperture(_))
-    }
-
     /// Whether the object is a flash of an aperture, which paints one leaf where it stands.
     pub fn is_of_aperture(&self, object: &Object) -> bool
         ensures { IsTrue result → IsOfAperture self.now.layer.apertures object.now }
     {
-        match object {
-            Object::Flash { aperture, .. } => self.is_aperture(*aperture),
-            _ => false,
-        }
+        let Object::Flash { aperture, .. } = object else {
+            return false;
+        };
+        let Some((_, entry)) = self.layer.apertures.find(*aperture) else {
+            return false;
+        };
+        matches!(entry, Entry::Aperture(_))
     }
 
     /// Whether an arc or a straight line may be drawn with the number: an arc with a solid circle alone, a line also
@@ -114,21 +102,14 @@ impl Running {
             → Weighs weight self.now.built.layer.apertures object → result ≡ is_full (home past) past object }
     {
         if let Some(block) = self.frames.blocks.front() {
-            if block.objects.len() >= COUNT_LIMIT {
-                return true;
-            }
-            if !has_room(block.leaves, weight.leaves) {
-                return true;
-            }
-            return weight.depth >= DEPTH_LIMIT;
+            return block.objects.len() >= COUNT_LIMIT
+                || !has_room(block.leaves, weight.leaves)
+                || weight.depth >= DEPTH_LIMIT;
         }
         if let Some(repeat) = &self.frames.repeat {
             return repeat.objects.len() >= COUNT_LIMIT;
         }
-        if self.built.layer.items.len() >= COUNT_LIMIT {
-            return true;
-        }
-        !has_room(self.built.leaves, weight.leaves)
+        self.built.layer.items.len() >= COUNT_LIMIT || !has_room(self.built.leaves, weight.leaves)
     }
 
     /// Adds an object of so many leaves to its home.

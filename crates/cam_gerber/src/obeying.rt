@@ -1,6 +1,5 @@
 //! One more command.
 
-ghost use Rattle.std.specs.Prelude.{◌≡◌};
 ghost use Rattle.cam_commands.specs.Borrowed.{shown};
 ghost use Rattle.cam_gerber.specs.Machinery.Tracking.{HasFewDecimals, HasPast, Obeys};
 
@@ -33,9 +32,18 @@ impl Running {
             Command::Nothing => Ok(()),
             Command::NeutralOld => self.neutral_old(),
             Command::RefusedOld(style) => self.refused_old(style),
-            Command::SetMode(mode) => self.set_mode(mode),
-            Command::SingleQuadrant => self.single_quadrant(),
-            Command::MultiQuadrant => self.multi_quadrant(),
+            Command::SetMode(mode) => {
+                self.modal.mode = mode;
+                Ok(())
+            }
+            Command::SingleQuadrant => {
+                self.modal.arcs = false;
+                Ok(())
+            }
+            Command::MultiQuadrant => {
+                self.modal.arcs = true;
+                Ok(())
+            }
             Command::BeginRegion => self.begin_region(),
             Command::EndRegion => self.end_region(),
             Command::Select(number) => self.select(number),

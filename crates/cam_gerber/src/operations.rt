@@ -1,6 +1,6 @@
 //! Operations and regions.
 
-ghost use Rattle.std.specs.Prelude.{◌≡◌, false, true};
+ghost use Rattle.std.specs.Prelude.{false, true};
 ghost use Rattle.cam_commands.specs.Commands as command;
 ghost use Rattle.cam_commands.specs.declared.parts.OperationCode.TheVariants as code;
 ghost use Rattle.cam_gerber.specs.Machinery.Tracking.{EndsContour, Operates, Takes};
@@ -12,7 +12,6 @@ use cam_objects::Object;
 use cam_refusals::limits::COUNT_LIMIT;
 use cam_refusals::{Refusal, Stop};
 use cam_shapes::{Contour, Segments};
-use cam_units::Point;
 use std::mem;
 
 impl Running {

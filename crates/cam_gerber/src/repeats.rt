@@ -83,10 +83,7 @@ fn copied_leaves(columns: u32, rows: u32, leaves: u64) -> u64
 fn has_steps_on_board(unit: Unit, repeat: &Repeat) -> bool
     ensures { result ≡ (is_short (step_by unit repeat.now.i) && is_short (step_by unit repeat.now.j)) }
 {
-    if !is_short(step(unit, &repeat.i)) {
-        return false;
-    }
-    is_short(step(unit, &repeat.j))
+    is_short(step(unit, &repeat.i)) && is_short(step(unit, &repeat.j))
 }
 
 impl OpenRepeat {
@@ -135,10 +132,7 @@ impl Built {
         if self.is_outside(&item) {
             return Err(Stop::Fault(Refusal::OutOfBoard));
         }
-        if self.layer.items.len() >= COUNT_LIMIT {
-            return Err(Stop::Fault(Refusal::TooMuch));
-        }
-        if !has_room(self.leaves, leaves) {
+        if self.layer.items.len() >= COUNT_LIMIT || !has_room(self.leaves, leaves) {
             return Err(Stop::Fault(Refusal::TooMuch));
         }
         self.layer.items.push(item)?;
@@ -167,10 +161,7 @@ impl Running {
     fn is_nested(&self, repeat: &Repeat) -> bool
         ensures { result ≡ (has_copies repeat.now && not (is_left_out self.now.frames.blocks.items)) }
     {
-        if !has_copies(repeat) {
-            return false;
-        }
-        !self.frames.blocks.is_empty()
+        has_copies(repeat) && !self.frames.blocks.is_empty()
     }
 
     /// SR with parameters: the open repeat is closed, and a repeat of more than one copy is opened.
@@ -218,10 +209,7 @@ impl Running {
         requires { HasPast self.old }
         ensures { Takes command.End self.old result self.new }
     {
-        if self.region.inside {
-            return Err(Stop::Fault(Refusal::StrayBlock));
-        }
-        if !self.frames.blocks.is_empty() {
+        if self.region.inside || !self.frames.blocks.is_empty() {
             return Err(Stop::Fault(Refusal::StrayBlock));
         }
         self.settle()

@@ -1,16 +1,20 @@
 //! The running record of one pass over the commands.
 
-ghost use Rattle.std.specs.Prelude.{◌≡◌, [], false, MatchOption, Some};
+ghost use Rattle.std.specs.Prelude.{◌≡◌, []};
 ghost use Rattle.cam_objects.specs.Contents.{content_of};
-ghost use Rattle.cam_gerber.specs.Machinery.Tracking.{Takes, Tracks, content_in};
+ghost use Rattle.cam_gerber.specs.Machinery.Tracking.{Tracks, content_in};
 
 use crate::attributes::Attributes;
 use crate::built::Built;
 use crate::frames::Frames;
 use crate::modal::Modal;
 use crate::region::Region;
+use cam_apertures::Macros;
+use cam_commands::Mode;
 use cam_objects::Layer;
+use cam_units::{Point, Turn};
 use std::alloc::Global;
+use std::collections::VecDeque;
 
 /// What is in force, plotted, open and built behind the commands so far.
 #[derive(Drop)]
@@ -30,10 +34,32 @@ impl Running {
     {
         Running {
             alloc,
-            modal: Modal::new(),
-            region: Region::new(alloc),
-            frames: Frames::new(alloc),
-            built: Built::new(alloc),
+            modal: Modal {
+                format: None,
+                unit: None,
+                dark: true,
+                mirror: Turn::R0,
+                rotation: Turn::R0,
+                aperture: None,
+                mode: Mode::Linear,
+                arcs: false,
+                code: None,
+                point: Point { x: 0, y: 0 },
+            },
+            region: Region {
+                inside: false,
+                start: Point { x: 0, y: 0 },
+                segs: Vec::new(alloc),
+            },
+            frames: Frames {
+                blocks: VecDeque::new(alloc),
+                repeat: None,
+            },
+            built: Built {
+                layer: Layer::new(alloc),
+                macros: Macros::new(alloc),
+                leaves: 0,
+            },
             attributes: Attributes::new(alloc),
         }
     }
@@ -47,7 +73,7 @@ impl Running {
             attributes,
             ..
         } = self;
-        let mut layer = built.into_layer();
+        let mut layer = built.layer;
         layer.attributes = attributes.into_vec();
         layer
     }

@@ -2,12 +2,12 @@
 
 ghost use Rattle.std.specs.Prelude.{◌≡◌, ◌≤◌};
 ghost use Rattle.cam_commands.specs.Commands as command;
-ghost use Rattle.cam_gerber.specs.State.{Past, is_dark, turn_of_angle, turn_of_mirror};
+ghost use Rattle.cam_gerber.specs.State.{turn_of_angle};
 ghost use Rattle.cam_gerber.specs.Faults.{is_no_quarter};
-ghost use Rattle.cam_gerber.specs.Machinery.Tracking.{Takes, Tracks};
+ghost use Rattle.cam_gerber.specs.Machinery.Tracking.{Takes};
 
 use crate::running::Running;
-use cam_commands::{Format, Mirror, Mode, Polarity, Style};
+use cam_commands::{Format, Mirror, Polarity, Style};
 use cam_refusals::{Refusal, Stop};
 use cam_units::{Turn, Unit};
 
@@ -17,60 +17,34 @@ const QUARTER: u64 = 90_000_000_000;
 /// So many 10^-9 in 1.
 const ONE: i64 = 1_000_000_000;
 
-fn is_dark(polarity: Polarity) -> bool
-    ensures { result ≡ is_dark polarity }
+/// Whether an angle in 10^-9 of a degree is no multiple of 90 degrees.
+#[tactic(auto, unfolding(crate::specs::Faults::is_no_quarter))]
+fn is_no_quarter(angle: i64) -> bool
+    ensures { result ≡ is_no_quarter angle }
 {
-    matches!(polarity, Polarity::Dark)
+    angle.unsigned_abs() % QUARTER != 0
 }
 
-/// How a mirror turns apertures.
-fn turn_of_mirror(mirror: Mirror) -> Turn
-    ensures { result ≡ turn_of_mirror mirror }
+/// The turn by a multiple of 90 degrees, counterclockwise; R0 for another angle.
+#[tactic(auto, unfolding(crate::specs::State::turn_of_angle))]
+fn turn_of_angle(angle: i64) -> Turn
+    ensures { result ≡ turn_of_angle angle }
 {
-    match mirror {
-        Mirror::Neither => Turn::R0,
-        Mirror::X => Turn::M0,
-        Mirror::Y => Turn::M180,
-        Mirror::Both => Turn::R180,
+    let degrees = angle.unsigned_abs();
+    if degrees % QUARTER != 0 {
+        return Turn::R0;
     }
-}
-
-/// An angle in 10^-9 of a degree, counterclockwise.
-#[derive(Clone, Copy)]
-struct Angle {
-    billionths: i64,
-}
-
-impl Angle {
-    /// Whether it is no multiple of 90 degrees.
-    #[tactic(auto, unfolding(crate::specs::Faults::is_no_quarter))]
-    fn is_no_quarter(self) -> bool
-        ensures { result ≡ is_no_quarter self.billionths }
-    {
-        self.billionths.unsigned_abs() % QUARTER != 0
+    let quarters = degrees / QUARTER % 4;
+    if quarters == 0 {
+        return Turn::R0;
     }
-
-    /// The turn by a multiple of 90 degrees; R0 for another angle.
-    #[tactic(auto, unfolding(crate::specs::State::turn_of_angle))]
-    fn turn(self) -> Turn
-        ensures { result ≡ turn_of_angle self.billionths }
-    {
-        let degrees = self.billionths.unsigned_abs();
-        if degrees % QUARTER != 0 {
-            return Turn::R0;
-        }
-        let quarters = degrees / QUARTER % 4;
-        if quarters == 0 {
-            return Turn::R0;
-        }
-        if quarters == 2 {
-            return Turn::R180;
-        }
-        if (quarters == 1) == (self.billionths > 0) {
-            return Turn::R90;
-        }
-        Turn::R270
+    if quarters == 2 {
+        return Turn::R180;
     }
+    if (quarters == 1) == (angle > 0) {
+        return Turn::R90;
+    }
+    Turn::R270
 }
 
 impl Running {
@@ -114,7 +88,7 @@ impl Running {
         if self.region.inside {
             return Err(Stop::Fault(Refusal::StrayBlock));
         }
-        self.modal.dark = is_dark(polarity);
+        self.modal.dark = matches!(polarity, Polarity::Dark);
         Ok(())
     }
 
@@ -125,7 +99,12 @@ impl Running {
         if self.region.inside {
             return Err(Stop::Fault(Refusal::StrayBlock));
         }
-        self.modal.mirror = turn_of_mirror(mirror);
+        self.modal.mirror = match mirror {
+            Mirror::Neither => Turn::R0,
+            Mirror::X => Turn::M0,
+            Mirror::Y => Turn::M180,
+            Mirror::Both => Turn::R180,
+        };
         Ok(())
     }
 
@@ -133,17 +112,16 @@ impl Running {
     pub fn set_rotation(&mut self, angle: Option<i64>) -> Result<(), Stop>
         ensures { Takes (command.SetRotation angle) self.old result self.new }
     {
-        let Some(billionths) = angle else {
+        let Some(angle) = angle else {
             return Err(Stop::Fault(Refusal::BadNumber));
         };
-        let angle = Angle { billionths };
-        if angle.is_no_quarter() {
+        if is_no_quarter(angle) {
             return Err(Stop::Fault(Refusal::RotationRefused));
         }
         if self.region.inside {
             return Err(Stop::Fault(Refusal::StrayBlock));
         }
-        self.modal.rotation = angle.turn();
+        self.modal.rotation = turn_of_angle(angle);
         Ok(())
     }
 
@@ -160,30 +138,6 @@ impl Running {
         if self.region.inside {
             return Err(Stop::Fault(Refusal::StrayBlock));
         }
-        Ok(())
-    }
-
-    /// G01, G02 and G03: how plots go.
-    pub fn set_mode(&mut self, mode: Mode) -> Result<(), Stop>
-        ensures { Takes (command.SetMode mode) self.old result self.new }
-    {
-        self.modal.mode = mode;
-        Ok(())
-    }
-
-    /// G74: no arcs are plotted.
-    pub fn single_quadrant(&mut self) -> Result<(), Stop>
-        ensures { Takes command.SingleQuadrant self.old result self.new }
-    {
-        self.modal.arcs = false;
-        Ok(())
-    }
-
-    /// G75: arcs may be plotted.
-    pub fn multi_quadrant(&mut self) -> Result<(), Stop>
-        ensures { Takes command.MultiQuadrant self.old result self.new }
-    {
-        self.modal.arcs = true;
         Ok(())
     }
 

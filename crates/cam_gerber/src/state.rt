@@ -1,16 +1,14 @@
 //! The graphics state.
 
-ghost use Rattle.std.specs.Prelude.{◌≡◌, ◌++◌, ◌≤◌, ◌<◌, ◌^◌, [], false, true, ◌+ℤ◌, pos, Some, None, unsigned_abs};
+ghost use Rattle.std.specs.Prelude.{◌≡◌, ◌≤◌, ◌<◌, ◌^◌, true, ◌+ℤ◌, Some, None, unsigned_abs};
 ghost use Rattle.std.specs.Prelude.{MatchOption, IfOk};
 ghost use Rattle.cam_objects.specs.Turning.{after};
-ghost use Rattle.cam_units.specs.Board.{IsOnBoard};
 ghost use Rattle.cam_gerber.specs.Faults.{has_any_coordinate, has_malformed, is_arc, is_malformed};
 ghost use Rattle.cam_objects.specs.Soundness.{is_on_board};
 ghost use Rattle.cam_gerber.specs.Faults.{is_same_point, is_written, lacks_code, leading_faults, path_faults};
-ghost use Rattle.cam_shapes.specs.declared.segments.Seg.TheVariants.{Line, Curve};
+ghost use Rattle.cam_shapes.specs.declared.segments.Seg.TheVariants.{Curve};
 ghost use Rattle.cam_gerber.specs.Making.{segment};
 ghost use Rattle.cam_gerber.specs.State.{Past, code_of, decimals_of};
-ghost use Rattle.cam_units.specs.Nearest.{unit_or_mm};
 ghost use Rattle.cam_gerber.specs.Machinery.Tracking.{IsJudged, IsOperated, StopsAtFirst, TracksModal, centre_by};
 ghost use Rattle.cam_gerber.specs.Machinery.Tracking.{mode_by, moved, moved_point, path_faults_by, stroke_along};
 ghost use Rattle.cam_refusals.specs.Checks.{first_holding};
@@ -84,24 +82,6 @@ pub fn code_of(operation: &Operation) -> OperationCode
 }
 
 impl Modal {
-    /// Nothing is set, and the current point is (0, 0).
-    pub fn new() -> Modal
-        ensures { TracksModal [] result }
-    {
-        Modal {
-            format: None,
-            unit: None,
-            dark: true,
-            mirror: Turn::R0,
-            rotation: Turn::R0,
-            aperture: None,
-            mode: Mode::Linear,
-            arcs: false,
-            code: None,
-            point: Point { x: 0, y: 0 },
-        }
-    }
-
     fn decimals(&self) -> u32
         ensures value { result ≡ decimals_of self.now.format }
         ensures short { result ≤ 6 }
@@ -157,10 +137,7 @@ impl Modal {
     fn lacks_code(&self, operation: &Operation) -> bool
         ensures { (past : Past) → TracksModal past self.now → result ≡ lacks_code past operation.now }
     {
-        if operation.code.is_some() {
-            return false;
-        }
-        self.code != Some(OperationCode::Plot)
+        operation.code.is_none() && self.code != Some(OperationCode::Plot)
     }
 
     /// What any operation may be refused for.
@@ -186,33 +163,13 @@ impl Modal {
         None
     }
 
-    fn mode_of(&self, operation: &Operation) -> Mode
-        ensures { result ≡ mode_by self.now operation.now }
-    {
-        operation.mode.unwrap_or(self.mode)
-    }
-
     /// Whether the operation goes along an arc.
     pub fn is_arc(&self, operation: &Operation) -> bool
         ensures { result ≡ is_arc (mode_by self.now operation.now) }
     {
-        match self.mode_of(operation) {
+        match operation.mode.unwrap_or(self.mode) {
             Mode::Linear => false,
             Mode::Clockwise | Mode::Counterclockwise => true,
-        }
-    }
-
-    /// The line to the point of the operation.
-    fn line(&self, operation: &Operation) -> Result<Seg, Refusal>
-        ensures ok { IfOk result (λ seg. seg ≡ Line (moved_point self.now operation.now)) }
-        ensures on_board { IfOk result (λ seg. is_on_board (moved_point self.now operation.now) ≡ true) }
-        ensures faults { StopsAtFirst result
-            (path_faults false self.now.arcs self.now.point
-            (moved_point self.now operation.now) (centre_by self.now operation.now)) }
-    {
-        match self.moved_point(operation) {
-            Some(to) => Ok(Seg::Line { to }),
-            None => Err(Refusal::OutOfBoard),
         }
     }
 
@@ -248,9 +205,11 @@ impl Modal {
         ensures on_board { IfOk result (λ seg. is_on_board (moved_point self.now operation.now) ≡ true) }
         ensures faults { StopsAtFirst result (path_faults_by self.now operation.now) }
     {
-        let mode = self.mode_of(operation);
-        match mode {
-            Mode::Linear => self.line(operation),
+        match operation.mode.unwrap_or(self.mode) {
+            Mode::Linear => match self.moved_point(operation) {
+                Some(to) => Ok(Seg::Line { to }),
+                None => Err(Refusal::OutOfBoard),
+            },
             Mode::Clockwise => self.arc(operation, false),
             Mode::Counterclockwise => self.arc(operation, true),
         }
@@ -291,7 +250,7 @@ impl Modal {
         requires { is_on_board to ≡ true }
         ensures { IsOperated self.old operation.now to self.new }
     {
-        self.mode = self.mode_of(operation);
+        self.mode = operation.mode.unwrap_or(self.mode);
         self.code = Some(code_of(operation));
         self.point = to;
     }

@@ -15,6 +15,8 @@ use Rattle.cam_units.specs.Board.{IsOnBoard}
 use Rattle.cam_shapes.specs.Contour.{end_of}
 use Rattle.cam_shapes.specs.declared.segments.Seg.{Seg}
 use Rattle.cam_shapes.specs.declared.segments.Seg.TheVariants.{Line, Curve}
+use Rattle.cam_apertures.specs.declared.aperture.Aperture.{Aperture as Shape}
+use Rattle.cam_apertures.specs.declared.aperture.Aperture.TheVariants.{Circle, Rect, Obround, Prims}
 use Rattle.cam_objects.specs.declared.attribute.Attribute.{Attribute}
 use Rattle.cam_objects.specs.declared.entry.Entry.{Entry}
 use Rattle.cam_objects.specs.declared.entry.Entry.TheVariants.{Aperture, Block}
@@ -31,9 +33,9 @@ use Rattle.cam_gerber.specs.State.{Past, format_in, point_in, unit_in}
 use Rattle.cam_writers.specs.declared.gerber_state.GerberText.{GerberText}
 use Rattle.cam_writers.specs.Phrases.{Phrase, line_of, mirror_of, operation_to, rotation_of, said, spelled, UseFormat}
 use Rattle.cam_writers.specs.Phrases.{UseMillimetres, Attach, UseArcs, UsePolarity, UseMirror, UseRotation}
-use Rattle.cam_writers.specs.Phrases.{UseAperture, UseMode, MoveTo, FlashAt, LineTo, ArcTo, Finish}
+use Rattle.cam_writers.specs.Phrases.{UseAperture, UseMode, MoveTo, FlashAt, LineTo, ArcTo, NameMacro, NameAperture, Finish}
 use Rattle.cam_writers.specs.GerberTexts.{Phrases, gerber_text, is_same_mode, is_same_polarity, is_same_turn}
-use Rattle.cam_writers.specs.GerberTexts.{is_selected, opening, phrases_before_end, said_by, text_of, units, with_aperture}
+use Rattle.cam_writers.specs.GerberTexts.{is_selected, opening, phrases_before_end, said_by, text_of, units, with_aperture, with_entry}
 use Rattle.cam_writers.specs.GerberTexts.{with_attribute_of, with_mirror, with_mode, with_polarity, with_rotation}
 use Rattle.cam_writers.specs.GerberTexts.{with_segment, with_segments}
 use Rattle.cam_writers.specs.Machinery.Tracking.{attribute_lines}
@@ -92,6 +94,21 @@ written phrase phrases w text h longer = record {
   text = longer ∙ ap (λ (front : List ℕ). front ++ line_of (spelled phrase)) h.text;
   values = values_after (said_by phrases) w text h.values phrase;
 }
+
+-- the same of the definition of an aperture, behind that of its macro
+pub defined : (phrases : Phrases) (w : GerberText) (text : Vec ℕ) (n : ℕ) (a : Shape) → TracksPhrases phrases w
+    → text.items ≡ w.text.items ++ text_of (with_entry [] (n, Aperture a))
+    → TracksPhrases (with_entry phrases (n, Aperture a)) (record w { text = text })
+defined phrases w text n (Prims prims) h longer =
+    let one = line_of (spelled (NameMacro n prims)) in
+    let two = line_of (spelled (NameAperture n (Prims prims))) in
+    record {
+      text = longer ∙ (sym (append_assoc w.text.items one two) ∙ ap (λ (front : List ℕ). (front ++ one) ++ two) h.text);
+      values = search h;
+    }
+defined phrases w text n (Circle diameter hole) h longer = written (NameAperture n _) phrases w text h longer
+defined phrases w text n (Rect width height hole) h longer = written (NameAperture n _) phrases w text h longer
+defined phrases w text n (Obround width height hole) h longer = written (NameAperture n _) phrases w text h longer
 
 -- ---- settings of another value
 

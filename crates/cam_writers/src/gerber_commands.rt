@@ -2,7 +2,7 @@
 
 ghost use Rattle.std.specs.Prelude.{◌≡◌, ◌++◌, ◌-ℤ◌, OnOk};
 ghost use Rattle.cam_units.specs.Board.{IsOnBoard};
-ghost use Rattle.cam_writers.specs.Phrases.{ArcTo, Attach, EnterBlock, EnterRepeat, FlashAt, LineTo, MoveTo, UseAperture};
+ghost use Rattle.cam_writers.specs.Phrases.{ArcTo, Attach, EnterBlock, EnterRepeat, UseAperture};
 ghost use Rattle.cam_writers.specs.Phrases.{UseMirror, UseMode, UsePolarity, UseRotation, coordinates, extended, line_of};
 ghost use Rattle.cam_writers.specs.Phrases.{offsets, spelled, word};
 ghost use Rattle.cam_writers.specs.Machinery.Tracking.{attribute_lines, steps_text};
@@ -12,17 +12,6 @@ use cam_commands::Mode;
 use cam_objects::Attribute;
 use cam_units::{Nm, Point, Turn};
 use std::alloc::AllocError;
-
-/// How many times a repeat paints its objects, and how far apart.
-#[derive(Clone, Copy)]
-pub struct Grid {
-    pub columns: u32,
-    pub rows: u32,
-    /// The step of the columns, in nm.
-    pub i: Nm,
-    /// The step of the rows, in nm.
-    pub j: Nm,
-}
 
 /// Writes a word command.
 pub fn push_word(text: &mut Vec<u8>, command: &[u8]) -> Result<(), AllocError>
@@ -127,31 +116,14 @@ fn push_coordinates(text: &mut Vec<u8>, at: Point) -> Result<(), AllocError>
     push_whole(text, Nm(at.y))
 }
 
-/// Writes the command that goes to a point.
-#[tactic(auto, unfolding(crate::specs::Phrases::spelled))]
-pub fn push_move(text: &mut Vec<u8>, to: Point) -> Result<(), AllocError>
-    ensures { OnOk result (text.new.items ≡ text.old.items ++ line_of (spelled (MoveTo to))) }
-{
-    push_coordinates(text, to)?;
-    text.extend_from_slice(b"D02*\n")
-}
-
-/// Writes the command that flashes at a point.
-#[tactic(auto, unfolding(crate::specs::Phrases::spelled))]
-pub fn push_flash(text: &mut Vec<u8>, at: Point) -> Result<(), AllocError>
-    ensures { OnOk result (text.new.items ≡ text.old.items ++ line_of (spelled (FlashAt at))) }
+/// Writes an operation at a point, by its D code.
+pub fn push_operation(text: &mut Vec<u8>, at: Point, code: &[u8]) -> Result<(), AllocError>
+    ensures { OnOk result
+        (text.new.items ≡ text.old.items ++ line_of (word (coordinates at ++ code.now))) }
 {
     push_coordinates(text, at)?;
-    text.extend_from_slice(b"D03*\n")
-}
-
-/// Writes the command that plots a line to a point.
-#[tactic(auto, unfolding(crate::specs::Phrases::spelled))]
-pub fn push_line(text: &mut Vec<u8>, to: Point) -> Result<(), AllocError>
-    ensures { OnOk result (text.new.items ≡ text.old.items ++ line_of (spelled (LineTo to))) }
-{
-    push_coordinates(text, to)?;
-    text.extend_from_slice(b"D01*\n")
+    text.extend_from_slice(code)?;
+    text.extend_from_slice(b"*\n")
 }
 
 /// How far one point lies from another, in each coordinate.
@@ -218,16 +190,22 @@ fn push_steps(text: &mut Vec<u8>, i: Nm, j: Nm) -> Result<(), AllocError>
     push_mm(text, j)
 }
 
-/// Writes the command that opens a repeat.
+/// Writes the command that opens a repeat, of so many columns and rows, so far apart.
 #[tactic(auto, unfolding(crate::specs::Phrases::spelled))]
-pub fn push_open_repeat(text: &mut Vec<u8>, grid: Grid) -> Result<(), AllocError>
-    ensures { OnOk result (text.new.items
-        ≡ text.old.items ++ line_of (spelled (EnterRepeat grid.columns grid.rows grid.i.0 grid.j.0))) }
+pub fn push_open_repeat(
+    text: &mut Vec<u8>,
+    columns: u32,
+    rows: u32,
+    i: Nm,
+    j: Nm,
+) -> Result<(), AllocError>
+    ensures { OnOk result
+        (text.new.items ≡ text.old.items ++ line_of (spelled (EnterRepeat columns rows i.0 j.0))) }
 {
     text.extend_from_slice(b"%SRX")?;
-    push_decimal(text, u64::from(grid.columns))?;
+    push_decimal(text, u64::from(columns))?;
     text.extend_from_slice(b"Y")?;
-    push_decimal(text, u64::from(grid.rows))?;
-    push_steps(text, grid.i, grid.j)?;
+    push_decimal(text, u64::from(rows))?;
+    push_steps(text, i, j)?;
     text.extend_from_slice(b"*%\n")
 }

@@ -4,11 +4,11 @@ ghost use Rattle.std.specs.Prelude.{◌≡◌, ◌++◌, [], All, IfOk, OnOk, fo
 ghost use Rattle.cam_objects.specs.Soundness.{IsSound, objects_of};
 ghost use Rattle.cam_objects.specs.Contents.{content_of};
 ghost use Rattle.cam_gerber.specs.Computing.{reading_of};
-ghost use Rattle.cam_writers.specs.GerberTexts.{Phrases, gerber_text, text_of, with_entry, with_item, with_macro};
+ghost use Rattle.cam_writers.specs.GerberTexts.{Phrases, gerber_text, text_of, with_entry, with_item};
 ghost use Rattle.cam_writers.specs.Machinery.Tracking.{ArePoints, AreEntryPoints, TracksPhrases};
 
 use crate::gerber_apertures::push_definition;
-use crate::gerber_commands::{Grid, push_extended, push_open_block, push_open_repeat, push_word};
+use crate::gerber_commands::{push_extended, push_open_block, push_open_repeat, push_word};
 use crate::gerber_macros::push_macro;
 use crate::gerber_state::GerberText;
 use cam_apertures::Aperture;
@@ -30,37 +30,6 @@ pub fn push_aperture(text: &mut Vec<u8>, number: u32, aperture: &Aperture) -> Re
 }
 
 impl GerberText {
-    /// Writes the macro that an aperture is made of, where it is made of one.
-    fn write_macro(&mut self, number: u32, aperture: &Aperture) -> Result<(), AllocError>
-        ensures { (phrases : Phrases) → TracksPhrases phrases self.old
-            → OnOk result (TracksPhrases (with_macro number aperture.now phrases) self.new) }
-    {
-        match aperture {
-            Aperture::Prims(primitives) => push_macro(&mut self.text, number, primitives),
-            _ => Ok(()),
-        }
-    }
-
-    /// Writes the definition of an aperture, behind the macro that it is made of.
-    fn write_aperture(&mut self, number: u32, aperture: &Aperture) -> Result<(), AllocError>
-        ensures { (phrases : Phrases) → TracksPhrases phrases self.old
-            → OnOk result (TracksPhrases (with_entry phrases (number, Entry.Aperture aperture.now)) self.new) }
-    {
-        self.write_macro(number, aperture)?;
-        push_definition(&mut self.text, number, aperture)
-    }
-
-    /// Writes a block.
-    fn write_block(&mut self, number: u32, objects: &[Object]) -> Result<(), AllocError>
-        requires { All ArePoints objects.now }
-        ensures { (phrases : Phrases) → TracksPhrases phrases self.old
-            → OnOk result (TracksPhrases (with_entry phrases (number, Entry.Block objects.now)) self.new) }
-    {
-        push_open_block(&mut self.text, number)?;
-        self.write_objects(objects)?;
-        push_extended(&mut self.text, b"AB")
-    }
-
     /// Writes an entry of the dictionary.
     fn write_entry(&mut self, number: u32, entry: &Entry) -> Result<(), AllocError>
         requires { AreEntryPoints entry.now }
@@ -68,8 +37,12 @@ impl GerberText {
             → OnOk result (TracksPhrases (with_entry phrases (number, entry.now)) self.new) }
     {
         match entry {
-            Entry::Aperture(aperture) => self.write_aperture(number, aperture),
-            Entry::Block(objects) => self.write_block(number, objects.as_slice()),
+            Entry::Aperture(aperture) => push_aperture(&mut self.text, number, aperture),
+            Entry::Block(objects) => {
+                push_open_block(&mut self.text, number)?;
+                self.write_objects(objects.as_slice())?;
+                push_extended(&mut self.text, b"AB")
+            }
         }
     }
 
@@ -87,13 +60,20 @@ impl GerberText {
         Ok(())
     }
 
-    /// Writes a repeat.
-    fn write_repeat(&mut self, grid: Grid, objects: &[Object]) -> Result<(), AllocError>
+    /// Writes a repeat of so many columns and rows, so far apart.
+    fn write_repeat(
+        &mut self,
+        columns: u32,
+        rows: u32,
+        i: Nm,
+        j: Nm,
+        objects: &[Object],
+    ) -> Result<(), AllocError>
         requires { All ArePoints objects.now }
-        ensures { (phrases : Phrases) → TracksPhrases phrases self.old → OnOk result (TracksPhrases
-            (with_item phrases (Item.Repeat grid.columns grid.rows grid.i.0 grid.j.0 objects.now)) self.new) }
+        ensures { (phrases : Phrases) → TracksPhrases phrases self.old → OnOk result
+            (TracksPhrases (with_item phrases (Item.Repeat columns rows i.0 j.0 objects.now)) self.new) }
     {
-        push_open_repeat(&mut self.text, grid)?;
+        push_open_repeat(&mut self.text, columns, rows, i, j)?;
         self.write_objects(objects)?;
         push_extended(&mut self.text, b"SR")
     }
@@ -112,15 +92,7 @@ impl GerberText {
                 i,
                 j,
                 objects,
-            } => {
-                let grid = Grid {
-                    columns: *columns,
-                    rows: *rows,
-                    i: Nm(*i),
-                    j: Nm(*j),
-                };
-                self.write_repeat(grid, objects.as_slice())
-            }
+            } => self.write_repeat(*columns, *rows, Nm(*i), Nm(*j), objects.as_slice()),
         }
     }
 }

@@ -11,8 +11,8 @@ ghost use Rattle.cam_writers.specs.GerberTexts.{with_turn};
 ghost use Rattle.cam_writers.specs.Machinery.Tracking.{TracksPhrases};
 
 use crate::gerber_commands::{
-    push_arc, push_attributes, push_extended, push_flash, push_line, push_mirror, push_mode,
-    push_move, push_polarity, push_rotation, push_selection, push_word,
+    push_arc, push_attributes, push_extended, push_mirror, push_mode, push_operation,
+    push_polarity, push_rotation, push_selection, push_word,
 };
 use cam_commands::Mode;
 use cam_objects::Attribute;
@@ -175,7 +175,7 @@ impl GerberText {
         ensures { (phrases : Phrases) → TracksPhrases phrases self.old
             → OnOk result (TracksPhrases (MoveTo to ∷ phrases) self.new) }
     {
-        push_move(&mut self.text, to)?;
+        push_operation(&mut self.text, to, b"D02")?;
         self.point = to;
         Ok(())
     }
@@ -196,7 +196,7 @@ impl GerberText {
         ensures { (phrases : Phrases) → TracksPhrases phrases self.old
             → OnOk result (TracksPhrases (FlashAt at ∷ phrases) self.new) }
     {
-        push_flash(&mut self.text, at)?;
+        push_operation(&mut self.text, at, b"D03")?;
         self.point = at;
         Ok(())
     }
@@ -206,7 +206,7 @@ impl GerberText {
         ensures { (phrases : Phrases) → TracksPhrases phrases self.old
             → OnOk result (TracksPhrases (LineTo to ∷ phrases) self.new) }
     {
-        push_line(&mut self.text, to)?;
+        push_operation(&mut self.text, to, b"D01")?;
         self.point = to;
         Ok(())
     }

@@ -1,13 +1,12 @@
 //! Lines of the body.
 
-ghost use Rattle.std.specs.Prelude.{◌≡◌, ◌+◌, ◌≤◌, ◌∷◌, ◌||◌, false, IfNone};
+ghost use Rattle.std.specs.Prelude.{◌≡◌, ◌+◌, ◌≤◌, ◌||◌, false, IfNone};
 ghost use Rattle.cam_xnc.specs.declared.statement.Statement.TheVariants as statement;
-ghost use Rattle.cam_objects.specs.DrillSoundness.{drill_count_from};
 ghost use Rattle.cam_xnc.specs.DrillState.{DrillPast, drill_mode_in};
 ghost use Rattle.cam_refusals.specs.Checks.{first_holding};
 ghost use Rattle.cam_refusals.specs.Limits.{leaf_limit};
-ghost use Rattle.cam_xnc.specs.Faults.{body_checks, cut_checks, drilled_checks, is_drilling, is_lowered};
-ghost use Rattle.cam_xnc.specs.Faults.{is_malformed_coordinate, is_pointless, is_raised, is_too_much, slot_checks};
+ghost use Rattle.cam_xnc.specs.Faults.{body_checks, cut_checks, drilled_checks, is_lowered};
+ghost use Rattle.cam_xnc.specs.Faults.{is_malformed_coordinate, is_pointless, is_too_much};
 ghost use Rattle.cam_objects.specs.Soundness.{is_on_board};
 ghost use Rattle.cam_xnc.specs.Machinery.Tracking.{Obeys, Tracks, moved, moved_point};
 
@@ -15,34 +14,10 @@ use crate::modes::Mode;
 use crate::state::DrillState;
 use crate::statement::{Coordinate, Statement};
 use cam_objects::{DrillItem, Points};
-use cam_refusals::limits::COUNT_LIMIT;
+use cam_refusals::limits::{COUNT_LIMIT, LEAF_LIMIT};
 use cam_refusals::{Refusal, Stop};
 use cam_units::{Nm, Point, Unit, fits_board, fix9_nm};
 use std::mem;
-
-fn is_malformed_coordinate(coordinate: Coordinate) -> bool
-    ensures { result ≡ is_malformed_coordinate coordinate }
-{
-    matches!(coordinate, Coordinate::Malformed)
-}
-
-fn is_pointless(coordinate: Coordinate) -> bool
-    ensures { result ≡ is_pointless coordinate }
-{
-    matches!(coordinate, Coordinate::Pointless)
-}
-
-fn is_drilling(mode: Mode) -> bool
-    ensures { result ≡ is_drilling mode }
-{
-    matches!(mode, Mode::Drilling)
-}
-
-fn is_raised(mode: Mode) -> bool
-    ensures { result ≡ is_raised mode }
-{
-    matches!(mode, Mode::Raised)
-}
 
 fn is_lowered(mode: Mode) -> bool
     ensures { result ≡ is_lowered mode }
@@ -53,13 +28,13 @@ fn is_lowered(mode: Mode) -> bool
 fn are_malformed(x: Coordinate, y: Coordinate) -> bool
     ensures { result ≡ (is_malformed_coordinate x || is_malformed_coordinate y) }
 {
-    is_malformed_coordinate(x) || is_malformed_coordinate(y)
+    matches!(x, Coordinate::Malformed) || matches!(y, Coordinate::Malformed)
 }
 
 fn are_pointless(x: Coordinate, y: Coordinate) -> bool
     ensures { result ≡ (is_pointless x || is_pointless y) }
 {
-    is_pointless(x) || is_pointless(y)
+    matches!(x, Coordinate::Pointless) || matches!(y, Coordinate::Pointless)
 }
 
 /// The coordinate that a line leaves, in nm; before the unit lengths are as in mm.
@@ -89,27 +64,14 @@ fn is_on_board(point: Point) -> bool
     fits_board(point)
 }
 
-/// How many holes and slots a rout of these points is.
-fn rout_leaves(points: &[Point]) -> usize
-    ensures { result ≡ drill_count_from points.now }
-{
-    match points.len() {
-        0 => 0,
-        1 => 1,
-        len => len - 1,
-    }
-}
-
 impl DrillState {
     /// Whether the layer with one item more, of so many holes and slots, is past a limit.
     fn is_too_much(&self, more: usize) -> bool
         ensures past { (past : DrillPast) → Tracks past self.now → result ≡ is_too_much past more }
-        ensures room { result ≡ false → self.now.leaves.count + more ≤ leaf_limit }
+        ensures room { result ≡ false → self.now.leaves + more ≤ leaf_limit }
     {
-        if self.layer.items.len() >= COUNT_LIMIT {
-            return true;
-        }
-        !self.leaves.has_room(more)
+        self.layer.items.len() >= COUNT_LIMIT
+            || self.leaves.saturating_add(more) > LEAF_LIMIT as usize
     }
 
     fn select(&mut self, number: Option<u16>) -> Result<(), Stop>
@@ -128,47 +90,28 @@ impl DrillState {
         Ok(())
     }
 
-    fn drill_mode(&mut self) -> Result<(), Stop>
-        ensures { Obeys body_checks statement.DrillMode self.old result self.new }
-    {
-        if is_lowered(self.mode) {
-            return Err(Stop::Fault(Refusal::RoutState));
-        }
-        self.mode = Mode::Drilling;
-        Ok(())
-    }
-
     /// The fault of a hit or a slot, by what is wrong with its coordinates and its points.
     fn drilled_fault(&self, malformed: bool, pointless: bool, off: bool) -> Option<Refusal>
         ensures first { (past : DrillPast) → Tracks past self.now
             → result ≡ first_holding (drilled_checks past malformed pointless off 1 (drill_mode_in past)) }
-        ensures room { IfNone result (self.now.leaves.count + 1 ≤ leaf_limit) }
+        ensures room { IfNone result (self.now.leaves + 1 ≤ leaf_limit) }
     {
+        let drilling = matches!(self.mode, Mode::Drilling);
         if malformed {
-            return Some(Refusal::BadNumber);
+            Some(Refusal::BadNumber)
+        } else if off {
+            Some(Refusal::OutOfBoard)
+        } else if drilling && self.is_too_much(1) {
+            Some(Refusal::TooMuch)
+        } else if self.tool.is_none() {
+            Some(Refusal::NoToolSelected)
+        } else if pointless {
+            Some(Refusal::NoPoint)
+        } else if drilling {
+            None
+        } else {
+            Some(Refusal::RoutState)
         }
-        if off {
-            return Some(Refusal::OutOfBoard);
-        }
-        if !is_drilling(self.mode) {
-            if self.tool.is_none() {
-                return Some(Refusal::NoToolSelected);
-            }
-            if pointless {
-                return Some(Refusal::NoPoint);
-            }
-            return Some(Refusal::RoutState);
-        }
-        if self.is_too_much(1) {
-            return Some(Refusal::TooMuch);
-        }
-        if self.tool.is_none() {
-            return Some(Refusal::NoToolSelected);
-        }
-        if pointless {
-            return Some(Refusal::NoPoint);
-        }
-        None
     }
 
     fn hit_at(&mut self, x: Coordinate, y: Coordinate) -> Result<(), Stop>
@@ -182,28 +125,9 @@ impl DrillState {
         }
         let tool = self.tool.unwrap_or(0);
         self.layer.items.push(DrillItem::Hit { tool, at })?;
-        self.leaves.add(1);
+        self.leaves += 1;
         self.at = at;
         Ok(())
-    }
-
-    /// The fault of a slot between two points.
-    fn slot_fault(
-        &self,
-        start_x: Coordinate,
-        start_y: Coordinate,
-        end_x: Coordinate,
-        end_y: Coordinate,
-        ends: (Point, Point),
-    ) -> Option<Refusal>
-        ensures first { (past : DrillPast) → Tracks past self.now
-            → result ≡ first_holding (slot_checks past start_x start_y end_x end_y ends.0 ends.1 (drill_mode_in past)) }
-        ensures room { IfNone result (self.now.leaves.count + 1 ≤ leaf_limit) }
-    {
-        let malformed = are_malformed(start_x, start_y) || are_malformed(end_x, end_y);
-        let pointless = are_pointless(start_x, start_y) || are_pointless(end_x, end_y);
-        let off = !(is_on_board(ends.0) && is_on_board(ends.1));
-        self.drilled_fault(malformed, pointless, off)
     }
 
     /// A slot. Its end keeps from its start what it leaves out.
@@ -218,7 +142,10 @@ impl DrillState {
     {
         let start = moved_point(self.unit, start_x, start_y, self.at);
         let end = moved_point(self.unit, end_x, end_y, start);
-        if let Some(code) = self.slot_fault(start_x, start_y, end_x, end_y, (start, end)) {
+        let malformed = are_malformed(start_x, start_y) | are_malformed(end_x, end_y);
+        let pointless = are_pointless(start_x, start_y) | are_pointless(end_x, end_y);
+        let off = !(is_on_board(start) & is_on_board(end));
+        if let Some(code) = self.drilled_fault(malformed, pointless, off) {
             return Err(Stop::Fault(code));
         }
         let tool = self.tool.unwrap_or(0);
@@ -227,7 +154,7 @@ impl DrillState {
         points.push(end)?;
         let points = Points::from_vec(points);
         self.layer.items.push(DrillItem::Rout { tool, points })?;
-        self.leaves.add(1);
+        self.leaves += 1;
         self.at = end;
         Ok(())
     }
@@ -259,7 +186,7 @@ impl DrillState {
         if self.tool.is_none() {
             return Err(Stop::Fault(Refusal::NoToolSelected));
         }
-        if !is_raised(self.mode) {
+        if !matches!(self.mode, Mode::Raised) {
             return Err(Stop::Fault(Refusal::RoutState));
         }
         let mut points = Vec::new(self.alloc);
@@ -274,25 +201,20 @@ impl DrillState {
         ensures { (past : DrillPast) → Tracks past self.now
             → result ≡ first_holding (cut_checks past x y to (drill_mode_in past)) }
     {
+        let lowered = is_lowered(self.mode);
         if are_malformed(x, y) {
-            return Some(Refusal::BadNumber);
+            Some(Refusal::BadNumber)
+        } else if !is_on_board(to) {
+            Some(Refusal::OutOfBoard)
+        } else if lowered && self.points.len() >= COUNT_LIMIT {
+            Some(Refusal::TooMuch)
+        } else if are_pointless(x, y) {
+            Some(Refusal::NoPoint)
+        } else if lowered {
+            None
+        } else {
+            Some(Refusal::RoutState)
         }
-        if !is_on_board(to) {
-            return Some(Refusal::OutOfBoard);
-        }
-        if !is_lowered(self.mode) {
-            if are_pointless(x, y) {
-                return Some(Refusal::NoPoint);
-            }
-            return Some(Refusal::RoutState);
-        }
-        if self.points.len() >= COUNT_LIMIT {
-            return Some(Refusal::TooMuch);
-        }
-        if are_pointless(x, y) {
-            return Some(Refusal::NoPoint);
-        }
-        None
     }
 
     fn cut_to(&mut self, x: Coordinate, y: Coordinate) -> Result<(), Stop>
@@ -313,24 +235,19 @@ impl DrillState {
         if !is_lowered(self.mode) {
             return Err(Stop::Fault(Refusal::RoutState));
         }
-        let more = rout_leaves(&self.points);
+        let more = match self.points.len() {
+            0 => 0,
+            1 => 1,
+            len => len - 1,
+        };
         if self.is_too_much(more) {
             return Err(Stop::Fault(Refusal::TooMuch));
         }
         let tool = self.tool.unwrap_or(0);
         let points = Points::from_vec(mem::replace(&mut self.points, Vec::new(self.alloc)));
         self.layer.items.push(DrillItem::Rout { tool, points })?;
-        self.leaves.add(more);
+        self.leaves += more;
         self.mode = Mode::Raised;
-        Ok(())
-    }
-
-    fn end(&mut self) -> Result<(), Stop>
-        ensures { Obeys body_checks statement.End self.old result self.new }
-    {
-        if is_lowered(self.mode) {
-            return Err(Stop::Fault(Refusal::RoutState));
-        }
         Ok(())
     }
 
@@ -341,7 +258,13 @@ impl DrillState {
         match statement {
             Statement::Neutral => Ok(()),
             Statement::Select(number) => self.select(number),
-            Statement::DrillMode => self.drill_mode(),
+            Statement::DrillMode => {
+                if is_lowered(self.mode) {
+                    return Err(Stop::Fault(Refusal::RoutState));
+                }
+                self.mode = Mode::Drilling;
+                Ok(())
+            }
             Statement::HitAt { x, y } => self.hit_at(x, y),
             Statement::Slot {
                 start_x,
@@ -354,7 +277,12 @@ impl DrillState {
             Statement::CutTo { x, y } => self.cut_to(x, y),
             Statement::Raise => self.raise(),
             Statement::CutArc => Err(Stop::Fault(Refusal::RoutArc)),
-            Statement::End => self.end(),
+            Statement::End => {
+                if is_lowered(self.mode) {
+                    return Err(Stop::Fault(Refusal::RoutState));
+                }
+                Ok(())
+            }
             _ => Err(Stop::Fault(Refusal::UnknownLine)),
         }
     }

@@ -2,16 +2,11 @@
 
 ghost use Rattle.std.specs.Prelude.{◌≡◌, ◌≤◌, ◌<◌, length, IfOk};
 ghost use Rattle.std.specs.List.{position_or_len, prefix_len, list_any};
-ghost use Rattle.cam_xnc.specs.Bytes.{is_line_end, is_semicolon, is_line_blank, is_bad, is_blank, code_of, line_packed};
+ghost use Rattle.cam_xnc.specs.Bytes.{is_line_end, is_line_blank, is_bad, is_blank, code_of, line_packed};
 ghost use Rattle.cam_xnc.specs.Machinery.Cutters.{end_len};
 
+use cam_words::len_before;
 use std::alloc::{AllocError, Global};
-
-fn is_line_end(byte: u8) -> bool
-    ensures { result ≡ is_line_end byte }
-{
-    matches!(byte, b'\n' | b'\r')
-}
 
 /// Whether the byte is a space or a tab.
 fn is_line_blank(byte: u8) -> bool
@@ -20,18 +15,14 @@ fn is_line_blank(byte: u8) -> bool
     matches!(byte, b' ' | b'\t')
 }
 
-fn is_bad(byte: u8) -> bool
-    ensures { result ≡ is_bad byte }
-{
-    !is_line_blank(byte) && !(byte >= 33 && byte <= 126)
-}
-
 /// How many bytes stand before the first line end, or the text's length where there is none.
 pub fn line_len(text: &[u8]) -> usize
     ensures value { result ≡ position_or_len is_line_end text.now }
     ensures within { result ≤ length text.now }
 {
-    text.iter().take_while(|byte| !is_line_end(**byte)).count()
+    text.iter()
+        .take_while(|byte| !matches!(**byte, b'\n' | b'\r'))
+        .count()
 }
 
 /// How many bytes the line end has that stands at the front of a text.
@@ -46,20 +37,12 @@ pub fn end_len(text: &[u8]) -> usize
     }
 }
 
-/// How many bytes stand before the comment of a line, or its length where it has none.
-fn code_len(text: &[u8]) -> usize
-    ensures value { result ≡ position_or_len is_semicolon text.now }
-    ensures within { result ≤ length text.now }
-{
-    text.iter().take_while(|byte| **byte != b';').count()
-}
-
 /// The line without its comment.
 pub fn code_of(text: &[u8]) -> &[u8]
     ensures value { result.now ≡ code_of text.now }
     ensures within { length result.now ≤ length text.now }
 {
-    &text[..code_len(text)]
+    &text[..len_before(b';', text)]
 }
 
 /// Whether there is nothing but skipped bytes.
@@ -81,7 +64,7 @@ pub fn leading_skipped(text: &[u8]) -> usize
 pub fn holds_bad_byte(text: &[u8]) -> bool
     ensures { result ≡ list_any is_bad text.now }
 {
-    text.iter().any(|byte| is_bad(*byte))
+    text.iter().any(|byte| !is_line_blank(*byte) && !(*byte >= 33 && *byte <= 126))
 }
 
 /// Whether the text holds a skipped byte.

@@ -1,6 +1,6 @@
 //! Lines of the header.
 
-ghost use Rattle.std.specs.Prelude.{◌≡◌, ◌∷◌};
+ghost use Rattle.std.specs.Prelude.{◌≡◌};
 ghost use Rattle.cam_xnc.specs.declared.statement.Statement.TheVariants as statement;
 ghost use Rattle.cam_xnc.specs.Faults.{header_checks, is_diameter};
 ghost use Rattle.cam_xnc.specs.Machinery.Tracking.{Obeys};
@@ -10,15 +10,7 @@ use crate::state::DrillState;
 use crate::statement::Statement;
 use cam_refusals::limits::SIZE_LIMIT;
 use cam_refusals::{Refusal, Stop};
-use cam_units::{Nm, Unit, fix9_nm};
-
-/// Whether a tool may have the diameter: 1 nm to 200 mm.
-#[tactic(auto, unfolding(crate::specs::Faults::is_diameter))]
-fn is_diameter(diameter: Nm) -> bool
-    ensures { result ≡ is_diameter diameter.0 }
-{
-    diameter.0 >= 1 && diameter.0 <= SIZE_LIMIT as i64
-}
+use cam_units::{Unit, fix9_nm};
 
 impl DrillState {
     fn set_unit(&mut self, unit: Unit) -> Result<(), Stop>
@@ -33,7 +25,8 @@ impl DrillState {
         Ok(())
     }
 
-    #[tactic(auto, unfolding(crate::specs::DrillState::length_nm))]
+    /// Declares a tool of 1 nm to 200 mm.
+    #[tactic(auto, unfolding(crate::specs::DrillState::length_nm, crate::specs::Faults::is_diameter))]
     fn declare(&mut self, number: Option<u16>, diameter: Option<i64>) -> Result<(), Stop>
         ensures { Obeys header_checks (statement.Declare number diameter) self.old result self.new }
     {
@@ -47,23 +40,13 @@ impl DrillState {
             return Err(Stop::Fault(Refusal::NoUnit));
         };
         let diameter = fix9_nm(diameter, unit);
-        if !is_diameter(diameter) {
+        if diameter.0 < 1 || diameter.0 > SIZE_LIMIT as i64 {
             return Err(Stop::Fault(Refusal::SizeRefused));
         }
         if self.layer.tools.get(number).is_some() {
             return Err(Stop::Fault(Refusal::ToolAgain));
         }
         self.layer.tools.push(number, diameter)?;
-        Ok(())
-    }
-
-    fn end_header(&mut self) -> Result<(), Stop>
-        ensures { Obeys header_checks statement.EndHeader self.old result self.new }
-    {
-        if self.unit.is_none() {
-            return Err(Stop::Fault(Refusal::NoUnit));
-        }
-        self.part = Part::Body;
         Ok(())
     }
 
@@ -75,7 +58,13 @@ impl DrillState {
             Statement::SetUnit(unit) => self.set_unit(unit),
             Statement::Declare { number, diameter } => self.declare(number, diameter),
             Statement::Neutral => Ok(()),
-            Statement::EndHeader => self.end_header(),
+            Statement::EndHeader => {
+                if self.unit.is_none() {
+                    return Err(Stop::Fault(Refusal::NoUnit));
+                }
+                self.part = Part::Body;
+                Ok(())
+            }
             _ => Err(Stop::Fault(Refusal::UnknownLine)),
         }
     }

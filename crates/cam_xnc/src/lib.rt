@@ -39,7 +39,6 @@ mod body;
 mod bytes;
 mod header;
 mod laws;
-mod leaves;
 mod line;
 mod lines;
 mod modes;

@@ -1,14 +1,13 @@
 //! The state of a file, as one pass over its lines keeps it.
 
-ghost use Rattle.std.specs.Prelude.{◌≡◌, ◌∷◌, [], Some, None};
+ghost use Rattle.std.specs.Prelude.{◌≡◌, [], Some};
 ghost use Rattle.cam_xnc.specs.DrillState.{DrillPast};
 ghost use Rattle.cam_refusals.specs.Checks.{first_holding};
-ghost use Rattle.cam_xnc.specs.Faults.{end_checks, checks, start_of_file_checks};
-ghost use Rattle.cam_xnc.specs.Machinery.Tracking.{Obeys, Tracks, moved, moved_point};
+ghost use Rattle.cam_xnc.specs.Faults.{end_checks, checks};
+ghost use Rattle.cam_xnc.specs.Machinery.Tracking.{Obeys, Tracks};
 
-use crate::leaves::Leaves;
 use crate::modes::{Mode, Part};
-use crate::statement::{Coordinate, Statement};
+use crate::statement::Statement;
 use cam_objects::DrillLayer;
 use cam_refusals::{Refusal, Stop};
 use cam_units::{Point, Unit};
@@ -28,7 +27,8 @@ pub struct DrillState {
     /// The points of the open rout.
     pub points: Vec<Point>,
     pub layer: DrillLayer,
-    pub leaves: Leaves,
+    /// How many holes and slots it has.
+    pub leaves: usize,
 }
 
 impl DrillState {
@@ -45,7 +45,7 @@ impl DrillState {
             at: Point { x: 0, y: 0 },
             points: Vec::new(alloc),
             layer: DrillLayer::new(alloc),
-            leaves: Leaves::new(),
+            leaves: 0,
         }
     }
 
@@ -56,26 +56,19 @@ impl DrillState {
         self.layer
     }
 
-    /// The first line: M48.
-    fn obey_first(&mut self, statement: Statement) -> Result<(), Stop>
-        ensures { Obeys (λ past. start_of_file_checks) statement self.old result self.new }
-    {
-        match statement {
-            Statement::BeginHeader => {
-                self.part = Part::Header;
-                Ok(())
-            }
-            _ => Err(Stop::Fault(Refusal::NoHeader)),
-        }
-    }
-
     /// Takes what one more line says; it tells the line's fault of the lowest number, or that
     /// memory was refused.
     pub fn obey(&mut self, statement: Statement) -> Result<(), Stop>
         ensures { Obeys checks statement self.old result self.new }
     {
         match self.part {
-            Part::Start => self.obey_first(statement),
+            Part::Start => match statement {
+                Statement::BeginHeader => {
+                    self.part = Part::Header;
+                    Ok(())
+                }
+                _ => Err(Stop::Fault(Refusal::NoHeader)),
+            },
             Part::Header => self.obey_header(statement),
             Part::Body => self.obey_body(statement),
         }

@@ -1,18 +1,17 @@
 //! What the lines of a file say.
 
-ghost use Rattle.std.specs.Prelude.{◌≡◌, ◌≤◌, length, IfOk};
-ghost use Rattle.std.specs.List.{position_or_len};
+ghost use Rattle.std.specs.Prelude.{◌≡◌, length, IfOk};
 ghost use Rattle.std.specs.Option.{option_copied};
 ghost use Rattle.cam_xnc.specs.Bytes.{line_packed};
-ghost use Rattle.cam_xnc.specs.Syntax.{line_field, coordinate, coordinates_of, tool_by, tool_statement, header_words};
-ghost use Rattle.cam_xnc.specs.Syntax.{body_words, word_in, begins_with_code, rout_statement, other_statement};
-ghost use Rattle.cam_xnc.specs.Syntax.{is_code_letter, slot_statement, statement_of};
+ghost use Rattle.cam_xnc.specs.Syntax.{line_field, coordinate, coordinates_of, tool_by, tool_statement};
+ghost use Rattle.cam_xnc.specs.Syntax.{begins_with_code, rout_statement, other_statement, slot_statement, statement_of};
 
 use crate::bytes::{holds_skipped, pack};
 use crate::numbers::{declared_tool, is_pointed, is_whole, selected_tool};
 use crate::statement::{Coordinate, Statement};
 use cam_numbers::{Blanks, decimal, run_len};
 use cam_units::Unit;
+use cam_words::len_before;
 use std::alloc::{AllocError, Global};
 
 /// A letter's run of digits, signs and points, where the letter stands at the front of a
@@ -71,21 +70,10 @@ fn coordinates(text: &[u8]) -> Option<(Coordinate, Coordinate)>
 {
     let x = read_field(b'X', text);
     let y = read_field(b'Y', x.behind);
-    if !y.behind.is_empty() {
-        return None;
-    }
-    if x.run.is_none() && y.run.is_none() {
+    if !y.behind.is_empty() || (x.run.is_none() && y.run.is_none()) {
         return None;
     }
     Some((coordinate(x.run), coordinate(y.run)))
-}
-
-/// How many bytes stand before the first letter G, or the text's length where there is none.
-fn code_place(text: &[u8]) -> usize
-    ensures value { result ≡ position_or_len is_code_letter text.now }
-    ensures within { result ≤ length text.now }
-{
-    text.iter().take_while(|byte| **byte != b'G').count()
 }
 
 /// `X..Y..G85X..Y..`, of each half X or Y perhaps missing.
@@ -93,7 +81,7 @@ fn code_place(text: &[u8]) -> usize
 fn slot_statement(text: &[u8]) -> Statement
     ensures { result ≡ slot_statement text.now }
 {
-    let (start, behind) = text.split_at(code_place(text));
+    let (start, behind) = text.split_at(len_before(b'G', text));
     if !behind.starts_with(b"G85") {
         return Statement::Unknown;
     }
@@ -127,53 +115,6 @@ fn tool_statement(text: &[u8]) -> Statement
     }
 }
 
-/// A statement of the header that is one word.
-fn header_word(text: &[u8]) -> Option<Statement>
-    ensures { result ≡ word_in header_words text.now }
-{
-    if text == b"M48".as_slice() {
-        return Some(Statement::BeginHeader);
-    }
-    if text == b"METRIC".as_slice()
-        || text == b"METRIC,LZ".as_slice()
-        || text == b"METRIC,TZ".as_slice()
-    {
-        return Some(Statement::SetUnit(Unit::Mm));
-    }
-    if text == b"INCH".as_slice()
-        || text == b"INCH,LZ".as_slice()
-        || text == b"INCH,TZ".as_slice()
-    {
-        return Some(Statement::SetUnit(Unit::Inch));
-    }
-    if text == b"%".as_slice() {
-        return Some(Statement::EndHeader);
-    }
-    None
-}
-
-/// A statement of the body that is one word.
-fn body_word(text: &[u8]) -> Option<Statement>
-    ensures { result ≡ word_in body_words text.now }
-{
-    if text == b"FMAT,2".as_slice() || text == b"G90".as_slice() {
-        return Some(Statement::Neutral);
-    }
-    if text == b"G05".as_slice() {
-        return Some(Statement::DrillMode);
-    }
-    if text == b"M15".as_slice() {
-        return Some(Statement::Lower);
-    }
-    if text == b"M16".as_slice() {
-        return Some(Statement::Raise);
-    }
-    if text == b"M30".as_slice() {
-        return Some(Statement::End);
-    }
-    None
-}
-
 /// Whether the text begins with the code, and no further digit.
 fn begins_with_code(text: &[u8], code: &[u8]) -> bool
     requires { length code.now ≡ 3 }
@@ -205,10 +146,7 @@ fn rout_statement(text: &[u8]) -> Statement
             None => Statement::Unknown,
         };
     }
-    if begins_with_code(text, b"G02") {
-        return Statement::CutArc;
-    }
-    if begins_with_code(text, b"G03") {
+    if begins_with_code(text, b"G02") || begins_with_code(text, b"G03") {
         return Statement::CutArc;
     }
     Statement::Unknown
@@ -219,13 +157,33 @@ fn rout_statement(text: &[u8]) -> Statement
 fn other_statement(text: &[u8]) -> Statement
     ensures { result ≡ other_statement text.now }
 {
-    if let Some(statement) = body_word(text) {
-        return statement;
+    if text == b"FMAT,2".as_slice() || text == b"G90".as_slice() {
+        Statement::Neutral
+    } else if text == b"G05".as_slice() {
+        Statement::DrillMode
+    } else if text == b"M15".as_slice() {
+        Statement::Lower
+    } else if text == b"M16".as_slice() {
+        Statement::Raise
+    } else if text == b"M30".as_slice() {
+        Statement::End
+    } else if text == b"M48".as_slice() {
+        Statement::BeginHeader
+    } else if text == b"METRIC".as_slice()
+        || text == b"METRIC,LZ".as_slice()
+        || text == b"METRIC,TZ".as_slice()
+    {
+        Statement::SetUnit(Unit::Mm)
+    } else if text == b"INCH".as_slice()
+        || text == b"INCH,LZ".as_slice()
+        || text == b"INCH,TZ".as_slice()
+    {
+        Statement::SetUnit(Unit::Inch)
+    } else if text == b"%".as_slice() {
+        Statement::EndHeader
+    } else {
+        rout_statement(text)
     }
-    if let Some(statement) = header_word(text) {
-        return statement;
-    }
-    rout_statement(text)
 }
 
 /// What a packed line says.

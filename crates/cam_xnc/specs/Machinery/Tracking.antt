@@ -23,7 +23,7 @@ pub record Tracks (past : DrillPast) (s : DrillState) : Type 0 where
   pub points : s.points.items ≡ rout_points_in past
   pub tools : s.layer.tools ≡ tools_in past
   pub items : s.layer.items.items ≡ drill_items_in past
-  pub leaves : s.leaves.count ≡ drilled_leaves past
+  pub leaves : s.leaves ≡ drilled_leaves past
 
 -- no check holds and what then does, or the first that holds is told
 abbrev pub Answers : Result (Unit {0}) Stop → Checks Refusal → Type 0 → Type 0

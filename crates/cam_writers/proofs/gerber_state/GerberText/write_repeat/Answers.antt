@@ -9,7 +9,7 @@ pub returns : goal.returns
 unfolding spelled
 returns c =
     λ phrases h.
-    let enter : Phrase = EnterRepeat c.args.grid.columns c.args.grid.rows c.args.grid.i.0 c.args.grid.j.0 in
+    let enter : Phrase = EnterRepeat c.args.columns c.args.rows c.args.i.0 c.args.j.0 in
     let inside =
     c.in_ok-write_objects.ensures (enter ∷ phrases)
     (written enter phrases c.args.self.now c.push_open_repeat.new.text h c.in_ok-push_open_repeat.ensures) in

@@ -7,6 +7,23 @@ use Rattle.cam_xnc.specs.DrillState.{drill_items_in, drill_point_in, slot_of, sl
 use Rattle.cam_xnc.proofs.Slots.{slot_ends, slot_made, slot_refused}
 use Rattle.cam_xnc.proofs.state.DrillState.slot.Goals as goal
 
+pub returns-in-Some : goal.returns-in-Some
+returns-in-Some c past t =
+    let a = c.args in
+    let start = c.moved_point-start.result in
+    let end = c.moved_point-end.result in
+    let ends = slot_ends past a.self.now a.start_x a.start_y a.end_x a.end_y start end t c.moved_point-start.ensures
+    c.moved_point-end.ensures in
+    sym (rw (
+      c.are_malformed.ensures,
+      c.are_malformed-2.ensures,
+      c.are_pointless.ensures,
+      c.are_pointless-2.ensures,
+      c.is_on_board.ensures,
+      c.is_on_board-2.ensures,
+    ) at (c.in-Some.ensures.first past t)
+    ∙ slot_refused past a.start_x a.start_y a.end_x a.end_y start end ends.0 ends.1)
+
 pub returns : goal.returns
 returns c past t =
     let a = c.args in
@@ -21,7 +38,15 @@ returns c past t =
     ∙ rw c.in_ok-push.ensures.items (rw c.new-points.ensures.items refl) in
     let made = slot_made past c.unwrap_or-tool.result c.from_vec-points.result start end start_told end_told
     (c.unwrap_or-tool.ensures ∙ rw t.tool refl) points ends.0 ends.1 in (
-      sym (c.in_default.ensures.first past t ∙ slot_refused past a.start_x a.start_y a.end_x a.end_y start end ends.0 ends.1),
+      sym (rw (
+        c.are_malformed.ensures,
+        c.are_malformed-2.ensures,
+        c.are_pointless.ensures,
+        c.are_pointless-2.ensures,
+        c.is_on_board.ensures,
+        c.is_on_board-2.ensures,
+      ) at (c.in_default.ensures.first past t)
+          ∙ slot_refused past a.start_x a.start_y a.end_x a.end_y start end ends.0 ends.1),
       record {
         part = search (rules, t.part);
         unit = search (rules, t.unit);
@@ -31,7 +56,7 @@ returns c past t =
         points = search (rules, t.points);
         tools = search (rules, t.tools);
         items = c.in_ok-push-3.ensures.items ∙ rw t.items (ap (λ (i : DrillItem). drill_items_in past ++ i ∷ []) made);
-        leaves = c.add.ensures ∙ ap (λ count. count + 1) t.leaves
+        leaves = ap (λ count. count + 1) t.leaves
             ∙ sym (sum_by_push drill_count_of (drill_items_in past) (slot_of past start_told end_told));
       },
     )
