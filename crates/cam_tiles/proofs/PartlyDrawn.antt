@@ -42,7 +42,7 @@ module _ (draw : ℕ → List ℕ) where
       get_or-all_drawn_from (first + 1) tiles k (omega arith) ∙ ap (λ n. drawn (draw n) (get_or tiles k None)) there
 
   -- none of them
-  none_partly_drawn : (first : ℕ) (tiles : List Tile) → IsPartlyDrawn draw first tiles tiles
+  pub none_partly_drawn : (first : ℕ) (tiles : List Tile) → IsPartlyDrawn draw first tiles tiles
   none_partly_drawn first tiles = record { size = refl; each = λ k within. inl refl }
 
   -- all of them

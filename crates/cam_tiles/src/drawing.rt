@@ -23,6 +23,7 @@ use std::alloc::{AllocError, Global};
 
 /// Draws the dirty ones of the tiles of a window from a number on: row by row of them where there is an allocator, and
 /// tile by tile what is left then.
+#[tactic(auto, using(crate::proofs::TileCounts::few_tiles))]
 pub(crate) fn draw(
     alloc: Option<Global>,
     shown: &Shown<'_>,
@@ -36,12 +37,17 @@ pub(crate) fn draw(
     ensures { tiles.new
         ≡ all_drawn_from (λ k. tile_rows (is_black (leaves_of shown.now)) (grid_of window.now k)) first tiles.old }
 {
-    draw_quickly(alloc, shown, window, first, tiles);
-    draw_left(shown, window, first, tiles);
+    let _ = draw_quickly(alloc, shown, window, first, tiles);
+    for k in 0..tiles.len() {
+        if tiles[k].is_none() {
+            let rows = tile_of(shown, window.grid(first + k as u32));
+            tiles[k] = Some(rows);
+        }
+    }
 }
 
-/// Draws dirty ones of the tiles of a window from a number on, row by row of them: all where there is an allocator and
-/// memory, and the first tile begins a row.
+/// Draws dirty ones of the tiles of a window from a number on, row by row of them and by an index of the items that may be
+/// seen there: all where there is an allocator and memory, and the first tile begins a row.
 #[tactic(auto, using(crate::proofs::TileCounts::some_across))]
 fn draw_quickly(
     alloc: Option<Global>,
@@ -49,7 +55,7 @@ fn draw_quickly(
     window: &Window,
     first: u32,
     tiles: &mut [Tile],
-)
+) -> Result<(), AllocError>
     requires ready { IsReady shown.now }
     requires accepted { accepts window.now ≡ true }
     requires within { first + length tiles.old ≤ tiles_of window.now }
@@ -57,38 +63,35 @@ fn draw_quickly(
         tiles.old tiles.new }
 {
     let Some(alloc) = alloc else {
-        return;
+        return Ok(());
     };
+    let across = window.across();
     // a swath begins at the left end of a row of tiles
-    if first % window.across() != 0 {
-        return;
+    if first % across != 0 {
+        return Ok(());
     }
-    let _ = draw_seen(alloc, shown, window, first, tiles);
-}
-
-/// Draws the dirty ones of tiles from the left end of a row on, by an index of the items that may be seen there; where
-/// memory is refused, some of them.
-fn draw_seen(
-    alloc: Global,
-    shown: &Shown<'_>,
-    window: &Window,
-    first: u32,
-    tiles: &mut [Tile],
-) -> Result<(), AllocError>
-    requires ready { IsReady shown.now }
-    requires accepted { accepts window.now ≡ true }
-    requires left { first % across window.now ≡ 0 }
-    requires within { first + length tiles.old ≤ tiles_of window.now }
-    ensures { IsPartlyDrawn (λ k. tile_rows (is_black (leaves_of shown.now)) (grid_of window.now k)) first
-        tiles.old tiles.new }
-{
+    let across = across as usize;
     let within = box_of_dirty(window, first, tiles);
     let mut index = Index::of(alloc, shown, window, within)?;
     let mut swath = Swath::new(alloc);
-    draw_rows(&mut index, &mut swath, shown, window, first, tiles)
+    for row in 0..tiles.len().div_ceil(across) {
+        let start = row * across;
+        let end = (start + across).min(tiles.len());
+        let part = &mut tiles[start..end];
+        draw_row(
+            &mut index,
+            &mut swath,
+            shown,
+            window,
+            first + start as u32,
+            part,
+        )?;
+    }
+    Ok(())
 }
 
 /// The box of the centres of the dirty ones of the tiles of a window from a number on, in half nm.
+#[tactic(auto, using(crate::proofs::TileCounts::few_tiles))]
 fn box_of_dirty(window: &Window, first: u32, tiles: &[Tile]) -> Bounds
     requires accepted { accepts window.now ≡ true }
     requires within { first + length tiles.now ≤ tiles_of window.now }
@@ -102,34 +105,6 @@ fn box_of_dirty(window: &Window, first: u32, tiles: &[Tile]) -> Bounds
         }
     }
     all
-}
-
-/// Draws the dirty ones of tiles from the left end of a row on, row by row of them. Where memory is refused, some of
-/// them.
-fn draw_rows(
-    index: &mut Index,
-    swath: &mut Swath,
-    shown: &Shown<'_>,
-    window: &Window,
-    first: u32,
-    tiles: &mut [Tile],
-) -> Result<(), AllocError>
-    requires ready { IsReady shown.now }
-    requires index { IsIndexOf (leaves_by_item shown.now) window.now index.old }
-    requires accepted { accepts window.now ≡ true }
-    requires left { first % across window.now ≡ 0 }
-    requires within { first + length tiles.old ≤ tiles_of window.now }
-    ensures { IsPartlyDrawn (λ k. tile_rows (is_black (leaves_of shown.now)) (grid_of window.now k)) first
-        tiles.old tiles.new }
-{
-    let across = window.across() as usize;
-    for row in 0..tiles.len().div_ceil(across) {
-        let start = row * across;
-        let end = (start + across).min(tiles.len());
-        let part = &mut tiles[start..end];
-        draw_row(index, swath, shown, window, first + start as u32, part)?;
-    }
-    Ok(())
 }
 
 /// Draws the dirty ones of tiles of a row of them, all at once; none where memory is refused. The first of them has a
@@ -154,8 +129,12 @@ fn draw_row(
     if dirty.end <= dirty.first {
         return Ok(());
     }
+    let start = first + dirty.first;
     let part = &mut tiles[dirty.first as usize..dirty.end as usize];
-    draw_swath(index, swath, shown, window, first + dirty.first, part)
+    swath.turn_to(window, start, part)?;
+    index.paint(shown, window, start, swath)?;
+    swath.put(part);
+    Ok(())
 }
 
 /// Those of some tiles between which all dirty ones lie.
@@ -178,45 +157,6 @@ fn dirty_among(tiles: &[Tile]) -> Span
     Span {
         first: first as u32,
         end: end as u32,
-    }
-}
-
-/// Draws the dirty ones of tiles side by side, all at once; none where memory is refused. The first of them has a number.
-fn draw_swath(
-    index: &mut Index,
-    swath: &mut Swath,
-    shown: &Shown<'_>,
-    window: &Window,
-    first: u32,
-    tiles: &mut [Tile],
-) -> Result<(), AllocError>
-    requires ready { IsReady shown.now }
-    requires index { IsIndexOf (leaves_by_item shown.now) window.now index.old }
-    requires accepted { accepts window.now ≡ true }
-    requires row { IsRowOfTiles window.now first tiles.old }
-    ensures index { OnOk result (IsIndexOf (leaves_by_item shown.now) window.now index.new) }
-    ensures tiles { IsPartlyDrawn (λ k. tile_rows (is_black (leaves_of shown.now)) (grid_of window.now k)) first
-        tiles.old tiles.new }
-{
-    swath.turn_to(window, first, tiles)?;
-    index.paint(shown, window, first, swath)?;
-    swath.put(tiles);
-    Ok(())
-}
-
-/// Draws the dirty ones of the tiles of a window from a number on, tile by tile.
-fn draw_left(shown: &Shown<'_>, window: &Window, first: u32, tiles: &mut [Tile])
-    requires ready { IsReady shown.now }
-    requires accepted { accepts window.now ≡ true }
-    requires within { first + length tiles.old ≤ tiles_of window.now }
-    ensures { tiles.new
-        ≡ all_drawn_from (λ k. tile_rows (is_black (leaves_of shown.now)) (grid_of window.now k)) first tiles.old }
-{
-    for k in 0..tiles.len() {
-        if tiles[k].is_none() {
-            let rows = tile_of(shown, window.grid(first + k as u32));
-            tiles[k] = Some(rows);
-        }
     }
 }
 

@@ -88,14 +88,6 @@ impl Boxed {
             high,
         })
     }
-
-    /// Whether its box has a place from the first column of a tile to the last.
-    #[inline]
-    fn reaches(&self, first: i64, last: i64) -> bool
-        ensures { IsTrue result ↔ ((self.now.low.x ≤ℤ last) × (first ≤ℤ self.now.high.x)) }
-    {
-        self.low.x <= last && first <= self.high.x
-    }
 }
 
 impl Index {
@@ -110,7 +102,13 @@ impl Index {
         requires accepted { accepts window.now ≡ true }
         ensures { IfOk result (λ index. IsIndexOf (leaves_by_item shown.now) window.now index) }
     {
-        let mut seen = Seen::new(alloc, shown, within);
+        // no item was looked at yet
+        let mut seen = Seen {
+            within,
+            boxed: Vec::new(alloc),
+            left: shown.len(),
+            is_crowd: false,
+        };
         seen.look(shown, window)?;
         let Seen {
             within,
@@ -119,7 +117,8 @@ impl Index {
         } = seen;
         boxed.reverse();
         let count = window.height.div_ceil(64);
-        let (contours, rows) = parts_and_rows(alloc, shown, &mut boxed, count)?;
+        let contours = contours_of(alloc, shown, &mut boxed)?;
+        let rows = RowLists::new(alloc, &boxed, count)?;
         Ok(Index {
             within,
             boxed,
@@ -169,39 +168,18 @@ impl Index {
         ensures { PaintsSwath swath.old (numbered_leaves (leaves_by_item shown.now) self.now.boxed.items
             self.now.rows.reaching.items) swath.new }
     {
-        let numbers = self.rows.list();
+        let numbers = self.rows.reaching.as_slice();
         for k in (0..numbers.len()).rev() {
             if swath.is_done() {
                 return;
             }
             let item = &self.boxed[numbers[k] as usize];
-            if item.reaches(left, right) {
+            // whether its box has a place from the first column of a tile to the last
+            if item.low.x <= right && left <= item.high.x {
                 paint_item(item, &self.contours, shown, swath);
             }
         }
     }
-}
-
-/// The parts of the long contours among items, and the lists of those that reach each of so many rows of tiles.
-fn parts_and_rows(
-    alloc: Global,
-    shown: &Shown<'_>,
-    boxed: &mut [Boxed],
-    rows: u32,
-) -> Result<(Vec<ContourParts>, RowLists), AllocError>
-    requires ready { IsReady shown.now }
-    requires few { length boxed.old ≤ 1000000 }
-    requires boxed { All (IsBoxed (leaves_by_item shown.now)) boxed.old }
-    requires rows { rows ≤ 512 }
-    requires within { All (λ b. b.rows.end ≤ rows) boxed.old }
-    ensures kept { map bare boxed.new ≡ map bare boxed.old }
-    ensures parts { IfOk result (λ found. All (IsPartsOf (leaves_by_item shown.now)) found.0.items) }
-    ensures listed { IfOk result (λ found. AreListed boxed.new found.1) }
-    ensures rows { IfOk result (λ found. length found.1.starts.items ≡ rows + 1) }
-{
-    let contours = contours_of(alloc, shown, boxed)?;
-    let lists = RowLists::new(alloc, boxed, rows)?;
-    Ok((contours, lists))
 }
 
 /// The contour of an item that is a region of which the parts are known, and its polarity.

@@ -83,19 +83,9 @@ impl Lattice {
         if place < self.first {
             return 0;
         }
-        if self.last() <= place {
+        if self.first + i64::from(self.count - 1) * self.step <= place {
             return self.count;
         }
         (place.abs_diff(self.first) / self.step as u64) as u32 + 1
-    }
-
-    /// The last of them.
-    #[inline]
-    fn last(&self) -> i64
-        requires lattice { IsLattice self.now }
-        requires some { 0 < self.now.count }
-        ensures { result ≡ place_at self.now (self.now.count - 1) }
-    {
-        self.first + i64::from(self.count - 1) * self.step
     }
 }

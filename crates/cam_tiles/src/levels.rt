@@ -61,15 +61,6 @@ impl Levels {
         places.between(mirrored(heights.high), mirrored(heights.low))
     }
 
-    /// The height of the lowest row, in half nm.
-    #[inline]
-    pub(crate) fn bottom(&self) -> i64
-        requires { AreLevels self.now }
-        ensures { result ≡ height self.now (self.now.rows - 1) }
-    {
-        self.height(self.rows - 1)
-    }
-
     /// The height of a row, in half nm.
     #[inline]
     pub(crate) fn height(&self, row: u32) -> i64

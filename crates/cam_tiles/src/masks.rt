@@ -13,7 +13,6 @@ pub(crate) mod mask;
 pub(crate) mod parts;
 pub(crate) mod placed;
 pub(crate) mod runs;
-pub(crate) mod segments;
 pub(crate) mod shapes;
 pub(crate) mod swath;
 pub(crate) mod turning;

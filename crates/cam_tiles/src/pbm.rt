@@ -1,8 +1,8 @@
 //! Raw PBM files (netpbm's pbm(5), "P4").
 
 ghost use Rattle.std.specs.Int.{IsBitSet};
-ghost use Rattle.std.specs.Prelude.{◌≡◌, ℕ, ◌+◌, ◌*◌, ◌++◌, ◌<◌, ◌↔◌, ◌∷◌, [], codes, slice_index, IsTrue, IfOk, OnOk};
-ghost use Rattle.cam_tiles.specs.Pbm.{byte_of, header, padded, row_of};
+ghost use Rattle.std.specs.Prelude.{◌≡◌, ℕ, ◌+◌, ◌*◌, ◌++◌, ◌<◌, ◌↔◌, IsTrue, IfOk, OnOk};
+ghost use Rattle.cam_tiles.specs.Pbm.{header, padded, row_of};
 ghost use Rattle.cam_tiles.specs.Tables.{IsTable, is_pixel_black, pbm_of};
 ghost use Rattle.cam_tiles.specs.Tiles.{across};
 
@@ -24,18 +24,10 @@ fn push_header(alloc: Global, file: &mut Vec<u8>, window: &Window) -> Result<(),
 {
     let width = window.width.to_string(alloc)?;
     let height = window.height.to_string(alloc)?;
-    push_sides(file, width.as_bytes(), height.as_bytes())
-}
-
-/// Writes a header whose sides are given by their digits.
-fn push_sides(file: &mut Vec<u8>, width: &[u8], height: &[u8]) -> Result<(), AllocError>
-    ensures { OnOk result (file.new.items
-        ≡ file.old.items ++ codes "P4" ++ (10 ∷ []) ++ width.now ++ codes " " ++ height.now ++ (10 ∷ [])) }
-{
     file.extend_from_slice(b"P4\n")?;
-    file.extend_from_slice(width)?;
+    file.extend_from_slice(width.as_bytes())?;
     file.push(b' ')?;
-    file.extend_from_slice(height)?;
+    file.extend_from_slice(height.as_bytes())?;
     file.push(b'\n')?;
     Ok(())
 }
@@ -59,18 +51,6 @@ fn word_in(tiles: &[Tile], window: &Window, column: u32, row: u32) -> u64
     }
 }
 
-/// The bytes of the pixels of a row in one column of tiles.
-fn bytes_in(tiles: &[Tile], window: &Window, column: u32, row: u32) -> [u8; 8]
-    requires table { IsTable (record { window = window.now; tiles = tiles.now }) }
-    requires row { row < window.now.height }
-    requires column { column < across window.now }
-    ensures { (k : ℕ) → k < 8 → slice_index result k ≡ byte_of (λ i. padded
-        (λ pixel. is_pixel_black (record { window = window.now; tiles = tiles.now }) pixel row)
-        window.now.width (8 * (8 * column + k) + i)) }
-{
-    pbm_bytes(word_in(tiles, window, column, row))
-}
-
 /// Writes the bytes of a row, which is counted from the top: from each tile those of its pixels. They are put side by
 /// side in `line` first, where a word is written at once, and the row is copied from there.
 fn push_row(
@@ -86,7 +66,7 @@ fn push_row(
         (λ column. is_pixel_black (record { window = window.now; tiles = tiles.now }) column row) window.now.width) }
 {
     for column in 0..window.across() {
-        line[column as usize] = bytes_in(tiles, window, column, row);
+        line[column as usize] = pbm_bytes(word_in(tiles, window, column, row));
     }
     let bytes = window.width.div_ceil(8) as usize;
     file.extend_from_slice(&line.as_flattened()[..bytes])

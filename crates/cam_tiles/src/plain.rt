@@ -29,6 +29,7 @@ use crate::masks::heights::Heights;
 use crate::masks::join::Join;
 use crate::masks::mask::Mask;
 use crate::shown::Shown;
+use cam_apertures::Aperture;
 use cam_objects::{Canvas, Figure, Print};
 use cam_units::Bounds;
 use std::marker::Model;
@@ -57,23 +58,12 @@ pub(crate) fn tile_of(shown: &Shown<'_>, grid: Grid) -> [u64; 64]
     requires grid { IsGrid grid }
     ensures { result ≡ tile_rows (is_black (leaves_of shown.now)) grid }
 {
-    let mut tile = PlainTile::nothing(grid);
+    let mut tile = PlainTile {
+        decided: Mask::blank(grid),
+        dark: Mask::blank(grid),
+    };
     shown.paint(&mut tile);
     tile.dark.rows()
-}
-
-impl PlainTile {
-    /// A tile of which nothing is decided.
-    fn nothing(grid: Grid) -> PlainTile
-        requires { IsGrid grid }
-        ensures decided { result.0.grid ≡ grid × IsBlank result.0 }
-        ensures dark { result.1.grid ≡ grid × IsBlank result.1 }
-    {
-        PlainTile {
-            decided: Mask::blank(grid),
-            dark: Mask::blank(grid),
-        }
-    }
 }
 
 impl Canvas for PlainTile {
@@ -131,7 +121,11 @@ impl Mask {
             return;
         }
         match *figure {
-            Figure::Stamp { aperture, turn, at } => self.stamp(aperture, turn, at, Join::Add),
+            Figure::Stamp {
+                aperture: Aperture::Prims(prims),
+                turn,
+                at,
+            } => self.primitives(prims, turn, at, Join::Add),
             Figure::Filled {
                 contour,
                 turn,

@@ -72,35 +72,6 @@ impl<'a> Boxes<'a> {
     }
 }
 
-/// The contour and the polarity of an item that is one region.
-fn region_of(item: &Item) -> Option<(&Contour, bool)>
-    ensures { IfSome result (λ region. item.now ≡ One (Region region.0.now region.1)) }
-{
-    match item {
-        Item::One(Object::Region { contour, dark }) => Some((contour, *dark)),
-        _ => None,
-    }
-}
-
-/// Paints the item at a place of the list of a layer, from its last leaf on: a repeat by its first copy, where that is
-/// known.
-fn paint_item<C: Canvas>(layer: &Layer, copies: Option<&FirstCopies>, place: usize, canvas: &mut C)
-    requires sound { HasSoundItems layer.now }
-    requires within { place < length layer.now.items.items }
-    requires copies { IfSome copies
-        (λ known. AreFirstCopiesOf layer.now.apertures layer.now.items.items known.now) }
-    ensures { (item : Item) → slice_get layer.now.items.items place ≡ Some item
-        → Paints C.has C.place C.ink canvas.old (item_leaves (meaning_in layer.now.apertures) item) canvas.new }
-{
-    if let Some(copies) = copies {
-        if let Some(first) = copies.at(place) {
-            layer.paint_repeat(place, first, canvas);
-            return;
-        }
-    }
-    layer.paint_item(place, canvas);
-}
-
 impl<'a> Shown<'a> {
     /// How many items it has.
     pub(crate) fn len(&self) -> usize
@@ -157,7 +128,15 @@ impl<'a> Shown<'a> {
         ensures { Paints C.has C.place C.ink canvas.old (slice_index_or (leaves_by_item self.now) place []) canvas.new }
     {
         match self {
-            Shown::Gerber { layer, copies, .. } => paint_item(layer, *copies, place, canvas),
+            Shown::Gerber { layer, copies, .. } => {
+                if let Some(copies) = copies {
+                    if let Some(first) = copies.at(place) {
+                        layer.paint_repeat(place, first, canvas);
+                        return;
+                    }
+                }
+                layer.paint_item(place, canvas);
+            }
             Shown::Drill { layer, .. } => layer.paint_item(place, canvas),
         }
     }
@@ -171,7 +150,10 @@ impl<'a> Shown<'a> {
             ≡ leaf (Filled region.0.now) region.1 ∷ []) }
     {
         match self {
-            Shown::Gerber { layer, .. } => region_of(&layer.items[place]),
+            Shown::Gerber { layer, .. } => match &layer.items[place] {
+                Item::One(Object::Region { contour, dark }) => Some((contour, *dark)),
+                _ => None,
+            },
             Shown::Drill { .. } => None,
         }
     }

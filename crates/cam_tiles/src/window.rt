@@ -1,8 +1,8 @@
 //! The window that a plot shows.
 
-ghost use Rattle.std.specs.Prelude.{◌≡◌, ◌&&◌, ◌<◌, true};
+ghost use Rattle.std.specs.Prelude.{◌≡◌, ◌<◌, true};
 ghost use Rattle.cam_units.specs.Board.{IsPlace};
-ghost use Rattle.cam_tiles.specs.Picture.{accepts, are_near, centre_of, is_pitch, is_side, middle};
+ghost use Rattle.cam_tiles.specs.Picture.{accepts, are_near, centre_of, is_side, middle};
 ghost use Rattle.cam_tiles.specs.Tiles.{IsGrid, across, grid_of, tiles_of};
 
 use crate::grid::Grid;
@@ -38,16 +38,13 @@ impl Window {
     pub fn is_accepted(&self) -> bool
         ensures { result ≡ accepts self.now }
     {
-        if !fits_side(self.width) {
+        if !fits_side(self.width) || !fits_side(self.height) {
             return false;
         }
-        if !fits_side(self.height) {
+        if self.pitch < 1 || COARSEST < self.pitch {
             return false;
         }
-        if !fits_pitch(self) {
-            return false;
-        }
-        fits_board(self)
+        are_near(self.x, self.pitch, self.width) && are_near(self.y, self.pitch, self.height)
     }
 
     /// How many tiles of 64 by 64 pixels the window has; those at its right and lower edge
@@ -95,62 +92,28 @@ impl Window {
         ensures place { IsPlace result }
     {
         Spot {
-            x: self.columns().middle(column) as i64,
-            y: self.rows().middle(self.height - 1 - row) as i64,
-        }
-    }
-
-    /// Its columns, from the left.
-    fn columns(&self) -> Side
-        ensures { result
-            ≡ record { edge = self.now.x; pitch = self.now.pitch; count = self.now.width } }
-    {
-        Side {
-            edge: self.x,
-            pitch: self.pitch,
-            count: self.width,
-        }
-    }
-
-    /// Its rows, from below.
-    fn rows(&self) -> Side
-        ensures { result
-            ≡ record { edge = self.now.y; pitch = self.now.pitch; count = self.now.height } }
-    {
-        Side {
-            edge: self.y,
-            pitch: self.pitch,
-            count: self.height,
+            x: middle(self.x, self.pitch, column) as i64,
+            y: middle(self.y, self.pitch, self.height - 1 - row) as i64,
         }
     }
 }
 
-/// Pixels side by side from an edge on: the edge's coordinate and the pitch in nm.
-#[derive(Clone, Copy)]
-struct Side {
-    edge: i64,
-    pitch: i64,
-    count: u32,
+/// The middle of the pixel that stands so far from an edge, in half nm.
+fn middle(edge: i64, pitch: i64, pixel: u32) -> i128
+    ensures { result ≡ middle edge pitch pixel }
+{
+    2 * i128::from(edge) + i128::from(2 * u64::from(pixel) + 1) * i128::from(pitch)
 }
 
-impl Side {
-    /// The middle of a pixel, which is counted from the edge, in half nm.
-    fn middle(self, pixel: u32) -> i128
-        ensures { result ≡ middle self.edge self.pitch pixel }
-    {
-        2 * i128::from(self.edge) + i128::from(2 * u64::from(pixel) + 1) * i128::from(self.pitch)
+/// Whether the middles of the first and of the last of so many pixels from an edge on are on the board.
+fn are_near(edge: i64, pitch: i64, count: u32) -> bool
+    requires { 0 < count }
+    ensures { result ≡ are_near edge pitch count }
+{
+    if middle(edge, pitch, 0).unsigned_abs() >= REACH {
+        return false;
     }
-
-    /// Whether the middles of its first and its last pixel are on the board.
-    fn is_near(self) -> bool
-        requires { 0 < self.count }
-        ensures { result ≡ are_near self.edge self.pitch self.count }
-    {
-        if self.middle(0).unsigned_abs() >= REACH {
-            return false;
-        }
-        self.middle(self.count - 1).unsigned_abs() < REACH
-    }
+    middle(edge, pitch, count - 1).unsigned_abs() < REACH
 }
 
 /// Whether a side has from 1 to 32,768 pixels.
@@ -158,21 +121,4 @@ fn fits_side(pixels: u32) -> bool
     ensures { result ≡ is_side pixels }
 {
     1 <= pixels && pixels <= LONGEST
-}
-
-/// Whether the pitch of a window is from 1 to 100,000,000 nm.
-fn fits_pitch(window: &Window) -> bool
-    ensures { result ≡ is_pitch window.now.pitch }
-{
-    1 <= window.pitch && window.pitch <= COARSEST
-}
-
-/// Whether the centres of a window that has pixels are on the board.
-fn fits_board(window: &Window) -> bool
-    requires width { 0 < window.now.width }
-    requires height { 0 < window.now.height }
-    ensures { result ≡ (are_near window.now.x window.now.pitch window.now.width
-        && are_near window.now.y window.now.pitch window.now.height) }
-{
-    window.columns().is_near() && window.rows().is_near()
 }

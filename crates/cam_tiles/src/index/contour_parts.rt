@@ -11,9 +11,8 @@ ghost use Rattle.cam_tiles.specs.Machinery.Parts.{AreHeightsOf, ChangeWithin, Is
 ghost use Rattle.cam_tiles.specs.Machinery.Shown.{IsReady, leaves_by_item};
 
 use crate::index::Boxed;
-use crate::masks::heights::{HasHeights, Heights};
+use crate::masks::heights::{HasHeights, Heights, crossed_heights};
 use crate::masks::parts::{PART_SIZE, end_from, split_part};
-use crate::masks::segments::{crossed_heights, end_of};
 use crate::shown::Shown;
 use cam_shapes::{Cap, Contour, Seg};
 use cam_units::Point;
@@ -56,7 +55,7 @@ fn part_heights(from: Point, part: &[Seg]) -> Heights
     let mut heights = Heights::NONE;
     for seg in part {
         heights = heights.joined(segment_heights(here, *seg));
-        here = end_of(*seg);
+        here = seg.end();
     }
     heights
 }

@@ -6,13 +6,12 @@ ghost use Rattle.cam_objects.specs.Bounds.{bounds_of};
 ghost use Rattle.cam_tiles.specs.Machinery.Indexes.{AreSeenBy};
 ghost use Rattle.cam_tiles.specs.Machinery.Shown.{IsReady, leaves_by_item, lists_of};
 ghost use Rattle.cam_tiles.specs.Picture.{accepts};
-ghost use Rattle.cam_tiles.specs.declared.window.Window.{Window};
 
 use crate::index::Boxed;
 use crate::shown::{Boxes, Shown};
 use crate::window::Window;
 use cam_units::Bounds;
-use std::alloc::{AllocError, Global};
+use std::alloc::AllocError;
 
 /// The items that may be seen in a box, from the last on.
 #[derive(Drop)]
@@ -26,19 +25,6 @@ pub(crate) struct Seen {
 }
 
 impl Seen {
-    /// No item was looked at yet.
-    pub(crate) fn new(alloc: Global, shown: &Shown<'_>, within: Bounds) -> Seen
-        requires { IsReady shown.now }
-        ensures { (w : Window) → AreSeenBy (leaves_by_item shown.now) w result }
-    {
-        Seen {
-            within,
-            boxed: Vec::new(alloc),
-            left: shown.len(),
-            is_crowd: false,
-        }
-    }
-
     /// The place behind the next item that may be near, or 0: those from there on are not. In a crowd most are near, so
     /// the next one is taken to be, and is not looked for.
     fn next_end(&self, shown: &Shown<'_>) -> usize

@@ -2,7 +2,6 @@
 
 ghost use Rattle.std.specs.Prelude.{◌≡◌, ℕ, ◌<◌};
 ghost use Rattle.cam_tiles.specs.Machinery.Fields.{IsField};
-ghost use Rattle.cam_tiles.specs.Machinery.Levels.{AreLevels, levels_of};
 ghost use Rattle.cam_tiles.specs.Machinery.Masks.{IsWithin};
 ghost use Rattle.cam_tiles.specs.Tiles.{centre_in};
 
@@ -28,22 +27,14 @@ impl Field {
         ensures grid { result.grid ≡ grid }
         ensures columns { result.columns ≡ columns }
     {
+        let rows = Heights {
+            low: grid.levels().height(grid.rows - 1),
+            high: grid.y,
+        };
         Field {
             grid,
             columns,
-            rows: row_heights(&grid),
+            rows,
         }
-    }
-}
-
-/// The heights of all rows of a grid.
-#[inline]
-fn row_heights(grid: &Grid) -> Heights
-    requires { AreLevels (levels_of grid.now) }
-    ensures { (column row : ℕ) → row < grid.now.rows → IsWithin result (centre_in grid.now column row) }
-{
-    Heights {
-        low: grid.levels().bottom(),
-        high: grid.y,
     }
 }

@@ -4,7 +4,6 @@ ghost use Rattle.std.specs.Prelude.{◌↔◌, ◌⊎◌, ◌<◌, ℕ, IsTrue};
 ghost use Rattle.cam_shapes.specs.Arc.{IsInArc, IsSoundArc};
 ghost use Rattle.cam_shapes.specs.Bar.{IsInCapsule, IsSoundCapsule};
 ghost use Rattle.cam_shapes.specs.Disc.{IsInHole, IsSoundDisc};
-ghost use Rattle.cam_shapes.specs.Swept.{IsInSwept, IsSoundSwept};
 ghost use Rattle.cam_units.specs.Board.{IsOnBoard};
 ghost use Rattle.cam_objects.specs.Image.{relative};
 ghost use Rattle.cam_rows.specs.Runs.{IsInRun};
@@ -23,7 +22,7 @@ use crate::masks::heights::{HasHeights, Heights};
 use crate::masks::runs::Runs;
 use crate::span::Span;
 use cam_rows::{Hole, Hollow, Outer, ring_of};
-use cam_shapes::{Arc, Bar, Capsule, Disc, Swept};
+use cam_shapes::{Arc, Bar, Capsule, Disc};
 use cam_units::Point;
 
 /// The runs of a stroke or a flash: those of its body, those of what is taken out of this, and those of the discs about
@@ -79,7 +78,10 @@ impl FigureRuns {
         match &placed.figure {
             RunFigure::Straight(capsule) => self.find_straight(capsule, at, grid, columns),
             RunFigure::Round(arc, heights) => self.find_round(arc, *heights, at, grid, columns),
-            RunFigure::Swept(swept) => self.find_swept(swept, at, grid, columns),
+            RunFigure::Swept(swept) => {
+                self.clear();
+                self.body.find(swept, at, grid, columns);
+            }
             RunFigure::Disc(disc, hole) => self.find_pierced(disc, hole, at, grid, columns),
             RunFigure::Rectangle(rectangle, hole) => {
                 self.find_pierced(rectangle, hole, at, grid, columns);
@@ -149,17 +151,6 @@ impl FigureRuns {
         self.body.take_out(&mut self.hollow);
     }
 
-    /// Turns to those of a stroke of a rectangle, which is all body.
-    fn find_swept(&mut self, swept: &Swept, at: Point, grid: &Grid, columns: u32)
-        requires sound { IsSoundSwept swept.now }
-        requires at { IsOnBoard at }
-        requires grid { IsWideGrid grid.now columns }
-        ensures { TellsFigure grid.now columns (λ s. IsInSwept (relative at s) swept.now) self.new }
-    {
-        self.clear();
-        self.body.find(swept, at, grid, columns);
-    }
-
     /// Turns to those of a shape without a hole. A hole of diameter 0 is none.
     fn find_pierced<S: HasHeights>(
         &mut self,
@@ -193,16 +184,6 @@ impl FigureRuns {
             && self.beyond.band.end <= self.beyond.band.first
     }
 
-    /// The columns of a row that its body has without the hollow: two runs, of which some may have none.
-    #[inline]
-    fn halves(&self, row: u32) -> (Span, Span)
-        requires { row < 64 }
-        ensures { (k : ℕ) → (IsInRun result.0.first result.0.end k ⊎ IsInRun result.1.first result.1.end k)
-            ↔ (HasColumn self.now.body row k × (HasColumn self.now.hollow row k → ⊥)) }
-    {
-        self.body.run(row).without(self.hollow.run(row))
-    }
-
     /// The columns that its body holds of a row: four runs, of which some may have none.
     #[inline]
     pub(crate) fn pieces(&self, row: u32) -> ((Span, Span), (Span, Span))
@@ -212,7 +193,7 @@ impl FigureRuns {
             ⊎ (IsInRun result.1.0.first result.1.0.end k ⊎ IsInRun result.1.1.first result.1.1.end k))
             ↔ HasBody self.now row k }
     {
-        let (before, behind) = self.halves(row);
+        let (before, behind) = self.body.run(row).without(self.hollow.run(row));
         let beyond = self.beyond.run(row);
         (before.without(beyond), behind.without(beyond))
     }

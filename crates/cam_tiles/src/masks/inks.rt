@@ -86,7 +86,7 @@ impl Inks {
     }
 
     /// The tile itself where it is not decided all over, and else one behind it, before which all from it on are.
-    fn past_done(&mut self, tile: u32) -> u32
+    pub(crate) fn past_done(&mut self, tile: u32) -> u32
         requires { tile < self.old.tiles }
         ensures kept { self.new ≡ self.old }
         ensures within { (tile ≤ result) × (result ≤ self.old.tiles) }
@@ -104,15 +104,6 @@ impl Inks {
         }
         self.next[k] = tile + 1;
         tile + 1
-    }
-
-    /// Whether all of a tile is decided.
-    pub(crate) fn is_done(&mut self, tile: u32) -> bool
-        requires { tile < self.old.tiles }
-        ensures kept { self.new ≡ self.old }
-        ensures done { IsTrue result ↔ IsDoneTile self.old tile }
-    {
-        self.past_done(tile) > tile
     }
 
     /// The first tile from one on that is not decided all over, or the number of all where there is none.

@@ -21,6 +21,7 @@ ghost use Rattle.cam_tiles.specs.Machinery.Words.{AreReached, JoinsCentres, part
 ghost use Rattle.cam_tiles.specs.Tiles.{IsGrid, centre_in};
 
 use crate::grid::Grid;
+use crate::lattice::Lattice;
 use crate::masks::field::Field;
 use crate::masks::heights::{HasHeights, Heights};
 use crate::masks::join::Join;
@@ -187,29 +188,11 @@ impl<'a> PlacedOutline<'a> {
         let spare = &mut spare[..(end - first) as usize];
         let part = grid.part_seen(tiles.first, at);
         let field = Field::new(part, columns.min(end) - first);
-        join_inside(marks, spare, &field, points, turn, how);
+        spare.fill(0);
+        turn_outline(spare, &field, points, turn);
+        spread_marks(spare);
+        join_words(marks, spare, how);
     }
-}
-
-/// Joins the columns with the inside of an outline that is turned about (0, 0), by marks of as many tiles.
-fn join_inside(
-    marks: &mut [u64],
-    spare: &mut [u64],
-    field: &Field,
-    points: &[Point],
-    turn: Turn,
-    how: Join,
-)
-    requires wide { AreWide field.now.columns marks.old }
-    requires same { length spare.old ≡ length marks.old }
-    requires points { IsSoundOutline points.now }
-    ensures { JoinsCentres field.now.grid field.now.columns how
-        (λ s. IsInContour s (placed_contour turn origin.offset (outline_of points.now))) marks.old marks.new }
-{
-    spare.fill(0);
-    turn_outline(spare, field, points, turn);
-    spread_marks(spare);
-    join_words(marks, spare, how);
 }
 
 /// The box of an outline that is turned about (0, 0).
@@ -258,7 +241,10 @@ fn reached_tiles(grid: &Grid, columns: u32, bounds: Bounds, at: Point) -> Span
     if rows.end <= rows.first {
         return Span::NONE;
     }
-    grid.columns_from(columns, at)
-        .between(low.x, high.x)
-        .tiles()
+    let across = Lattice {
+        first: grid.x - 2 * at.x,
+        step: grid.step,
+        count: columns,
+    };
+    across.between(low.x, high.x).tiles()
 }

@@ -54,7 +54,7 @@ pub(crate) fn mark_column(marks: &mut [u64], first: u32, rows: usize, end: u32)
 
 /// Turns over the columns of a run in each of rows one below another, from one on: from its first column on and before
 /// its end, by two marks; a run whose end is not behind its first column has none.
-#[tactic(auto, using(crate::proofs::MarkedRows::next_turned, crate::proofs::MarkedRows::all_turned, crate::proofs::MarkedRows::none_turned))]
+#[tactic(auto, using(crate::proofs::MarkedRows::next_turned, crate::proofs::MarkedRows::all_turned, crate::proofs::MarkedRows::none_turned, crate::proofs::MarkedRows::run_turned, crate::proofs::MarkedRows::no_run_turned))]
 pub(crate) fn mark_runs(marks: &mut [u64], first: u32, firsts: &[u32], ends: &[u32])
     requires rows { first + length firsts.now ≤ 64 }
     requires same { length ends.now ≡ length firsts.now }
@@ -64,22 +64,10 @@ pub(crate) fn mark_runs(marks: &mut [u64], first: u32, firsts: &[u32], ends: &[u
         (λ k column. IsInRun (slice_index firsts.now k) (slice_index ends.now k) column) marks.old marks.new }
 {
     for k in 0..firsts.len() {
-        mark_run(marks, first + k as u32, firsts[k], ends[k]);
-    }
-}
-
-/// Turns over the columns of a run in one row.
-#[inline]
-#[tactic(auto, using(crate::proofs::MarkedRows::run_turned, crate::proofs::MarkedRows::no_run_turned))]
-fn mark_run(marks: &mut [u64], row: u32, first: u32, end: u32)
-    requires row { row < 64 }
-    requires end { end ≤ length marks.old }
-    requires tiles { length marks.old % 64 ≡ 0 }
-    ensures { TurnsRow row (IsInRun first end) marks.old marks.new }
-{
-    if first < end {
-        mark_end(marks, row, first);
-        mark_end(marks, row, end);
+        if firsts[k] < ends[k] {
+            mark_end(marks, first + k as u32, firsts[k]);
+            mark_end(marks, first + k as u32, ends[k]);
+        }
     }
 }
 
@@ -97,22 +85,18 @@ pub(crate) fn spread_marks(marks: &mut [u64])
 }
 
 /// Turns over those rows of a tile of which the first column of the tile right of it is marked.
-#[tactic(auto, using(crate::proofs::MarkedColumns::next_row, crate::proofs::MarkedColumns::no_row))]
+#[tactic(auto, using(crate::proofs::MarkedColumns::next_row, crate::proofs::MarkedColumns::no_row, crate::proofs::MarkedColumns::lowest_carried, crate::proofs::MarkedColumns::nothing_carried))]
 fn spread_to(marks: &mut [u64], tile: usize)
     requires { 64 * tile + 128 ≤ length marks.old }
     ensures { AreRowsSpread tile 64 marks.old marks.new }
 {
     let first = 64 * tile;
     for row in 0..64 {
-        marks[first + row] ^= carried(marks[first + 64 + row]);
+        let carried = if marks[first + 64 + row] % 2 == 1 {
+            u64::MAX
+        } else {
+            0
+        };
+        marks[first + row] ^= carried;
     }
-}
-
-/// The word of which each bit is as the lowest one of another is.
-#[inline]
-#[tactic(auto, using(crate::proofs::MarkedColumns::lowest_carried, crate::proofs::MarkedColumns::nothing_carried))]
-fn carried(word: u64) -> u64
-    ensures { (i : ℕ) → i < 64 → is_set result i ≡ is_set word 0 }
-{
-    if word % 2 == 1 { u64::MAX } else { 0 }
 }

@@ -5,14 +5,11 @@ ghost use Rattle.cam_units.specs.Board.{IsOnBoard};
 ghost use Rattle.cam_units.specs.Boxes.{Holds};
 ghost use Rattle.cam_objects.specs.Image.{relative};
 ghost use Rattle.cam_rows.specs.Rows.{IsRow, centre_at};
-ghost use Rattle.cam_tiles.specs.Machinery.Lattices.{IsLattice, place_at};
 ghost use Rattle.cam_tiles.specs.Machinery.Masks.{HoldsCentres, IsBlank, IsIn, IsMask, IsWithin};
 ghost use Rattle.cam_tiles.specs.Machinery.Masks.{Merges, TurnsBy, ink_of};
-ghost use Rattle.cam_tiles.specs.Machinery.Runs.{IsWideGrid};
 ghost use Rattle.cam_tiles.specs.Tiles.{IsGrid, centre_in};
 
 use crate::grid::Grid;
-use crate::lattice::Lattice;
 use crate::levels::Levels;
 use crate::masks::heights::Heights;
 use crate::masks::join::{Join, told_by_type};
@@ -58,22 +55,6 @@ impl Grid {
             y: self.y - i64::from(row) * self.step - 2 * at.y,
             step: self.step,
             n: self.cols,
-        }
-    }
-
-    /// The places across of so many columns, which may go on to the right past its own, as they are seen from a point.
-    #[inline]
-    pub(crate) fn columns_from(&self, count: u32, at: Point) -> Lattice
-        requires grid { IsWideGrid self.now count }
-        requires at { IsOnBoard at }
-        ensures lattice { IsLattice result }
-        ensures count { result.count ≡ count }
-        ensures places { (n : ℕ) → place_at result n ≡ (relative at (centre_in self.now n 0)).x }
-    {
-        Lattice {
-            first: self.x - 2 * at.x,
-            step: self.step,
-            count,
         }
     }
 

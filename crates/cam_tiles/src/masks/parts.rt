@@ -13,7 +13,6 @@ use crate::masks::field::Field;
 use crate::masks::heights::Heights;
 use crate::masks::marked::MarkShape;
 use crate::masks::marks::spread_marks;
-use crate::masks::segments::end_of;
 use crate::masks::turning::{turn_edge, turn_segment};
 use cam_shapes::{Contour, Seg};
 use cam_units::Point;
@@ -58,7 +57,7 @@ pub(crate) fn end_from(here: Point, segs: &[Seg]) -> Point
     ensures { result ≡ end_from here segs.now }
 {
     match segs.last() {
-        Some(seg) => end_of(*seg),
+        Some(seg) => seg.end(),
         None => here,
     }
 }
@@ -108,7 +107,7 @@ fn turn_part(marks: &mut [u64], field: &Field, from: Point, part: &[Seg]) -> Poi
     let mut here = from;
     for seg in part {
         turn_segment(marks, field, here, *seg);
-        here = end_of(*seg);
+        here = seg.end();
     }
     here
 }

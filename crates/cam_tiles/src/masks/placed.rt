@@ -16,7 +16,6 @@ use crate::masks::field::Field;
 use crate::masks::marked::MarkShape;
 use crate::masks::marks::spread_marks;
 use crate::masks::mask::ORIGIN;
-use crate::masks::segments::end_of;
 use crate::masks::turning::{turn_edge, turn_line, turn_segment};
 use cam_shapes::{Contour, Placing, Seg};
 use cam_units::{Point, Turn};
@@ -97,7 +96,7 @@ fn turn_placed(
     }
     let seg = placing.seg(*seg);
     turn_segment(marks, field, here, seg);
-    end_of(seg)
+    seg.end()
 }
 
 /// Counts the polygon through points that are turned about (0, 0), in the rows of a grid that may be seen from a point.
@@ -115,23 +114,11 @@ pub(crate) fn turn_outline(marks: &mut [u64], field: &Field, points: &[Point], t
         offset: ORIGIN,
     };
     let start = placing.point(*first);
-    turn_lines(marks, field, start, others, placing);
-}
-
-/// Counts the edges of the closed polygon from a point, which is placed, through others.
-fn turn_lines(marks: &mut [u64], field: &Field, first: Point, others: &[Point], placing: Placing)
-    requires wide { AreWide field.now.columns marks.old }
-    requires first { IsOnBoard first }
-    requires offset { IsOffset placing.offset }
-    requires others { All (IsPlaceablePoint placing.turn placing.offset) others.now }
-    ensures { TurnsCentres field.now (λ s. IsTrue (change_side s first first
-        (map (placed_seg placing.turn placing.offset) (lines_to others.now)))) marks.old marks.new }
-{
-    let mut here = first;
+    let mut here = start;
     for point in others {
         let next = placing.point(*point);
         turn_line(marks, field, here, next);
         here = next;
     }
-    turn_edge(marks, field, here, first);
+    turn_edge(marks, field, here, start);
 }

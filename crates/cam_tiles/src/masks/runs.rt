@@ -5,15 +5,14 @@ ghost use Rattle.cam_units.specs.Board.{IsOnBoard};
 ghost use Rattle.cam_objects.specs.Image.{relative};
 ghost use Rattle.cam_shapes.specs.Arc.{IsSoundArc};
 ghost use Rattle.cam_rows.specs.ArcRuns.{IsBeyond};
-ghost use Rattle.cam_rows.specs.Rows.{centre_at, row_below};
-ghost use Rattle.cam_rows.specs.Runs.{AreWideRows, IsInRun};
+ghost use Rattle.cam_rows.specs.Runs.{IsInRun};
 ghost use Rattle.cam_tiles.specs.Machinery.Masks.{IsWithin};
 ghost use Rattle.cam_tiles.specs.Machinery.Runs.{AreAlike, Finds, Fits, HasColumn, IsClear, IsWideGrid, Tells};
 
 use crate::grid::Grid;
 use crate::masks::heights::{HasHeights, Heights};
 use crate::span::Span;
-use cam_rows::{Beyond, Centres, RunShape, is_wide_arc};
+use cam_rows::{Beyond, RunShape, is_wide_arc};
 use cam_shapes::Arc;
 use cam_units::Point;
 
@@ -104,22 +103,12 @@ impl Runs {
             → AreAlike self.now self.now.band.first row) }
     {
         for row in self.band.first..self.band.end {
-            if !self.are_alike(self.band.first, row) {
+            let (first, other) = (self.columns(self.band.first), self.columns(row));
+            if other.first != first.first || other.end != first.end {
                 return false;
             }
         }
         true
-    }
-
-    /// Whether two rows have the same run.
-    #[inline]
-    fn are_alike(&self, row: u32, other: u32) -> bool
-        requires row { row < 64 }
-        requires other { other < 64 }
-        ensures { IsTrue result ↔ AreAlike self.now row other }
-    {
-        let (row, other) = (row as usize, other as usize);
-        self.firsts[other] == self.firsts[row] && self.ends[other] == self.ends[row]
     }
 
     /// The tiles in which its columns lie: of a slanted draw, few of those that its box reaches.
@@ -200,7 +189,9 @@ impl Runs {
         top.n = columns;
         let firsts = &mut self.firsts[band.first as usize..band.end as usize];
         let ends = &mut self.ends[band.first as usize..band.end as usize];
-        find_anew(shape, &top, firsts, ends);
+        firsts.fill(0);
+        ends.fill(columns);
+        shape.find(&top, firsts, ends);
         self.band = band;
     }
 
@@ -263,18 +254,4 @@ fn are_empty(firsts: &[u32], ends: &[u32]) -> bool
     ensures { IsTrue result ↔ ((k : ℕ) → k < length firsts.now → slice_index ends.now k ≤ slice_index firsts.now k) }
 {
     firsts.iter().zip(ends).all(|(first, end)| *end <= *first)
-}
-
-/// Finds the runs of a shape in wide rows, one below another from the top one, whatever they were.
-fn find_anew<S: RunShape>(shape: &S, top: &Centres, firsts: &mut [u32], ends: &mut [u32])
-    requires sound { S.is_sound shape.now }
-    requires rows { AreWideRows top.now (length firsts.old) }
-    requires ends { length ends.old ≡ length firsts.old }
-    ensures { (k i : ℕ) → k < length firsts.new → i < top.now.n
-        → IsInRun (slice_index firsts.new k) (slice_index ends.new k) i
-        ↔ S.holds shape.now (centre_at (row_below top.now k) i) }
-{
-    firsts.fill(0);
-    ends.fill(top.n);
-    shape.find(top, firsts, ends);
 }

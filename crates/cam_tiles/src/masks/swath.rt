@@ -137,16 +137,6 @@ impl Swath {
         self.inks.is_all_done()
     }
 
-    /// The columns whose centres lie from one place across to another, both included, in half nm.
-    fn columns_between(&self, left: i64, right: i64) -> Span
-        ensures each { (column : ℕ) → column < self.now.columns
-            → ((result.first ≤ column) × (column < result.end))
-            ↔ ((left ≤ℤ (place_in self.now column 0).x) × ((place_in self.now column 0).x ≤ℤ right)) }
-        ensures few { result.end ≤ self.now.columns }
-    {
-        self.grid.columns_between(self.columns, left, right)
-    }
-
     /// The columns and the rows of the centres that a box holds.
     fn reached(&self, low: Spot, high: Spot) -> (Span, Span)
         ensures { AreReachedBy low high self.now.grid self.now.columns result.0 result.1 }
@@ -185,21 +175,11 @@ impl Swath {
         requires sides { (s : Spot) → Covers (Filled contour.now.contour.now) s → (left ≤ℤ s.x) × (s.x ≤ℤ right) }
         ensures { PaintsSwath self.old (leaf (Filled contour.now.contour.now) dark ∷ []) self.new }
     {
-        let columns = self.columns_between(left, right);
+        let columns = self.grid.columns_between(self.columns, left, right);
         if columns.end <= columns.first {
             return;
         }
         self.paint_marked(columns.tiles(), contour, dark);
-    }
-
-    /// Paints a stroke or a flash by its runs, and looks anew at tiles that it reaches where they are many.
-    fn paint_figure(&mut self, tiles: Span, placed: &Placed, print: Print<'_>)
-        requires some { 0 < self.old.columns }
-        requires figure { IsPlacedFor print.figure placed.now }
-        ensures { PaintsSwath self.old (leaf_of print.entry ∷ []) self.new }
-    {
-        self.runs.find(placed, &self.grid, self.columns);
-        take_runs(&mut self.inks, tiles, &self.runs, print.dark);
     }
 }
 
@@ -236,7 +216,8 @@ impl Canvas for Swath {
         };
         let tiles = columns.tiles();
         if let Some(placed) = placed_of(&print.figure, heights) {
-            self.paint_figure(tiles, &placed, print);
+            self.runs.find(&placed, &self.grid, self.columns);
+            take_runs(&mut self.inks, tiles, &self.runs, print.dark);
             return;
         }
         match print.figure {
@@ -273,7 +254,7 @@ fn open_among(inks: &mut Inks, tiles: Span) -> Span
     }
     let first = inks.first_open(tiles.first).min(tiles.end);
     let mut end = tiles.end;
-    while first < end && inks.is_done(end - 1) {
+    while first < end && inks.past_done(end - 1) >= end {
         end -= 1;
     }
     Span { first, end }
@@ -305,7 +286,7 @@ fn wide_bounds(grid: &Grid, columns: u32) -> Bounds
     Bounds::Closed {
         low: Spot {
             x: grid.x,
-            y: grid.levels().bottom(),
+            y: grid.levels().height(grid.rows - 1),
         },
         high: Spot { x: last, y: grid.y },
     }

@@ -13,10 +13,8 @@ ghost use Rattle.cam_tiles.specs.Machinery.Masks.{IsWithin};
 ghost use Rattle.cam_tiles.specs.Machinery.Turning.{AreWide, TurnsCentres};
 
 use crate::masks::field::Field;
-use crate::masks::heights::{HasHeights, Heights};
+use crate::masks::heights::{HasHeights, crossed_heights};
 use crate::masks::marks::{mark_column, mark_ends, mark_runs};
-use crate::masks::segments::crossed_heights;
-use crate::span::Span;
 use cam_rows::{Centres, cap_runs, edge_runs};
 use cam_shapes::{Cap, Seg};
 use cam_units::Point;
@@ -44,16 +42,6 @@ pub(crate) fn turn_segment(marks: &mut [u64], field: &Field, here: Point, seg: S
     }
 }
 
-/// Whether a line crosses no ray at some heights.
-#[inline]
-fn is_beyond(rows: Heights, from: Point, to: Point) -> bool
-    requires from { IsOnBoard from }
-    requires to { IsOnBoard to }
-    ensures { IsTrue result → (s : Spot) → IsWithin rows s → IsTrue (crosses_ray s (edge from to)) → ⊥ }
-{
-    crossed_heights(from, to).are_apart(rows)
-}
-
 /// Counts a line: most of a long contour are passed over by their heights alone.
 #[inline]
 pub(crate) fn turn_line(marks: &mut [u64], field: &Field, from: Point, to: Point)
@@ -62,7 +50,7 @@ pub(crate) fn turn_line(marks: &mut [u64], field: &Field, from: Point, to: Point
     requires to { IsOnBoard to }
     ensures { TurnsCentres field.now (λ s. IsTrue (crosses_ray s (edge from to))) marks.old marks.new }
 {
-    if is_beyond(field.rows, from, to) {
+    if crossed_heights(from, to).are_apart(field.rows) {
         return;
     }
     turn_edge(marks, field, from, to);
@@ -84,28 +72,6 @@ pub(crate) fn turn_edge(marks: &mut [u64], field: &Field, from: Point, to: Point
     }
     let mut ends = [0u32; 64];
     let ends = &mut ends[..(band.end - band.first) as usize];
-    turn_crossed(marks, field, from, to, band, ends);
-}
-
-/// Counts an edge in the rows that it crosses, of which each takes up one of some numbers.
-fn turn_crossed(
-    marks: &mut [u64],
-    field: &Field,
-    from: Point,
-    to: Point,
-    band: Span,
-    ends: &mut [u32],
-)
-    requires wide { AreWide field.now.columns marks.old }
-    requires from { IsOnBoard from }
-    requires to { IsOnBoard to }
-    requires some { band.first < band.end }
-    requires low { band.end ≤ field.now.grid.rows }
-    requires rows { (row : ℕ) (s : Spot) → IsOnRow (levels_of field.now.grid) row s
-        → ((band.first ≤ row) × (row < band.end)) ↔ (is_above from s ≢ is_above to s) }
-    requires size { length ends.old ≡ band.end - band.first }
-    ensures { TurnsCentres field.now (λ s. IsTrue (crosses_ray s (edge from to))) marks.old marks.new }
-{
     let top = Centres {
         x: field.grid.x,
         y: field.grid.levels().height(band.first),
@@ -132,28 +98,6 @@ fn turn_cap(marks: &mut [u64], field: &Field, cap: &Cap)
     let mut ends = [0u32; 64];
     let firsts = &mut firsts[..(band.end - band.first) as usize];
     let ends = &mut ends[..(band.end - band.first) as usize];
-    turn_reached(marks, field, cap, band, firsts, ends);
-}
-
-/// Counts a cap in the rows that it may reach, of which each takes up one of some numbers.
-fn turn_reached(
-    marks: &mut [u64],
-    field: &Field,
-    cap: &Cap,
-    band: Span,
-    firsts: &mut [u32],
-    ends: &mut [u32],
-)
-    requires wide { AreWide field.now.columns marks.old }
-    requires cap { IsSoundCap cap.now }
-    requires some { band.first < band.end }
-    requires low { band.end ≤ field.now.grid.rows }
-    requires rows { (row : ℕ) (s : Spot) → IsOnRow (levels_of field.now.grid) row s → IsTrue (is_in_cap s cap.now)
-        → (band.first ≤ row) × (row < band.end) }
-    requires size { length firsts.old ≡ band.end - band.first }
-    requires ends { length ends.old ≡ length firsts.old }
-    ensures { TurnsCentres field.now (λ s. IsTrue (is_in_cap s cap.now)) marks.old marks.new }
-{
     let top = Centres {
         x: field.grid.x,
         y: field.grid.levels().height(band.first),

@@ -11,9 +11,9 @@ ghost use Rattle.cam_objects.specs.Image.{relative};
 ghost use Rattle.cam_objects.specs.Leaves.{origin};
 ghost use Rattle.cam_tiles.specs.Machinery.Masks.{Joins, Turns};
 
+use crate::masks::heights::crossed_heights;
 use crate::masks::join::Join;
 use crate::masks::mask::{Mask, ORIGIN};
-use crate::masks::segments::{crossed_heights, end_of};
 use crate::plain::shapes::RowShape;
 use cam_shapes::{Cap, Contour, Placing, Seg};
 use cam_units::{Point, Turn};
@@ -25,7 +25,15 @@ impl Mask {
         ensures { Joins how (λ s. IsInContour s (placed_contour turn offset contour.now)) self.old self.new }
     {
         let mut inside = Mask::blank(self.grid());
-        inside.turn_contour(contour, Placing { turn, offset });
+        let placing = Placing { turn, offset };
+        let start = placing.point(contour.start);
+        let mut here = start;
+        for seg in contour.segs.as_slice() {
+            let seg = placing.seg(*seg);
+            inside.turn_segment(here, seg);
+            here = seg.end();
+        }
+        inside.turn_edge(here, start, ORIGIN);
         self.merge(&inside, how);
     }
 
@@ -47,43 +55,14 @@ impl Mask {
         };
         let start = placing.point(*first);
         let mut inside = Mask::blank(self.grid());
-        inside.turn_outline(start, others, placing, at);
-        self.merge(&inside, how);
-    }
-
-    /// Turns over the inside of a contour: its segments one after another, and the line that closes it.
-    fn turn_contour(&mut self, contour: &Contour, placing: Placing)
-        requires { IsPlaceable placing.turn placing.offset contour.now }
-        ensures { Turns (λ s. IsInContour (relative origin.offset s)
-            (placed_contour placing.turn placing.offset contour.now)) self.old self.new }
-    {
-        let start = placing.point(contour.start);
         let mut here = start;
-        for seg in contour.segs.as_slice() {
-            let seg = placing.seg(*seg);
-            self.turn_segment(here, seg);
-            here = end_of(seg);
-        }
-        self.turn_edge(here, start, ORIGIN);
-    }
-
-    /// Turns over the inside of the closed polygon from a point through others, which are placed, as it is seen from a
-    /// point.
-    fn turn_outline(&mut self, first: Point, others: &[Point], placing: Placing, at: Point)
-        requires first { IsOnBoard first }
-        requires offset { IsOffset placing.offset }
-        requires others { All (IsPlaceablePoint placing.turn placing.offset) others.now }
-        requires at { IsOnBoard at }
-        ensures { Turns (λ s. IsTrue (change_side (relative at s) first first
-            (map (placed_seg placing.turn placing.offset) (lines_to others.now)))) self.old self.new }
-    {
-        let mut here = first;
         for point in others {
             let next = placing.point(*point);
-            self.turn_edge(here, next, at);
+            inside.turn_edge(here, next, at);
             here = next;
         }
-        self.turn_edge(here, first, at);
+        inside.turn_edge(here, start, at);
+        self.merge(&inside, how);
     }
 
     /// Turns over what a segment from a point changes: its edge, and of an arc its cap.

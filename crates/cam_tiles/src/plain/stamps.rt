@@ -2,38 +2,24 @@
 
 ghost use Rattle.std.specs.Prelude.{All, map};
 ghost use Rattle.cam_units.specs.Board.{IsOnBoard};
-ghost use Rattle.cam_apertures.specs.Cover.{IsCovered, IsInShape, IsExposed};
+ghost use Rattle.cam_apertures.specs.Cover.{IsInShape, IsExposed};
 ghost use Rattle.cam_apertures.specs.Primitives.{IsSoundPrim};
-ghost use Rattle.cam_apertures.specs.Soundness.{IsSoundAperture};
 ghost use Rattle.cam_apertures.specs.Turned.{turned_prim, turned_shape};
 ghost use Rattle.cam_objects.specs.Image.{relative};
-ghost use Rattle.cam_tiles.specs.Machinery.Figures.{IsMacro};
 ghost use Rattle.cam_tiles.specs.Machinery.Masks.{Joins, inked};
 
 use crate::masks::join::Join;
 use crate::masks::mask::Mask;
 use crate::plain::shapes::RowShape;
-use cam_apertures::{Aperture, Primitives, turned_height, turned_width};
+use cam_apertures::{Primitives, turned_height, turned_width};
 use cam_macros::{Prim, PrimShape};
 use cam_shapes::{Bar, Disc, Rectangle};
 use cam_units::{Point, Turn};
 
 impl Mask {
-    /// Joins the marks with what the aperture of a macro covers, mirrored and turned, at a point.
-    pub(crate) fn stamp(&mut self, aperture: &Aperture, turn: Turn, at: Point, how: Join)
-        requires aperture { IsSoundAperture aperture.now }
-        requires composed { IsMacro aperture.now }
-        requires at { IsOnBoard at }
-        ensures { Joins how (λ s. IsCovered aperture.now turn (relative at s)) self.old self.new }
-    {
-        if let Aperture::Prims(prims) = aperture {
-            self.primitives(prims, turn, at, how);
-        }
-    }
-
     /// Joins the marks with what primitives paint, once they are turned: they are composed in a mask of their own, where
     /// a later one takes back what it clears.
-    fn primitives(&mut self, prims: &Primitives, turn: Turn, at: Point, how: Join)
+    pub(crate) fn primitives(&mut self, prims: &Primitives, turn: Turn, at: Point, how: Join)
         requires prims { All IsSoundPrim prims.now }
         requires at { IsOnBoard at }
         ensures { Joins how (λ s. IsExposed (map (turned_prim turn) prims.now) (relative at s)) self.old self.new }

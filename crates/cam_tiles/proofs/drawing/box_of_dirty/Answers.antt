@@ -3,7 +3,6 @@ use Rattle.std.proofs.lemmas.Bool.{cases_lt}
 use Rattle.cam_tiles.specs.Machinery.Masks.{HoldsCentres}
 use Rattle.cam_tiles.specs.Tables.{Tile}
 use Rattle.cam_tiles.specs.Tiles.{grid_of}
-use Rattle.cam_tiles.proofs.TileCounts.{few_tiles}
 use Rattle.cam_tiles.proofs.TilesInOrder.{read_clean}
 use Rattle.cam_tiles.proofs.drawing.box_of_dirty.Goals.{then-is_none, else-is_none}
 use Rattle.cam_tiles.proofs.drawing.box_of_dirty.Goals as goal
@@ -33,13 +32,3 @@ loop-k-preserved c = λ j within dirty column row inside.
             absurd cc)
       ])
     ]
-
-pub overflow_cast-k : goal.overflow_cast-k
-overflow_cast-k c =
-    let few = few_tiles c.args.window.now c.requires.accepted in
-    omega (arith, few, c.requires.within, c.loop-k-test.true)
-
-pub overflow_add-first : goal.overflow_add-first
-overflow_add-first c =
-    let few = few_tiles c.args.window.now c.requires.accepted in
-    omega (arith, few, c.requires.within, c.loop-k-test.true)

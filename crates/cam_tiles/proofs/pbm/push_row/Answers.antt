@@ -1,7 +1,8 @@
-use Rattle.std.proofs.Common.{◌≡◌, arith, rules}
+use Rattle.std.proofs.Common.{◌≡◌, ◌*◌, arith, rules}
 use Rattle.std.proofs.lemmas.Grind.{common_steps}
-use Rattle.cam_tiles.specs.Pbm.{bytes_across, row_of}
+use Rattle.cam_tiles.specs.Pbm.{bytes_across, padded, row_of}
 use Rattle.cam_tiles.specs.Tables.{Table, is_pixel_black}
+use Rattle.cam_tiles.proofs.Bytes.{bytes_told}
 use Rattle.cam_tiles.proofs.PbmLemmas.{byte_in, more_eights, row_of_eights}
 use Rattle.cam_tiles.proofs.WindowLemmas.{accepted}
 use Rattle.cam_tiles.proofs.pbm.push_row.Goals as goal
@@ -19,7 +20,10 @@ loop-column-preserved c =
     record {
       whole = search rules;
       bytes = more_eights (byte_in (λ column. is_pixel_black t column c.args.row) w.width) c.loop-column.column
-          c.loop-column.line c.bytes_in.result (omega arith) (search rules) c.bytes_in.ensures
+          c.loop-column.line c.pbm_bytes.result (omega arith) (search rules)
+          (λ k near. bytes_told (padded (λ column. is_pixel_black t column c.args.row) w.width) (64 * c.loop-column.column)
+          (8 * c.loop-column.column) c.word_in.result c.pbm_bytes.result (omega arith) c.pbm_bytes.ensures c.word_in.ensures k near
+          (search rules))
           c.loop-column.invariant.bytes;
     }
 

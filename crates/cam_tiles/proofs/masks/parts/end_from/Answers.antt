@@ -4,4 +4,4 @@ use Rattle.cam_tiles.proofs.masks.parts.end_from.Goals as goal
 
 pub returns-in-Some : goal.returns-in-Some
 returns-in-Some c =
-    c.end_of.ensures ∙ end_is c.args.here c.args.segs.now c.in-Some.seg.now (sym c.in-Some.ensures.value)
+    c.end.ensures.value ∙ end_is c.args.here c.args.segs.now c.in-Some.seg.now (sym c.in-Some.ensures.value)

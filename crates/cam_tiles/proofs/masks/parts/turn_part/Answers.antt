@@ -1,7 +1,5 @@
-use Rattle.std.proofs.Common.{refl, sym, subst, ◌∙◌}
-use Rattle.cam_units.specs.Board.{IsOnBoard}
+use Rattle.std.proofs.Common.{refl, sym, ◌∙◌}
 use Rattle.cam_tiles.proofs.ContourParts.{all_of_part, end_all, end_more, next_of_part, none_of_part}
-use Rattle.cam_tiles.proofs.TurnedContours.{sound_end}
 use Rattle.cam_tiles.proofs.TurnedMarks.{TurnsSo, still_wide, turning}
 use Rattle.cam_tiles.proofs.masks.parts.turn_part.Goals as goal
 
@@ -18,14 +16,14 @@ pub loop-seg-preserved : goal.loop-seg-preserved
 loop-seg-preserved c =
     let part = c.args.part.now in
     let k = c.loop-seg.seg-index in
-    let there = c.end_of-here.result in
+    let there = c.end-here.result in
     record {
-      on_board = subst IsOnBoard (sym c.end_of-here.ensures) (sound_end _ (c.requires.part k _ c.loop-seg-test.true));
+      on_board = c.end-here.ensures.on_board (c.requires.part k _ c.loop-seg-test.true);
       wide = still_wide c.args.field.now.columns c.loop-seg.marks c.turn_segment.new.marks c.turn_segment.auto.marks
           c.loop-seg.invariant.wide;
-      end = end_more c.loop-seg.here there part k _ c.loop-seg-test.true c.end_of-here.ensures ∙ c.loop-seg.invariant.end;
+      end = end_more c.loop-seg.here there part k _ c.loop-seg-test.true c.end-here.ensures.value ∙ c.loop-seg.invariant.end;
       turned = next_of_part (TurnsSo c.args.field.now) (turning c.args.field.now) c.args.from
-          c.loop-seg.here there part k _ c.loop-seg-test.true c.end_of-here.ensures c.loop-seg.invariant.turned
+          c.loop-seg.here there part k _ c.loop-seg-test.true c.end-here.ensures.value c.loop-seg.invariant.turned
           c.turn_segment.ensures;
     }
 

@@ -1,11 +1,9 @@
 use Rattle.std.proofs.Common.{IsTrue, sym, ap, subst, ◌∙◌, rules}
-use Rattle.cam_units.specs.Board.{IsOnBoard}
 use Rattle.cam_shapes.specs.declared.segments.Seg.{Seg}
 use Rattle.cam_shapes.specs.Contour.{end_of}
 use Rattle.cam_shapes.specs.Placing.{IsPlaceableSeg}
 use Rattle.cam_shapes.specs.Sides.{changes_side}
 use Rattle.cam_tiles.specs.Machinery.Turning.{TurnsCentres}
-use Rattle.cam_tiles.proofs.TurnedContours.{sound_end}
 use Rattle.cam_tiles.proofs.masks.placed.turn_placed.Goals as goal
 
 pub turn_line-requires-clause-to : goal.turn_line-requires-clause-to
@@ -29,4 +27,4 @@ returns-in-Line-clause-turned c =
     (sym (c.requires.stays stays c.args.seg.now ∙ c.in-Line.is)) c.turn_line.ensures
 
 pub returns-clause-board : goal.returns-clause-board
-returns-clause-board c = subst IsOnBoard (sym c.end_of.ensures) (sound_end c.seg-seg.result c.seg-seg.ensures.sound)
+returns-clause-board c = c.end.ensures.on_board c.seg-seg.ensures.sound

@@ -25,7 +25,7 @@ returns c column row near below =
     let fits : FitsSigned w64 g.step = search rules in
     let x_fits : FitsSigned w64 g.x = search rules in
     let y_fits : FitsSigned w64 g.y = search rules in
-    let bottom = c.bottom.ensures ∙ ap (λ (l : Levels). height l (l.rows - 1)) c.levels.ensures.value in
+    let bottom = c.height.ensures ∙ ap (λ (l : Levels). height l (g.rows - 1)) c.levels.ensures.value in
     between_corners g c.args.columns wide column row near below _ _ _ _
     (to_z-of_z w64 g.x x_fits) (to_z-of_z w64 g.y y_fits) (last_kept g c.args.columns wide fits c.from.result c.from.ensures)
     (long_near _ _ bottom (wide.centres 0 (g.rows - 1) wide.count.0 (omega (arith, wide.grid.rows))).y)

@@ -1,6 +1,7 @@
-use Rattle.std.proofs.Common.{IsTrue}
+use Rattle.std.proofs.Common.{◌-◌, IsTrue, rules, arith}
 use Rattle.cam_shapes.specs.Cap.{is_in_cap}
-use Rattle.cam_tiles.proofs.TurnedMarks.{no_rows}
+use Rattle.cam_tiles.proofs.Fields.{field_rows}
+use Rattle.cam_tiles.proofs.TurnedMarks.{no_rows, runs_turned}
 use Rattle.cam_tiles.proofs.masks.turning.turn_cap.Goals as goal
 
 pub returns-then-band : goal.returns-then-band
@@ -9,9 +10,23 @@ returns-then-band c =
     (λ s. IsTrue (is_in_cap s c.args.cap.now)) c.args.marks.now c.if-band.true
     (rw c.levels.ensures.value at c.band-band.ensures.rows) c.heights.ensures
 
-pub turn_reached-requires-clause-rows : goal.turn_reached-requires-clause-rows
-turn_reached-requires-clause-rows c = λ row s on held.
-    ((rw c.levels.ensures.value at c.band-band.ensures.rows) row s on).1 (c.heights.ensures s held)
+pub height-requires-clause-row : goal.height-requires-clause-row
+height-requires-clause-row c =
+    rw c.levels-2.ensures.value (omega (arith, rw c.levels.ensures.value at c.band-band.ensures.end, c.if-band.false))
 
-pub turn_reached-requires-clause-low : goal.turn_reached-requires-clause-low
-turn_reached-requires-clause-low c = rw c.levels.ensures.value at c.band-band.ensures.end
+pub cap_runs-requires-clause-rows : goal.cap_runs-requires-clause-rows
+cap_runs-requires-clause-rows c =
+    let band = c.band-band.result in
+    let low = rw c.levels.ensures.value at c.band-band.ensures.end in
+    field_rows c.args.field.now band.first _ _ _ (band.end - band.first) _
+    (search rules) (search rules) (search rules) (omega (arith, low, c.if-band.false)) (search rules)
+
+pub returns : goal.returns
+returns c =
+    let band = c.band-band.result in
+    runs_turned c.args.field.now band.first band.end
+    (λ s. IsTrue (is_in_cap s c.args.cap.now)) _ _ _ c.args.marks.now c.mark_runs.new.marks
+    (search rules) (search rules) (search rules) (omega (arith, c.if-band.false)) c.requires.wide.room
+    (λ row s on held. ((rw c.levels.ensures.value at c.band-band.ensures.rows) row s on).1 (c.heights.ensures s held))
+    c.cap_runs.new.firsts c.cap_runs.new.ends
+    (search rules) c.cap_runs.ensures c.mark_runs.ensures

@@ -7,8 +7,8 @@ use Rattle.cam_tiles.specs.Machinery.Shown.{leaves_by_item}
 use Rattle.cam_tiles.proofs.ShownItems.{at_place}
 use Rattle.cam_tiles.proofs.shown.Shown.paint_item.Goals as goal
 
-pub returns-in-Gerber : goal.returns-in-Gerber
-returns-in-Gerber g c =
+pub returns-after-copies : goal.returns-after-copies
+returns-after-copies g c =
     let layer = c.in-Gerber.layer.now in
     let k = c.args.place in
     let canvas = g.C.Canvas in
@@ -17,6 +17,17 @@ returns-in-Gerber g c =
     let within = subst (λ (s : Shown). k < length (leaves_by_item s)) c.in-Gerber.is c.requires.within in
     subst (λ (s : Shown). IsPainted (get_or (leaves_by_item s) k [])) (sym c.in-Gerber.is)
     (at_place (item_leaves (meaning_in layer.apertures)) layer.items.items k IsPainted within c.paint_item.ensures)
+
+pub returns-in-Some-at : goal.returns-in-Some-at
+returns-in-Some-at g c =
+    let layer = c.in-Gerber.layer.now in
+    let k = c.args.place in
+    let canvas = g.C.Canvas in
+    let IsPainted = λ (leaves : List Leaf).
+    Paints canvas.has canvas.place canvas.ink c.args.canvas.now leaves c.paint_repeat.new.canvas in
+    let within = subst (λ (s : Shown). k < length (leaves_by_item s)) c.in-Gerber.is c.requires.within in
+    subst (λ (s : Shown). IsPainted (get_or (leaves_by_item s) k [])) (sym c.in-Gerber.is)
+    (at_place (item_leaves (meaning_in layer.apertures)) layer.items.items k IsPainted within c.paint_repeat.ensures)
 
 pub returns-in-Drill : goal.returns-in-Drill
 returns-in-Drill g c =

@@ -1,31 +1,43 @@
-use Rattle.std.proofs.Common.{sym, ap, subst, ◌∙◌, ◌-◌}
+use Rattle.std.proofs.Common.{◌≡◌, sym, subst, ◌-◌, FitsSigned, w64, rules}
+use Rattle.std.proofs.lemmas.Int.{to_z-of_z}
 use Rattle.cam_units.specs.Board.{IsPlace}
 use Rattle.cam_tiles.specs.Picture.{middle}
 use Rattle.cam_tiles.proofs.WindowLemmas.{accepted, near_fits, centre_cast}
+use Rattle.cam_tiles.proofs.window.Window.centre.Goals.{After-middle, After-middle-2}
 use Rattle.cam_tiles.proofs.window.Window.centre.Goals as goal
+
+across : (c : After-middle) → c.middle.result ≡ middle c.args.self.now.x c.args.self.now.pitch c.args.column
+across c =
+    let x : FitsSigned w64 c.args.self.now.x = search rules in
+    let pitch : FitsSigned w64 c.args.self.now.pitch = search rules in
+    simp to_z-of_z at c.middle.ensures
+
+up : (c : After-middle-2)
+    → c.middle-2.result ≡ middle c.args.self.now.y c.args.self.now.pitch (c.args.self.now.height - 1 - c.args.row)
+up c =
+    let y : FitsSigned w64 c.args.self.now.y = search rules in
+    let pitch : FitsSigned w64 c.args.self.now.pitch = search rules in
+    simp to_z-of_z at c.middle-2.ensures
 
 pub overflow_cast-result : goal.overflow_cast-result
 overflow_cast-result c =
     let w = c.args.self.now in
     let place = (accepted w c.requires.accepted).centres c.args.column c.args.row c.requires.column c.requires.row in
-    let across = c.middle.ensures ∙ ap (λ s. middle s.edge s.pitch c.args.column) c.columns.ensures in
-    near_fits c.middle.result (middle w.x w.pitch c.args.column) across place.x
+    near_fits c.middle.result (middle w.x w.pitch c.args.column) (across (goal.at.overflow_cast-result c).After-middle) place.x
 
 pub overflow_cast-result-2 : goal.overflow_cast-result-2
 overflow_cast-result-2 c =
     let w = c.args.self.now in
     let pixel = w.height - 1 - c.args.row in
     let place = (accepted w c.requires.accepted).centres c.args.column c.args.row c.requires.column c.requires.row in
-    let up = c.middle-2.ensures ∙ ap (λ s. middle s.edge s.pitch pixel) c.rows.ensures in
-    near_fits c.middle-2.result (middle w.y w.pitch pixel) up place.y
+    near_fits c.middle-2.result (middle w.y w.pitch pixel) (up (goal.at.overflow_cast-result-2 c).After-middle-2) place.y
 
 pub returns-clause-value : goal.returns-clause-value
 returns-clause-value c =
     let w = c.args.self.now in
     let place = (accepted w c.requires.accepted).centres c.args.column c.args.row c.requires.column c.requires.row in
     centre_cast w c.args.column c.args.row c.middle.result c.middle-2.result
-    (c.middle.ensures ∙ ap (λ s. middle s.edge s.pitch c.args.column) c.columns.ensures)
-    (c.middle-2.ensures ∙ ap (λ s. middle s.edge s.pitch (w.height - 1 - c.args.row)) c.rows.ensures) place
+    (across (goal.at.returns-clause-value c).After-middle) (up (goal.at.returns-clause-value c).After-middle-2) place
 
 pub returns-clause-place : goal.returns-clause-place
 returns-clause-place c =

@@ -1,3 +1,4 @@
+use Rattle.cam_tiles.proofs.FigureColumns.{tells_body}
 use Rattle.cam_tiles.proofs.masks.figure_runs.FigureRuns.find.Goals as goal
 
 pub returns-in-Obround : goal.returns-in-Obround
@@ -10,7 +11,9 @@ pub returns-in-Round : goal.returns-in-Round
 returns-in-Round c = rw c.in-Round.is c.find_round.ensures
 
 pub returns-in-Swept : goal.returns-in-Swept
-returns-in-Swept c = rw c.in-Swept.is c.find_swept.ensures
+returns-in-Swept c =
+    let none = c.clear.ensures in
+    rw c.in-Swept.is (tells_body _ _ _ c.find.new.self c.clear.new.self c.find.ensures none.hollow none.beyond none.start none.end)
 
 pub returns-in-Disc : goal.returns-in-Disc
 returns-in-Disc c = rw c.in-Disc.is c.find_pierced.ensures
@@ -24,5 +27,5 @@ find_straight-requires-clause-sound c = rw c.in-Straight.is at c.requires.sound.
 pub find_round-requires-clause-sound : goal.find_round-requires-clause-sound
 find_round-requires-clause-sound c = (rw c.in-Round.is at c.requires.sound.figure).0
 
-pub find_swept-requires-clause-sound : goal.find_swept-requires-clause-sound
-find_swept-requires-clause-sound c = rw c.in-Swept.is at c.requires.sound.figure
+pub find-requires-clause-sound : goal.find-requires-clause-sound
+find-requires-clause-sound c = rw c.in-Swept.is at c.requires.sound.figure

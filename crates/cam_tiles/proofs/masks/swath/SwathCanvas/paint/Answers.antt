@@ -1,4 +1,4 @@
-use Rattle.std.proofs.Common.{◌≡◌, ℕ, ◌/◌, ◌<◌, ◌≤◌, [], ◌∷◌, IsSome, refl, sym, subst, arith}
+use Rattle.std.proofs.Common.{◌≡◌, ◌↔◌, ℕ, ◌/◌, ◌<◌, ◌≤◌, [], ◌∷◌, IsSome, refl, sym, ap, subst, ◌∙◌, inl, inr, arith}
 use Rattle.cam_units.specs.Boxes.{Holds}
 use Rattle.cam_units.specs.declared.bounds.Bounds.{Bounds}
 use Rattle.cam_apertures.specs.declared.aperture.Aperture.{Aperture}
@@ -8,9 +8,12 @@ use Rattle.cam_objects.specs.Canvases.{leaf_of, shape_of}
 use Rattle.cam_objects.specs.Image.{Covers}
 use Rattle.cam_objects.specs.Leaves.{Stamp, leaf}
 use Rattle.cam_objects.proofs.Canvases.{paints_one}
+use Rattle.cam_tiles.specs.Machinery.Figures.{HasPart}
+use Rattle.cam_tiles.specs.Machinery.Inks.{Takes}
 use Rattle.cam_tiles.specs.Machinery.Swaths.{IsInSwath, PaintsSwath, Swathed, ink_in, place_in}
-use Rattle.cam_tiles.proofs.SwathInks.{some_ink}
-use Rattle.cam_tiles.proofs.masks.swath.SwathCanvas.paint.Goals.{After-tiles-tiles, then-columns-via-then-columns, then-columns-via-else-columns+then-is_decided}
+use Rattle.cam_tiles.specs.Tiles.{centre_in}
+use Rattle.cam_tiles.proofs.SwathInks.{clear_past_stays, covered, paints_taken, runs_cover, some_ink}
+use Rattle.cam_tiles.proofs.masks.swath.SwathCanvas.paint.Goals.{After-take_runs, After-tiles-tiles, then-columns-via-then-columns, then-columns-via-else-columns+then-is_decided}
 use Rattle.cam_tiles.proofs.masks.swath.SwathCanvas.paint.Goals as goal
 
 pub returns-in_default : goal.returns-in_default
@@ -31,6 +34,58 @@ returns-then-columns c =
       | then-columns-via-else-columns+then-is_decided w ↦ subst (λ (v : Swathed). IsSome (ink_in v column row)) c.self.view_is
           (some_ink _ _ (w.is_decided.ensures.0 w.if-is_decided.true row column here.1.0 here.1.1 here.0.0 here.0.1))
     ])
+
+pub find-requires-clause-grid : goal.find-requires-clause-grid
+find-requires-clause-grid c =
+    let columns = ap (λ (v : Swathed). v.columns) c.self.view_is in
+    c.self.invariant.wide (omega (arith, columns, c.if-columns.false, c.reached.ensures.left_of))
+
+-- the columns that the runs have are those that the figure covers
+told : (c : After-take_runs) (column row : ℕ) → column < c.self.inside.columns → row < c.self.inside.grid.rows
+    → HasPart c.find.new.self row column ↔ Covers (shape_of c.args.print.figure) (centre_in c.self.inside.grid column row)
+told c column row near below =
+    let here = c.find.ensures.each column row near below in
+    let same = c.in-Some.ensures.same (centre_in c.self.inside.grid column row) in
+    ((λ h. same.1 (here.0 h)), (λ h. here.1 (same.0 h)))
+
+-- what is taken
+taken : (c : After-take_runs)
+    → Takes 0 c.self.inside.inks.tiles
+    (covered (shape_of c.args.print.figure) c.self.inside.grid) c.args.print.dark c.self.inside.inks c.take_runs.new.inks
+taken c =
+    let s = c.self.inside in
+    let shape = shape_of c.args.print.figure in
+    c.take_runs.ensures (covered shape s.grid)
+    (runs_cover shape s.grid s.columns c.find.new.self s.inks (told c) c.self.invariant.outside)
+
+pub invariant_of-self : goal.invariant_of-self
+invariant_of-self c =
+    let s = c.self.inside in
+    let inv = c.self.invariant in
+    let takes = taken c in
+    record {
+      grid = inv.grid;
+      wide = inv.wide;
+      few = inv.few;
+      tiles = takes.tiles ∙ inv.tiles;
+      marks = omega (arith, inv.marks, takes.tiles);
+      spare = omega (arith, inv.spare, takes.tiles);
+      held = inv.held;
+      outside = clear_past_stays (shape_of c.args.print.figure) s.grid s.columns c.args.print.dark _ _ s.inks c.take_runs.new.inks
+          takes inv.outside;
+    }
+
+pub returns-in-Some : goal.returns-in-Some
+returns-in-Some c =
+    let s = c.self.inside in
+    let inv = c.self.invariant in
+    subst
+    (λ (v : Swathed). PaintsSwath v (leaf_of c.args.print ∷ []) (record { grid = s.grid; columns = s.columns; inks = c.take_runs.new.inks }))
+    c.self.view_is
+    (paints_taken (shape_of c.args.print.figure) s.grid s.columns c.args.print.dark 0 s.inks.tiles s.inks c.take_runs.new.inks
+    (taken (goal.at.returns-in-Some c).After-take_runs) inv.grid.rows.1 (omega (arith, inv.tiles))
+    (λ column row near below apart.
+    absurd (elim apart [ inl early ↦ omega (arith, early) | inr late ↦ omega (arith, late, near, inv.tiles) ])))
 
 -- all that a leaf covers lies in the tiles of the columns that its box reaches
 within : (c : After-tiles-tiles) (column row : ℕ) → IsInSwath c.args.self.now column row

@@ -2,8 +2,8 @@ use Rattle.std.proofs.Common.{◌+◌, ◌*◌, ◌<◌, ℕ, length, arith}
 use Rattle.cam_tiles.proofs.PartlyDrawn.{drawn_further}
 use Rattle.cam_tiles.proofs.RowsInOrder.{IsRowThere, begins, row_there}
 use Rattle.cam_tiles.proofs.TileCounts.{few_across, few_tiles, some_across}
-use Rattle.cam_tiles.proofs.drawing.draw_rows.Goals.{After-min-end, In-loop-row}
-use Rattle.cam_tiles.proofs.drawing.draw_rows.Goals as goal
+use Rattle.cam_tiles.proofs.drawing.draw_quickly.Goals.{After-min-end, In-loop-row}
+use Rattle.cam_tiles.proofs.drawing.draw_quickly.Goals as goal
 
 pub div_ceil-row-end-requires : goal.div_ceil-row-end-requires
 div_ceil-row-end-requires c =
@@ -14,7 +14,7 @@ here : (c : After-min-end) → IsRowThere c.args.window.now c.args.first c.loop-
 here c =
     let size : ℕ = length c.args.tiles.now in
     row_there c.args.window.now c.args.first c.loop-row.tiles size c.loop-row.row c.across-across.result c.min-end.result
-    c.requires.accepted c.across-across.ensures c.requires.left c.loop-row.auto.tiles c.requires.within
+    c.requires.accepted c.across-across.ensures (rw c.across-across.ensures at c.if-first-across-ne0.false) c.loop-row.auto.tiles c.requires.within
     (omega (arith, c.loop-row-test.true, c.div_ceil-row-end.ensures))
     (omega (arith, c.min-end.ensures, c.loop-row.auto.tiles))
 

@@ -4,7 +4,7 @@ use Rattle.cam_shapes.specs.declared.segments.Seg.{Seg}
 use Rattle.cam_objects.specs.Leaves.{origin}
 use Rattle.cam_tiles.proofs.TurnedContours.{TurnsBut, placed}
 use Rattle.cam_tiles.proofs.TurnedMasks.{TurnsSo}
-use Rattle.cam_tiles.proofs.masks.mask.Mask.turn_contour.Given as goal
+use Rattle.cam_tiles.proofs.masks.mask.Mask.fill.Given as goal
 
 -- the marks are turned over by all segments but those that are left
 abbrev pub invariant-loop-seg : goal.invariant-loop-seg
@@ -13,5 +13,5 @@ invariant-loop-seg l =
     record {
       on_board : IsOnBoard l.here;
       turned : TurnsBut (TurnsSo origin.offset) l.start l.here (segs (drop l.seg-index l.seg-items)) (segs l.seg-items)
-          l.fn.self l.self;
+          l.initial.inside l.inside;
     }

@@ -5,7 +5,7 @@ use Rattle.std.proofs.lemmas.Int.{fits_signed_from_abs, ints, unsigned_abs-mul}
 use Rattle.std.proofs.lemmas.Nat.{mul-le}
 use Rattle.cam_shapes.proofs.Widths.{wide}
 use Rattle.cam_tiles.proofs.WindowLemmas.{middle_kept, middle_fits, kept_middle}
-use Rattle.cam_tiles.proofs.window.Side.middle.Goals as goal
+use Rattle.cam_tiles.proofs.window.middle.Goals as goal
 
 product_fits : (n p : ℤ) → unsigned_abs n ≤ 2 ^ 34 → unsigned_abs p ≤ 2 ^ 63 → FitsSigned w128 (wide n *ℤ wide p)
 product_fits n p h k =
@@ -17,23 +17,21 @@ product_fits n p h k =
 
 pub overflow_mul-result-2 : goal.overflow_mul-result-2
 overflow_mul-result-2 c =
-    let pitch : FitsSigned w64 c.args.self.pitch = search rules in
+    let pitch : FitsSigned w64 c.args.pitch = search rules in
     product_fits c.from-3.result c.from-4.result (omega (arith, ints)) (omega (arith, ints, pitch))
 
 pub overflow_add-result : goal.overflow_add-result
 overflow_add-result c =
-    let s = c.args.self in
-    let edge : FitsSigned w64 s.edge = search rules in
-    let pitch : FitsSigned w64 s.pitch = search rules in
-    let middle = middle_kept c.from.result c.from-3.result c.from-4.result s.edge s.pitch c.args.pixel
+    let edge : FitsSigned w64 c.args.edge = search rules in
+    let pitch : FitsSigned w64 c.args.pitch = search rules in
+    let middle = middle_kept c.from.result c.from-3.result c.from-4.result c.args.edge c.args.pitch c.args.pixel
     (omega (arith, ints)) (omega (arith, ints)) (omega (arith, ints)) edge (omega arith) pitch in
-    middle_fits _ s.edge s.pitch c.args.pixel middle edge (omega arith) pitch
+    middle_fits _ c.args.edge c.args.pitch c.args.pixel middle edge (omega arith) pitch
 
 pub returns : goal.returns
 returns c =
-    let s = c.args.self in
-    let edge : FitsSigned w64 s.edge = search rules in
-    let pitch : FitsSigned w64 s.pitch = search rules in
-    let middle = middle_kept c.from.result c.from-3.result c.from-4.result s.edge s.pitch c.args.pixel
+    let edge : FitsSigned w64 c.args.edge = search rules in
+    let pitch : FitsSigned w64 c.args.pitch = search rules in
+    let middle = middle_kept c.from.result c.from-3.result c.from-4.result c.args.edge c.args.pitch c.args.pixel
     (omega (arith, ints)) (omega (arith, ints)) (omega (arith, ints)) edge (omega arith) pitch in
-    kept_middle _ s.edge s.pitch c.args.pixel middle edge (omega arith) pitch
+    kept_middle _ c.args.edge c.args.pitch c.args.pixel middle edge (omega arith) pitch

@@ -4,7 +4,7 @@ use Rattle.cam_tiles.specs.Machinery.Shown.{leaves_of}
 use Rattle.cam_tiles.specs.Tables.{all_drawn_from}
 use Rattle.cam_tiles.specs.Tiles.{grid_of, tile_rows}
 use Rattle.cam_tiles.proofs.TilesInOrder.{drawn_on}
-use Rattle.cam_tiles.proofs.drawing.draw_left.Given as goal
+use Rattle.cam_tiles.proofs.drawing.draw.Given as goal
 
 abbrev pub invariant-loop-k : goal.invariant-loop-k
 invariant-loop-k l =

@@ -1,7 +1,7 @@
 use Rattle.std.proofs.Common.{arith}
 use Rattle.std.proofs.lemmas.Int.{clamps, ints}
 use Rattle.cam_tiles.proofs.EdgeSpans.{between_ends}
-use Rattle.cam_tiles.proofs.masks.segments.crossed_heights.Goals as goal
+use Rattle.cam_tiles.proofs.masks.heights.crossed_heights.Goals as goal
 
 pub returns : goal.returns
 returns c =

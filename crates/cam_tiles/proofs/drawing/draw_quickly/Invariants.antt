@@ -5,7 +5,7 @@ use Rattle.cam_tiles.specs.Machinery.Drawn.{IsPartlyDrawn}
 use Rattle.cam_tiles.specs.Machinery.Indexes.{IsIndexOf}
 use Rattle.cam_tiles.specs.Machinery.Shown.{leaves_of}
 use Rattle.cam_tiles.specs.Tiles.{grid_of, tile_rows}
-use Rattle.cam_tiles.proofs.drawing.draw_rows.Given as goal
+use Rattle.cam_tiles.proofs.drawing.draw_quickly.Given as goal
 
 abbrev pub invariant-loop-row : goal.invariant-loop-row
 invariant-loop-row l =
