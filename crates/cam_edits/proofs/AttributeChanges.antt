@@ -20,7 +20,7 @@ use Rattle.cam_edits.specs.AttributeLaws.{AttributeLaw, ChangesAttributes, IsOfA
 use Rattle.cam_edits.specs.AttributeLaws.{without_attribute}
 use Rattle.cam_edits.specs.Boards.{changed_at, content_at, content_or_empty, place_named, with_content}
 use Rattle.cam_edits.specs.Editing.{edited, edited_at, edited_sheet, judged_change, judged_drill, drill_step_of, step_of}
-use Rattle.cam_edits.specs.Editing.{with_drill_step, with_step}
+use Rattle.cam_edits.specs.Editing.{with_drill, with_gerber, with_step}
 use Rattle.cam_edits.specs.Images.{sheet_leaves}
 use Rattle.cam_edits.specs.Machinery.PlaceLaws.{changed_is, element_at, get_changed}
 use Rattle.cam_edits.specs.Sheets.{Content, Gerber, Drill, Sheet, sheet}
@@ -155,7 +155,7 @@ module _ (change : Change) (is : IsOfAttributes change) (sheets after : List She
       }
 
   stepped : (c : GerberContent) → s.content ≡ Gerber c → (r : Result Step EditFault) → judged_change c change ≡ r
-      → with_step sheets place c r ≡ Ok after → HasChanged (Gerber c)
+      → with_step (with_gerber c) sheets place r ≡ Ok after → HasChanged (Gerber c)
   stepped c holds (Ok step) judgement e =
       let told = change_accepted c change step judgement in
       let made = gives c change is step told.0 in
@@ -166,7 +166,7 @@ module _ (change : Change) (is : IsOfAttributes change) (sheets after : List She
   sheet_edited : (c : Content) → s.content ≡ c → edited_sheet change sheets place c ≡ Ok after → HasChanged c
   sheet_edited (Gerber c) holds e = stepped c holds (judged_change c change) refl e
   sheet_edited (Drill c) holds e =
-      let never = sym (ap (λ o. with_drill_step sheets place c (judged_drill c o)) (no_drill change is)) ∙ e in absurd cc
+      let never = sym (ap (λ o. with_step (with_drill c) sheets place (judged_drill c o)) (no_drill change is)) ∙ e in absurd cc
 
 module _ (change : Change) (is : IsOfAttributes change) (name : List ℕ) (sheets after : List Sheet) where
   edited_there : (o : Option ℕ) → position (λ (s : Sheet). bytes_eq s.name name) sheets ≡ o

@@ -78,10 +78,6 @@ module _ (c : Content) (key fields : List ℕ) where
       (Some (set_step (attribute_place key c.attributes)))
 
   module _ (good : is_key key ≡ true) where
-    pub bad_fields : are_fields fields ≡ false → Err AttributeRefused ≡ judged_change c (SetAttribute key fields)
-    bad_fields e =
-        sym (ap (λ named. told named (are_fields fields) has_room) good ∙ ap (λ written. told true written has_room) e)
-
     module _ (written : are_fields fields ≡ true) where
       by_room : (room : Bool) → has_room ≡ room → judged_change c (SetAttribute key fields) ≡ told true true room
       by_room room e =
@@ -135,9 +131,6 @@ module _ (c : Content) (key : List ℕ) where
         → judged_change c (DropAttribute key) ≡ drop_told true place
     by_place place at =
         ap (λ named. drop_told named (attribute_place key c.attributes)) good ∙ ap (drop_told true) (sym at)
-
-    pub nothing_dropped : None ≡ attribute_place key c.attributes → Err NoAttribute ≡ judged_change c (DropAttribute key)
-    nothing_dropped at = sym (by_place None at)
 
     pub dropped : (k : ℕ) → Some k ≡ attribute_place key c.attributes → Ok (TakeAttribute k) ≡ judged_change c (DropAttribute key)
     unfolding step_checks

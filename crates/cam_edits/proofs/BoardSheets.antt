@@ -1,9 +1,9 @@
 -- The sheets that a board keeps, one of them with other content.
-use Rattle.std.specs.Prelude.{◌↔◌, Bool, false, true, IsTrue, ◌≤◌, ◌<◌}
+use Rattle.std.specs.Prelude.{◌<◌}
 use Rattle.std.proofs.Common.{◌≡◌, ℕ, zero, suc, ◌≢◌, List, [], ◌∷◌, length, map, get_or, Option, Some, refl, ap, sym, subst, ◌∙◌, arith}
 use Rattle.std.proofs.Math.Seq.{map-set_same}
 use Rattle.std.proofs.lemmas.List.{length-map, map-set}
-use Rattle.std.proofs.lemmas.Option.{slice_get-map, slice_get_past, slice_get_read}
+use Rattle.std.proofs.lemmas.Option.{slice_get-map, slice_get_read}
 use Rattle.std.specs.List.{slice_get, slice_set}
 use Rattle.std.specs.Option.{MatchOption, option_map}
 use Rattle.cam_edits.specs.declared.board.Sheet.{Sheet as KeptSheet}
@@ -27,18 +27,6 @@ sheet_place_within P xs k h =
 pub sheet_at : (P : Sheet → Type 0) (xs : List KeptSheet) (k : ℕ) (s : KeptSheet) → HasAt P (map sheet_of xs) k
     → s ≡ get_or xs k s → slice_get xs k ≡ Some s
 sheet_at P xs k s h read = slice_get_read xs (length xs) k s refl (sheet_place_within P xs k h) read
-
--- whether they are as told at a place
-pub fits_there : (P : Sheet → Type 0) (xs : List KeptSheet) (k : ℕ) (s : KeptSheet) (answer : Bool) → k < length xs
-    → s ≡ get_or xs k s → (IsTrue answer ↔ P (sheet_of s)) → IsTrue answer ↔ HasAt P (map sheet_of xs) k
-fits_there P xs k s answer place read told =
-    let there = slice_get_read xs (length xs) k s refl place read in
-    let seen = slice_get-map sheet_of xs k ∙ ap (option_map sheet_of) there in rw seen told
-
-pub no_place : (P : Sheet → Type 0) (xs : List KeptSheet) (k : ℕ) → length xs ≤ k → IsTrue false ↔ HasAt P (map sheet_of xs) k
-no_place P xs k past =
-    let seen = slice_get-map sheet_of xs k ∙ ap (option_map sheet_of) (slice_get_past xs k past) in
-    rw seen (λ h. let wrong : false ≡ true = h in cc, λ h. absurd h)
 
 pub same_length : (xs ys : List KeptSheet) → map sheet_of xs ≡ map sheet_of ys → length xs ≡ length ys
 same_length xs ys e = sym (length-map xs sheet_of) ∙ ap length e ∙ length-map ys sheet_of

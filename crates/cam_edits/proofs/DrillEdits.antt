@@ -1,6 +1,6 @@
 -- How edits of a drill layer are judged, and that those without a refusal fit.
 use Rattle.std.proofs.Common.{◌≡◌, ◌↔◌, ℕ, ◌≤◌, Bool, true, false, not, cond, nat_le, nat_lt, IsTrue, List, [], ◌∷◌, ◌++◌}
-use Rattle.std.proofs.Common.{length, sum_by, Option, None, Some, Result, Ok, Err, refl, ap, sym, subst, ◌∙◌, arith}
+use Rattle.std.proofs.Common.{length, max, sum_by, Option, None, Some, Result, Ok, Err, ap, sym, subst, ◌∙◌, arith}
 use Rattle.std.specs.Prelude.{insert, slice_get}
 use Rattle.std.specs.List.{All}
 use Rattle.std.proofs.lemmas.Bool.{false_from_ne_true, leb-true}
@@ -19,18 +19,17 @@ use Rattle.cam_objects.specs.declared.drill_item.DrillItem.{DrillItem}
 use Rattle.cam_objects.specs.declared.item_fault.ItemFault.{ItemFault}
 use Rattle.cam_edits.specs.declared.drill_step.DrillStep.{DrillStep}
 use Rattle.cam_edits.specs.declared.drill_step.DrillStep.TheVariants.{Insert, Delete, Move, Reorder, Tool, Diameter}
-use Rattle.cam_edits.specs.declared.fault.EditFault.{EditFault}
-use Rattle.cam_edits.specs.declared.fault.EditFault.TheVariants.{NoItem, OutOfBoard, TooMuch}
+use Rattle.cam_edits.specs.declared.fault.EditFault.TheVariants.{NoItem, OutOfBoard}
 use Rattle.cam_edits.specs.DrillSteps.{IsDrillFit}
-use Rattle.cam_edits.specs.Editing.{drill_step_checks, drill_step_unless, has_tool, judged_drill, move_drill_checks}
-use Rattle.cam_edits.specs.Machinery.Judging.{drill_step_answer, insertion_answer}
+use Rattle.cam_edits.specs.Editing.{drill_step_checks, has_tool, move_drill_checks}
+use Rattle.cam_edits.specs.Machinery.Judging.{drill_step_answer, item_answer, place_answer}
 use Rattle.cam_edits.specs.Moving.{IsMovableDrillItem, way}
 use Rattle.cam_objects.proofs.SoundItems.{none_told}
 use Rattle.cam_objects.proofs.TestLaws.{all_on_board, limit_law, same_test}
 use Rattle.cam_edits.proofs.EditedLists.{all_here}
 use Rattle.cam_edits.proofs.ItemMoves.{movable_drill_item, shiftable_way, short_drill_item}
 use Rattle.cam_edits.proofs.MetSteps.{IsDrillMet, drill_met}
-use Rattle.cam_edits.proofs.Refusals.{has_at, has_its_place, in_one_drill_order, limited}
+use Rattle.cam_edits.proofs.Refusals.{by_room, farther_place, has_at, in_one_drill_order}
 
 -- ---- the limits of a drill layer with an item more
 
@@ -64,42 +63,39 @@ module _ (c : DrillContent) where
     abbrev room_there : Bool
     room_there = keeps_drill_limits (insert c.items k item)
 
-    abbrev by_answer : Result Unit EditFault → Bool → Result Unit EditFault
-    by_answer answer room = answer_of (limited answer room)
-
-    insertion_is : drill_step_answer c (Insert k item) ≡ by_answer (insertion_answer told has_place) room_there
+    insertion_is : drill_step_answer c (Insert k item) ≡ item_answer told has_place room_there
     unfolding drill_step_checks drill_item_checks
     insertion_is =
         let points = drill_points_of item in
         ap answer_of
         (in_one_drill_order (nat_lt 0 (length points)) (nat_le k (length c.items)) (has_tool c (tool_of item))
         (are_on_board points) (nat_le (length points) 1000000) room_there)
-        ∙ (ap (λ r. by_answer (insertion_answer r (nat_le k (length c.items))) room_there) (sym tells)
-        ∙ ap (λ p. by_answer (insertion_answer told p) room_there) (sym at))
+        ∙ (ap (λ r. item_answer r (nat_le k (length c.items)) room_there) (sym tells)
+        ∙ ap (λ p. item_answer told p room_there) (sym at))
 
-    pub insertion_refused : (fault : EditFault) → insertion_answer told has_place ≡ Err fault
-        → Err fault ≡ drill_step_answer c (Insert k item)
-    insertion_refused fault e = sym (insertion_is ∙ ap (λ r. by_answer r room_there) e)
-
-    module _ (done : Unit) (e : insertion_answer told has_place ≡ Ok done) (room : Bool)
-        (kept : IsTrue room ↔ KeepsDrillLimits (c.items ++ item ∷ [])) where
-      same_room : room_there ≡ room
-      same_room =
-          let within : k ≤ length c.items =
-          leb-true k (length c.items) (sym at ∙ has_its_place told has_place done e) in
+    module _ (room : Bool) (kept : IsTrue room ↔ KeepsDrillLimits (c.items ++ item ∷ [])) where
+      same_room : has_place ≡ true → room_there ≡ room
+      same_room there =
+          let within : k ≤ length c.items = leb-true k (length c.items) (sym at ∙ there) in
           let anywhere = limits_anywhere c.items k item within in
           let law = limit_law.drill_layer (insert c.items k item) in
           same_test room_there room (λ t. anywhere.1 (law.0 t), λ h. law.1 (anywhere.0 h)) kept
 
-      by_room : (b : Bool) → room ≡ b → by_answer (Ok done) b ≡ drill_step_answer c (Insert k item)
-      by_room b a =
-          sym (insertion_is ∙ (ap (λ r. by_answer r room_there) e ∙ ap (by_answer (Ok done)) (same_room ∙ a)))
+      pub inserted : item_answer told has_place room ≡ drill_step_answer c (Insert k item)
+      inserted = sym (insertion_is ∙ by_room told has_place room_there room same_room)
 
-      pub insertion_limited : room ≡ false → Err TooMuch ≡ drill_step_answer c (Insert k item)
-      insertion_limited = by_room false
+  -- ---- places
 
-      pub inserted : room ≡ true → Ok tt ≡ drill_step_answer c (Insert k item)
-      inserted = by_room true
+  pub deleted : (count k : ℕ) → count ≡ length c.items → place_answer count k ≡ drill_step_answer c (Delete k)
+  unfolding drill_step_checks
+  deleted count k e = ap (λ n. place_answer n k) e
+
+  pub reordered : (count k m : ℕ) → count ≡ length c.items
+      → place_answer count (max k m) ≡ drill_step_answer c (Reorder k m)
+  unfolding drill_step_checks
+  reordered count k m e =
+      ap (λ n. place_answer n (max k m)) e
+      ∙ ap (λ b. answer_of (first_holding ((NoItem, not b) ∷ []))) (farther_place k m (length c.items))
 
   -- ---- moves
 
@@ -156,33 +152,6 @@ module _ (c : DrillContent) where
   fits (Tool k t) h m = m.0
   fits (Diameter t d) h m = m.0
 
-  -- a step that is answered is that of the edit, and nothing refuses it
-  pub accepted : (o : Option DrillStep) (step : DrillStep) → judged_drill c o ≡ Ok step
-      → (o ≡ Some step) × (first_holding (drill_step_checks c step) ≡ None)
-  accepted None step e = absurd cc
-  accepted (Some asked) step e = go (first_holding (drill_step_checks c asked)) refl e where
-    go : (told : Option EditFault) → first_holding (drill_step_checks c asked) ≡ told
-        → drill_step_unless c asked told ≡ Ok step
-        → (Some asked ≡ Some step) × (first_holding (drill_step_checks c step) ≡ None)
-    go None is e =
-        let same : asked ≡ step = cc in
-        (ap Some same, subst (λ s. first_holding (drill_step_checks c s) ≡ None) same is)
-    go (Some fault) is e = absurd cc
-
-  -- an answer of the checks of a step is that of the step
-  pub refused : (step : DrillStep) (fault : EditFault) → Err fault ≡ drill_step_answer c step
-      → Err fault ≡ judged_drill c (Some step)
-  refused step fault e = go (first_holding (drill_step_checks c step)) e where
-    go : (told : Option EditFault) → Err fault ≡ answer_of told → Err fault ≡ drill_step_unless c step told
-    go None e = absurd cc
-    go (Some other) e = cc
-
-  module _ (step : DrillStep) (done : Unit) (e : Ok done ≡ drill_step_answer c step) where
-    none : first_holding (drill_step_checks c step) ≡ None
-    none = none_told (first_holding (drill_step_checks c step)) done e
-
-    pub passes : Ok step ≡ judged_drill c (Some step)
-    passes = sym (ap (drill_step_unless c step) none)
-
-    pub passes_fits : IsSoundDrillContent c.tools c.items → IsDrillFit step c
-    passes_fits h = fits step h (drill_met c step none)
+  pub passes_fits : (step : DrillStep) (done : Unit) → Ok done ≡ drill_step_answer c step
+      → IsSoundDrillContent c.tools c.items → IsDrillFit step c
+  passes_fits step done e h = fits step h (drill_met c step (none_told (first_holding (drill_step_checks c step)) done e))

@@ -12,20 +12,20 @@ use Rattle.cam_edits.specs.declared.step.Step.{Step}
 use Rattle.cam_edits.specs.BoxLaws.{ChangesInside, EditBoxLaw}
 use Rattle.cam_edits.specs.Boards.{changed_at, content_at, content_or_empty, place_named, with_content}
 use Rattle.cam_edits.specs.DrillSteps.{after_drill_step}
-use Rattle.cam_edits.specs.Editing.{drill_step_of, edited, edited_at, edited_sheet, judged_change, judged_drill}
-use Rattle.cam_edits.specs.Editing.{with_drill_step, with_step}
+use Rattle.cam_edits.specs.Editing.{drill_step_checks, drill_step_of, edited, edited_at, edited_sheet, judged_change}
+use Rattle.cam_edits.specs.Editing.{judged_drill, with_drill, with_gerber, with_step}
 use Rattle.cam_edits.specs.Images.{image_of}
 use Rattle.cam_edits.specs.Machinery.PlaceLaws.{get_set}
 use Rattle.cam_edits.specs.Places.{changed_to}
 use Rattle.cam_edits.specs.Sheets.{Content, Gerber, Drill, Sheet, sheet}
 use Rattle.cam_edits.specs.Steps.{after_step}
 use Rattle.cam_edits.specs.Touches.{Touch, boxes_in, boxes_of_drill_step, boxes_of_step, touch_at, touch_of_edit}
-use Rattle.cam_edits.proofs.DrillEdits as drill_edits
 use Rattle.cam_edits.proofs.DrillStepBoxes.{drill_step_keeps_outside}
 use Rattle.cam_edits.proofs.EditedLists.{get_other}
 use Rattle.cam_edits.proofs.FittingEdits as fitting_edits
 use Rattle.cam_edits.proofs.GerberStepBoxes.{step_keeps_outside}
 use Rattle.cam_edits.proofs.RedrawnItems.{AreOff}
+use Rattle.cam_edits.proofs.Refusals.{accepted as accepted_step}
 use Rattle.cam_edits.proofs.MetSteps.{drill_met, met}
 
 abbrev touch : ℕ → List Bounds → Touch
@@ -72,7 +72,7 @@ gerber_kept c change step e s off =
 drill_kept : (c : DrillContent) (o : Option DrillStep) (step : DrillStep) → judged_drill c o ≡ Ok step
     → KeepsOutside (boxes_of_drill_step o c) (Drill c) (Drill (after_drill_step step c))
 drill_kept c o step e s off =
-    let told = drill_edits.accepted c o step e in
+    let told = accepted_step (drill_step_checks c) o step e in
     drill_step_keeps_outside c step (drill_met c step told.1) s
     (subst (λ (o : Option DrillStep). AreOff s (boxes_of_drill_step o c)) told.0 off)
 
@@ -80,30 +80,21 @@ module _ (change : Change) (sheets after : List Sheet) (place : ℕ) where
   abbrev IsInside : Content → Type 0
   IsInside c = ChangesInside (touch place (boxes_in change c)) sheets after
 
-  stepped : (c : GerberContent) → content_at sheets place ≡ Gerber c → (r : Result Step EditFault)
-      → judged_change c change ≡ r
-      → with_step sheets place c r ≡ Ok after → IsInside (Gerber c)
-  stepped c holds (Ok step) judgement e =
-      let boxes = boxes_in change (Gerber c) in
-      let new = Gerber (after_step step c) in
-      let keeps = gerber_kept c change step judgement in
-      put_at sheets place boxes new after (subst (λ old. KeepsOutside boxes old new) (sym holds) keeps) e
-  stepped c holds (Err fault) judgement e = absurd cc
-
-  drill_stepped : (c : DrillContent) → content_at sheets place ≡ Drill c → (r : Result DrillStep EditFault)
-      → judged_drill c (drill_step_of change) ≡ r
-      → with_drill_step sheets place c r ≡ Ok after → IsInside (Drill c)
-  drill_stepped c holds (Ok step) judgement e =
-      let boxes = boxes_in change (Drill c) in
-      let new = Drill (after_drill_step step c) in
-      let keeps = drill_kept c (drill_step_of change) step judgement in
-      put_at sheets place boxes new after (subst (λ old. KeepsOutside boxes old new) (sym holds) keeps) e
-  drill_stepped c holds (Err fault) judgement e = absurd cc
+  stepped : {S : Type 0} (new : S → Content) (c : Content) → content_at sheets place ≡ c → (r : Result S EditFault)
+      → ((step : S) → r ≡ Ok step → KeepsOutside (boxes_in change c) c (new step))
+      → with_step new sheets place r ≡ Ok after → IsInside c
+  stepped new c holds (Ok step) keeps e =
+      let boxes = boxes_in change c in
+      put_at sheets place boxes (new step) after
+      (subst (λ old. KeepsOutside boxes old (new step)) (sym holds) (keeps step refl)) e
+  stepped new c holds (Err fault) keeps e = absurd cc
 
   sheet_edited : (c : Content) → content_at sheets place ≡ c → edited_sheet change sheets place c ≡ Ok after
       → IsInside c
-  sheet_edited (Gerber c) holds e = stepped c holds (judged_change c change) refl e
-  sheet_edited (Drill c) holds e = drill_stepped c holds (judged_drill c (drill_step_of change)) refl e
+  sheet_edited (Gerber c) holds e =
+      stepped (with_gerber c) (Gerber c) holds (judged_change c change) (gerber_kept c change) e
+  sheet_edited (Drill c) holds e =
+      stepped (with_drill c) (Drill c) holds (judged_drill c (drill_step_of change)) (drill_kept c (drill_step_of change)) e
 
 board_edited : (change : Change) (sheets after : List Sheet) (o : Option ℕ) → edited_at change sheets o ≡ Ok after
     → ChangesInside (touch_at change sheets o) sheets after

@@ -1,7 +1,7 @@
 -- Edits of a Gerber layer that are not refused: their steps fit.
 use Rattle.std.proofs.Common.{◌≡◌, true}
-use Rattle.std.proofs.Common.{Option, None, Some, Ok, Err, refl, ap, sym, subst}
-use Rattle.cam_refusals.specs.Checks.{answer_of, first_holding}
+use Rattle.std.proofs.Common.{Option, None, Some, Ok, refl}
+use Rattle.cam_refusals.specs.Checks.{first_holding}
 use Rattle.cam_objects.specs.Contents.{Content}
 use Rattle.cam_objects.specs.Soundness.{IsSoundContent, IsSoundItem}
 use Rattle.cam_objects.specs.declared.item.Item.{Item}
@@ -15,14 +15,14 @@ use Rattle.cam_edits.specs.declared.step.Step.TheVariants.{Insert, Delete, Move,
 use Rattle.cam_edits.specs.declared.step.Step.TheVariants.{PutAttribute, TakeAttribute, SetFields}
 use Rattle.cam_edits.specs.AttributeEdits.{attribute_checks}
 use Rattle.cam_edits.specs.Editing.{has_aperture, has_polarity, judged, judged_change}
-use Rattle.cam_edits.specs.Editing.{judged_unless, step_checks, step_of, step_unless}
+use Rattle.cam_edits.specs.Editing.{judged_unless, step_checks, step_of}
 use Rattle.cam_edits.specs.Machinery.Judging.{IsItemStep, step_answer}
 use Rattle.cam_edits.specs.Moving.{IsMovableItem, way}
 use Rattle.cam_edits.specs.Steps.{HasAperture, IsFit, IsOne}
 use Rattle.cam_edits.proofs.EditedLists.{all_here}
 use Rattle.cam_edits.proofs.ItemMoves.{movable_item, shiftable_way, short_item}
 use Rattle.cam_edits.proofs.MetSteps.{IsMet, met}
-use Rattle.cam_edits.proofs.Refusals.{has_at}
+use Rattle.cam_edits.proofs.Refusals.{accepted, has_at}
 
 module _ (c : Content) where
   -- ---- an edit of items
@@ -54,34 +54,9 @@ module _ (c : Content) where
   fits (TakeAttribute k) is h m = absurd is
   fits (SetFields k fields) is h m = absurd is
 
-  -- a step that is answered is that of the edit, and nothing refuses it
-  pub accepted : (o : Option Step) (step : Step) → judged c o ≡ Ok step
-      → (o ≡ Some step) × (first_holding (step_checks c step) ≡ None)
-  accepted None step e = absurd cc
-  accepted (Some asked) step e = go (first_holding (step_checks c asked)) refl e where
-    go : (told : Option EditFault) → first_holding (step_checks c asked) ≡ told → step_unless c asked told ≡ Ok step
-        → (Some asked ≡ Some step) × (first_holding (step_checks c step) ≡ None)
-    go None is e =
-        let same : asked ≡ step = cc in
-        (ap Some same, subst (λ s. first_holding (step_checks c s) ≡ None) same is)
-    go (Some fault) is e = absurd cc
-
-  -- an answer of the checks of a step is that of the step
-  pub refused : (step : Step) (fault : EditFault) → Err fault ≡ step_answer c step → Err fault ≡ judged c (Some step)
-  refused step fault e = go (first_holding (step_checks c step)) e where
-    go : (told : Option EditFault) → Err fault ≡ answer_of told → Err fault ≡ step_unless c step told
-    go None e = absurd cc
-    go (Some other) e = cc
-
-  module _ (step : Step) (done : Unit) (e : Ok done ≡ step_answer c step) where
-    none : first_holding (step_checks c step) ≡ None
-    none = none_told (first_holding (step_checks c step)) done e
-
-    pub passes : Ok step ≡ judged c (Some step)
-    passes = sym (ap (step_unless c step) none)
-
-    pub passes_fits : IsItemStep step → IsSoundContent c.entries c.items → IsFit step c
-    passes_fits item h = fits step item h (met c step none)
+  pub passes_fits : (step : Step) (done : Unit) → Ok done ≡ step_answer c step → IsItemStep step
+      → IsSoundContent c.entries c.items → IsFit step c
+  passes_fits step done e item h = fits step item h (met c step (none_told (first_holding (step_checks c step)) done e))
 
   -- ---- changes
 
@@ -98,4 +73,4 @@ module _ (c : Content) where
 
     pub change_accepted : (step_of c.attributes change ≡ Some step) × (first_holding (step_checks c step) ≡ None)
     change_accepted =
-        accepted (step_of c.attributes change) step (answered (first_holding (attribute_checks c.attributes change)) refl e).1
+        accepted (step_checks c) (step_of c.attributes change) step (answered (first_holding (attribute_checks c.attributes change)) refl e).1

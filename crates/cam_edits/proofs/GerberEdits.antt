@@ -1,6 +1,6 @@
 -- How edits of a Gerber layer are judged.
 use Rattle.std.proofs.Common.{◌≡◌, ◌↔◌, ℕ, ◌≤◌, Bool, true, false, ◌&&◌, not, cond, nat_le, IsTrue, List, [], ◌∷◌, ◌++◌}
-use Rattle.std.proofs.Common.{length, sum_by, Option, None, Some, Result, Ok, Err, refl, ap, sym, subst, ◌∙◌, arith}
+use Rattle.std.proofs.Common.{length, max, sum_by, Option, None, Some, Result, Ok, Err, refl, ap, sym, subst, ◌∙◌, arith}
 use Rattle.std.specs.Prelude.{insert, slice_get, slice_set}
 use Rattle.std.proofs.lemmas.Bool.{false_from_ne_true, leb-true}
 use Rattle.std.proofs.lemmas.List.{length-append}
@@ -22,16 +22,17 @@ use Rattle.cam_edits.specs.declared.fault.EditFault.{EditFault}
 use Rattle.cam_edits.specs.declared.fault.EditFault.TheVariants.{NoItem, HasNone, NoAperture, WrongAperture, SizeRefused}
 use Rattle.cam_edits.specs.declared.fault.EditFault.TheVariants.{OutOfBoard, TooMuch}
 use Rattle.cam_edits.specs.declared.step.Step.{Step}
-use Rattle.cam_edits.specs.declared.step.Step.TheVariants.{Insert, Move, Aperture, Polarity}
+use Rattle.cam_edits.specs.declared.step.Step.TheVariants.{Insert, Delete, Move, Reorder, Aperture, Polarity}
 use Rattle.cam_edits.specs.Editing.{aperture_checks, has_aperture, has_polarity, move_checks, polarity_checks}
 use Rattle.cam_edits.specs.Editing.{step_checks}
-use Rattle.cam_edits.specs.Machinery.Judging.{insertion_answer, item_refusal, other_aperture, placed, step_answer}
+use Rattle.cam_edits.specs.Machinery.Judging.{item_answer, other_aperture}
+use Rattle.cam_edits.specs.Machinery.Judging.{place_answer, step_answer}
 use Rattle.cam_edits.specs.Places.{changed, changed_to}
 use Rattle.cam_edits.specs.Steps.{with_aperture, with_object}
 use Rattle.cam_objects.proofs.TestLaws.{inside_law, limit_law, same_test}
 use Rattle.cam_edits.proofs.EditedLists.{all_here}
 use Rattle.cam_edits.proofs.ItemMoves.{short_item}
-use Rattle.cam_edits.proofs.Refusals.{checked, has_its_place, in_one_order, limited}
+use Rattle.cam_edits.proofs.Refusals.{by_room, checked, farther_place, in_one_order}
 
 -- ---- the limits of a layer with an item more
 
@@ -98,42 +99,38 @@ module _ (c : Content) where
     abbrev room_there : Bool
     room_there = keeps_limits c.entries (insert c.items k item)
 
-    abbrev by_answer : Result Unit EditFault → Bool → Result Unit EditFault
-    by_answer answer room = answer_of (limited answer room)
-
-    insertion_is : step_answer c (Insert k item) ≡ by_answer (insertion_answer told has_place) room_there
+    insertion_is : step_answer c (Insert k item) ≡ item_answer told has_place room_there
     unfolding step_checks item_checks
     insertion_is =
         ap answer_of
         (in_one_order (is_formed_item item) (nat_le k (length c.items)) (is_known_item c.entries item)
         (is_drawable_item c.entries item) (has_radii item) (is_inside c.entries item) (is_within_limits c.entries item)
         room_there)
-        ∙ (ap (λ r. by_answer (insertion_answer r (nat_le k (length c.items))) room_there) (sym tells)
-        ∙ ap (λ p. by_answer (insertion_answer told p) room_there) (sym at))
+        ∙ (ap (λ r. item_answer r (nat_le k (length c.items)) room_there) (sym tells)
+        ∙ ap (λ p. item_answer told p room_there) (sym at))
 
-    pub insertion_refused : (fault : EditFault) → insertion_answer told has_place ≡ Err fault
-        → Err fault ≡ step_answer c (Insert k item)
-    insertion_refused fault e = sym (insertion_is ∙ ap (λ r. by_answer r room_there) e)
-
-    module _ (done : Unit) (e : insertion_answer told has_place ≡ Ok done) (room : Bool)
-        (kept : IsTrue room ↔ KeepsLimits c.entries (c.items ++ item ∷ [])) where
-      same_room : room_there ≡ room
-      same_room =
-          let within : k ≤ length c.items =
-          leb-true k (length c.items) (sym at ∙ has_its_place told has_place done e) in
+    module _ (room : Bool) (kept : IsTrue room ↔ KeepsLimits c.entries (c.items ++ item ∷ [])) where
+      same_room : has_place ≡ true → room_there ≡ room
+      same_room there =
+          let within : k ≤ length c.items = leb-true k (length c.items) (sym at ∙ there) in
           let anywhere = limits_anywhere c.entries c.items k item within in
           let law = limit_law.layer c.entries (insert c.items k item) in
           same_test room_there room (λ t. anywhere.1 (law.0 t), λ h. law.1 (anywhere.0 h)) kept
 
-      by_room : (b : Bool) → room ≡ b → by_answer (Ok done) b ≡ step_answer c (Insert k item)
-      by_room b a =
-          sym (insertion_is ∙ (ap (λ r. by_answer r room_there) e ∙ ap (by_answer (Ok done)) (same_room ∙ a)))
+      pub inserted : item_answer told has_place room ≡ step_answer c (Insert k item)
+      inserted = sym (insertion_is ∙ by_room told has_place room_there room same_room)
 
-      pub insertion_limited : room ≡ false → Err TooMuch ≡ step_answer c (Insert k item)
-      insertion_limited = by_room false
+  -- ---- places
 
-      pub inserted : room ≡ true → Ok tt ≡ step_answer c (Insert k item)
-      inserted = by_room true
+  pub deleted : (count k : ℕ) → count ≡ length c.items → place_answer count k ≡ step_answer c (Delete k)
+  unfolding step_checks
+  deleted count k e = ap (λ n. place_answer n k) e
+
+  pub reordered : (count k m : ℕ) → count ≡ length c.items → place_answer count (max k m) ≡ step_answer c (Reorder k m)
+  unfolding step_checks
+  reordered count k m e =
+      ap (λ n. place_answer n (max k m)) e
+      ∙ ap (λ b. answer_of (first_holding ((NoItem, not b) ∷ []))) (farther_place k m (length c.items))
 
   -- ---- moves
 
@@ -214,7 +211,7 @@ module _ (c : Content) where
         set = slice_set c.items k y
 
         abbrev by_check : Result Unit ItemFault → Bool → Result Unit EditFault
-        by_check told room = answer_of (limited (placed told) room)
+        by_check told room = item_answer told true room
 
         y_is : with_object (with_aperture n) x ≡ y
         y_is = sym (set_is n x y is)
@@ -237,21 +234,10 @@ module _ (c : Content) where
             (is_inside c.entries y) (is_within_limits c.entries y) true) (keeps_limits c.entries set)) formed
             ∙ ap (λ r. by_check r (keeps_limits c.entries set)) (sym tells))))
 
-        pub aperture_refused : (fault : ItemFault) → told ≡ Err fault → Err (item_refusal fault) ≡ step_answer c aperture
-        aperture_refused fault e = sym (aperture_is ∙ ap (λ r. by_check r (keeps_limits c.entries set)) e)
-
-        module _ (done : Unit) (e : told ≡ Ok done) (room : Bool) (kept : IsTrue room ↔ KeepsLimits c.entries set) where
-          by_limits : (b : Bool) → room ≡ b → by_check (Ok done) b ≡ step_answer c aperture
-          by_limits b a =
-              sym (aperture_is
-              ∙ (ap (λ r. by_check r (keeps_limits c.entries set)) e
-              ∙ ap (by_check (Ok done)) (same_test _ room (limit_law.layer c.entries set) kept ∙ a)))
-
-          pub aperture_limited : room ≡ false → Err TooMuch ≡ step_answer c aperture
-          aperture_limited = by_limits false
-
-          pub aperture_changed : room ≡ true → Ok tt ≡ step_answer c aperture
-          aperture_changed = by_limits true
+        pub aperture_changed : (room : Bool) → IsTrue room ↔ KeepsLimits c.entries set
+            → item_answer told true room ≡ step_answer c aperture
+        aperture_changed room kept =
+            sym (aperture_is ∙ ap (by_check told) (same_test _ room (limit_law.layer c.entries set) kept))
 
   -- ---- polarities
 

@@ -40,12 +40,6 @@ tool_at items k item number within at read = read ∙ ap tool_of at ∙ sym (get
 -- ---- the tools follow an edit
 
 module _ (old xs ys : List ℕ) (known : AreToolsOf xs old) where
-  pub comes_within : (from to : ℕ) → IsEdited (Some from) (Some to) xs ys → to < length ys
-  comes_within from to edit =
-      let fewer = length-remove xs from edit.0 in
-      let all = length-insert (remove xs from) to edit.2.0 (omega (arith, edit.1, fewer)) in
-      omega (arith, all, fewer, ap length edit.2.1, edit.1)
-
   pub tools_set : (from to v : ℕ) (new : List ℕ) → IsEdited (Some from) (Some to) xs ys → from ≡ to → v ≡ get_or ys to 0
       → new ≡ slice_set old to v → AreToolsOf ys new
   tools_set from to v new edit same read is =

@@ -1,5 +1,5 @@
 -- What a plan of an edit is, by what its sheet holds.
-use Rattle.std.proofs.Common.{◌≡◌, ℕ, ◌<◌, List, length, None, Some, Ok, Err, Global, refl, ap, sym, subst, ◌∙◌}
+use Rattle.std.proofs.Common.{◌≡◌, ℕ, ◌<◌, List, length, None, Some, Result, Ok, Err, Global, refl, ap, sym, subst, ◌∙◌}
 use Rattle.std.specs.Prelude.{slice_get, slice_set}
 use Rattle.std.specs.declared.vec.Vec.{Vec}
 use Rattle.cam_units.specs.declared.bounds.Bounds.{Bounds}
@@ -14,19 +14,18 @@ use Rattle.cam_edits.specs.declared.fault.EditFault.TheVariants.{NoLayer, Memory
 use Rattle.cam_edits.specs.declared.step.Step.{Step}
 use Rattle.cam_edits.specs.BoardSteps.{IsDrillFitOn, IsFitOn, after_drill_on, after_on}
 use Rattle.cam_edits.specs.Boards.{changed_at, content_at, content_or_empty, place_named, with_content}
-use Rattle.cam_edits.specs.DrillSteps.{IsDrillFit, IsSoundDrillStep, after_drill_step}
-use Rattle.cam_edits.specs.Editing.{drill_step_of, edited, edited_at, edited_sheet, judged_change}
-use Rattle.cam_edits.specs.Editing.{judged_drill, with_drill_step, with_step}
+use Rattle.cam_edits.specs.DrillSteps.{IsDrillFit, IsSoundDrillStep}
+use Rattle.cam_edits.specs.Editing.{drill_step_checks, drill_step_of, edited, edited_at, edited_sheet, judged_change}
+use Rattle.cam_edits.specs.Editing.{judged_drill, with_drill, with_gerber, with_step}
 use Rattle.cam_edits.specs.Machinery.PlaceLaws.{element_at}
 use Rattle.cam_edits.specs.Places.{changed_to}
 use Rattle.cam_edits.specs.Planning.{IsPlan, IsRefused, IsStepOf}
 use Rattle.cam_edits.specs.Sheets.{AreSound, Content, Gerber, Drill, IsSound, Sheet, sheet}
-use Rattle.cam_edits.specs.Steps.{IsFit, IsSoundStep, after_step}
+use Rattle.cam_edits.specs.Steps.{IsFit, IsSoundStep}
 use Rattle.cam_edits.specs.Touched.{drill_touched, touched}
-use Rattle.cam_edits.proofs.DrillEdits as drill_edits
 use Rattle.cam_edits.proofs.EditedLists.{all_here}
 use Rattle.cam_edits.proofs.FittingEdits as fitting_edits
-use Rattle.cam_edits.proofs.Refusals.{has_at}
+use Rattle.cam_edits.proofs.Refusals.{accepted, has_at}
 use Rattle.cam_edits.proofs.SoundDrillEdits.{drill_step_stays_sound}
 use Rattle.cam_edits.proofs.SoundEdits.{step_stays_sound}
 
@@ -60,20 +59,25 @@ module _ (edit : Edit) (sheets : List Sheet) where
         ∙ (ap (λ content. slice_set sheets place (sheet there.0.name content)) same
         ∙ sym (ap (changed_to (with_content g) sheets place) there.1))
 
+    -- ---- a layer of either kind, by how the edit is judged
+
+    module _ {S : Type 0} (content : Content) (holds : content_at sheets place ≡ content) (after : S → Content)
+        (answer : Result S EditFault)
+        (is : edited_sheet edit.change sheets place content ≡ with_step after sheets place answer) where
+      edited_by : (told : Result S EditFault) → answer ≡ told → edited edit sheets ≡ with_step after sheets place told
+      edited_by told e = edited_there content holds ∙ is ∙ ap (with_step after sheets place) e
+
+      pub told : (fault : EditFault) → answer ≡ Err fault → IsRefused (edited edit sheets) fault
+      told fault e = subst (λ r. IsRefused r fault) (sym (edited_by (Err fault) e)) refl
+
+      pub no_memory : (step : S) → answer ≡ Ok step → (fault : EditFault) → fault ≡ Memory
+          → IsRefused (edited edit sheets) fault
+      no_memory step e fault memory = subst (λ r. IsRefused r fault) (sym (edited_by (Ok step) e)) memory
+
     -- ---- a Gerber layer
 
     module _ (c : GerberContent) (holds : content_at sheets place ≡ Gerber c) where
-      pub told : (fault : EditFault) → judged_change c edit.change ≡ Err fault → IsRefused (edited edit sheets) fault
-      told fault e =
-          subst (λ r. IsRefused r fault) (sym (edited_there (Gerber c) holds ∙ ap (with_step sheets place c) e)) refl
-
       module _ (step : Step) (e : judged_change c edit.change ≡ Ok step) where
-        edited_by : edited edit sheets ≡ Ok (changed_at (λ _. Gerber (after_step step c)) place sheets)
-        edited_by = edited_there (Gerber c) holds ∙ ap (with_step sheets place c) e
-
-        pub no_memory : (fault : EditFault) → fault ≡ Memory → IsRefused (edited edit sheets) fault
-        no_memory fault is = subst (λ r. IsRefused r fault) (sym edited_by) is
-
         pub planned : (boxes : Vec Bounds Global) → boxes.items ≡ touched step c → IsFit step c → IsSoundContent c.entries c.items
             → IsPlan sheets edit (plans.Gerber place step boxes)
         planned boxes are fit sound =
@@ -81,8 +85,10 @@ module _ (edit : Edit) (sheets : List Sheet) where
             let fits : IsSoundStep step c =
             record { fits = fit; before = sound; after = step_stays_sound c step sound told.1 } in
             let is : there.0.content ≡ Gerber c = holds_there (Gerber c) holds in
-            let change : Content → Content = λ _. Gerber (after_step step c) in record {
-              edited_is = edited_by ∙ ap Ok (same_change change (after_on step) (ap (after_on step) (sym is)));
+            let change : Content → Content = λ _. with_gerber c step in record {
+              edited_is =
+                  edited_by (Gerber c) holds (with_gerber c) (judged_change c edit.change) refl (Ok step) e
+                  ∙ ap Ok (same_change change (after_on step) (ap (after_on step) (sym is)));
               fits =
                   has_at (λ s. IsFitOn step s.content) sheets place there.0 there.1 (subst (IsFitOn step) (sym is) fits);
               named = named;
@@ -94,30 +100,18 @@ module _ (edit : Edit) (sheets : List Sheet) where
     -- ---- a drill layer
 
     module _ (c : DrillContent) (holds : content_at sheets place ≡ Drill c) where
-      pub drill_told : (fault : EditFault) → judged_drill c (drill_step_of edit.change) ≡ Err fault
-          → IsRefused (edited edit sheets) fault
-      drill_told fault e =
-          subst (λ r. IsRefused r fault) (sym (edited_there (Drill c) holds ∙ ap (with_drill_step sheets place c) e))
-          refl
-
       module _ (step : DrillStep) (e : judged_drill c (drill_step_of edit.change) ≡ Ok step) where
-        drill_edited_by : edited edit sheets ≡ Ok (changed_at (λ _. Drill (after_drill_step step c)) place sheets)
-        drill_edited_by = edited_there (Drill c) holds ∙ ap (with_drill_step sheets place c) e
-
-        pub drill_no_memory : (fault : EditFault) → fault ≡ Memory → IsRefused (edited edit sheets) fault
-        drill_no_memory fault is = subst (λ r. IsRefused r fault) (sym drill_edited_by) is
-
         pub drill_planned : (boxes : Vec Bounds Global) → boxes.items ≡ drill_touched step c → IsDrillFit step c
             → IsSoundDrillContent c.tools c.items
             → IsPlan sheets edit (plans.Drill place step boxes)
         drill_planned boxes are fit sound =
-            let told = drill_edits.accepted c (drill_step_of edit.change) step e in
+            let told = accepted (drill_step_checks c) (drill_step_of edit.change) step e in
             let fits : IsSoundDrillStep step c =
             record { fits = fit; before = sound; after = drill_step_stays_sound c step sound told.1 } in
             let is : there.0.content ≡ Drill c = holds_there (Drill c) holds in
-            let change : Content → Content = λ _. Drill (after_drill_step step c) in record {
+            let change : Content → Content = λ _. with_drill c step in record {
               edited_is =
-                  drill_edited_by
+                  edited_by (Drill c) holds (with_drill c) (judged_drill c (drill_step_of edit.change)) refl (Ok step) e
                   ∙ ap Ok (same_change change (after_drill_on step) (ap (after_drill_on step) (sym is)));
               fits =
                   has_at (λ s. IsDrillFitOn step s.content) sheets place there.0 there.1

@@ -1,18 +1,20 @@
 -- Which refusal of an edit is told first.
-use Rattle.std.proofs.Common.{◌≡◌, ℕ, Bool, true, false, ◌&&◌, nat_lt, not, cond, List, [], ◌∷◌, length, slice_index_or}
+use Rattle.std.proofs.Common.{◌≡◌, ℕ, Bool, true, false, ◌&&◌, nat_lt, not, List, [], ◌∷◌, length, max, slice_index_or}
 use Rattle.std.proofs.Common.{Option, None, Some, Result, Ok, Err, refl, ap, sym, subst, ◌∙◌, arith}
 use Rattle.std.specs.Prelude.{MatchOption, slice_get}
 use Rattle.std.proofs.lemmas.Bool.{ltb-true}
 use Rattle.std.proofs.lemmas.Bool.Decides.{nat_tests}
 use Rattle.std.proofs.lemmas.Option.{slice_get_past, slice_get_read}
-use Rattle.cam_refusals.specs.Checks.{answer_of, first_holding}
+use Rattle.cam_refusals.specs.Checks.{Checks, answer_of, first_holding}
+use Rattle.cam_objects.proofs.SoundItems.{none_told}
 use Rattle.cam_objects.specs.declared.item_fault.ItemFault.{ItemFault}
 use Rattle.cam_objects.specs.declared.item_fault.ItemFault.TheVariants.{Malformed, UnknownAperture, UnknownTool, ZeroRadius}
 use Rattle.cam_objects.specs.declared.item_fault.ItemFault.TheVariants as items
 use Rattle.cam_edits.specs.declared.fault.EditFault.{EditFault}
 use Rattle.cam_edits.specs.declared.fault.EditFault.TheVariants.{WrongKind, NoItem, NoAperture, NoTool, WrongAperture}
 use Rattle.cam_edits.specs.declared.fault.EditFault.TheVariants.{SizeRefused, OutOfBoard, TooMuch}
-use Rattle.cam_edits.specs.Machinery.Judging.{insertion_answer}
+use Rattle.cam_edits.specs.Machinery.Judging.{insertion_answer, item_answer, limited}
+use Rattle.cam_edits.specs.Editing.{judged_by, step_unless}
 use Rattle.cam_edits.specs.Places.{HasAt}
 
 -- ---- places of lists
@@ -30,12 +32,33 @@ none_at xs ys k same past = ap (λ l. slice_get l k) (sym same) ∙ slice_get_pa
 pub has_at : {X : Type 0} (P : X → Type 0) (xs : List X) (k : ℕ) (x : X) → slice_get xs k ≡ Some x → P x → HasAt P xs k
 has_at P xs k x here h = subst (λ o. MatchOption o ⊥ P) (sym here) h
 
--- ---- insertions, by the checks of their items
+-- ---- steps, by the checks of their kind of layer
 
--- the refusal of an edit whose item is checked: the limits of the layer come last
-abbrev pub limited : Result Unit EditFault → Bool → Option EditFault
-limited (Ok done) room = cond room None (Some TooMuch)
-limited (Err fault) room = Some fault
+module _ {S : Type 0} (checks : S → Checks EditFault) where
+  -- a step that is answered is that of the edit, and nothing refuses it
+  pub accepted : (o : Option S) (step : S) → judged_by checks o ≡ Ok step
+      → (o ≡ Some step) × (first_holding (checks step) ≡ None)
+  accepted None step e = absurd cc
+  accepted (Some asked) step e = go (first_holding (checks asked)) refl e where
+    go : (told : Option EditFault) → first_holding (checks asked) ≡ told → step_unless asked told ≡ Ok step
+        → (Some asked ≡ Some step) × (first_holding (checks step) ≡ None)
+    go None is e =
+        let same : asked ≡ step = cc in (ap Some same, subst (λ s. first_holding (checks s) ≡ None) same is)
+    go (Some fault) is e = absurd cc
+
+  -- an answer of the checks of a step is that of the step
+  pub refused : (step : S) (fault : EditFault) → Err fault ≡ answer_of (first_holding (checks step))
+      → Err fault ≡ judged_by checks (Some step)
+  refused step fault e = go (first_holding (checks step)) e where
+    go : (told : Option EditFault) → Err fault ≡ answer_of told → Err fault ≡ step_unless step told
+    go None e = absurd cc
+    go (Some other) e = cc
+
+  pub passes : (step : S) (done : Unit) → Ok done ≡ answer_of (first_holding (checks step))
+      → Ok step ≡ judged_by checks (Some step)
+  passes step done e = sym (ap (step_unless step) (none_told (first_holding (checks step)) done e))
+
+-- ---- insertions, by the checks of their items
 
 -- of an item of a Gerber layer
 module _ (formed place known drawable radii inside few room : Bool) where
@@ -113,8 +136,13 @@ in_one_drill_order true false true false few room = refl
 in_one_drill_order true false true true false room = refl
 in_one_drill_order true false true true true room = refl
 
--- an insertion that is not refused so has its place
-pub has_its_place : (checked : Result Unit ItemFault) (has_place : Bool) (done : Unit)
-    → insertion_answer checked has_place ≡ Ok done → has_place ≡ true
-has_its_place checked true done e = refl
-has_its_place checked false done e = absurd cc
+-- whether there is room is told where there is a place
+pub by_room : (checked : Result Unit ItemFault) (has_place a b : Bool) → (has_place ≡ true → a ≡ b)
+    → item_answer checked has_place a ≡ item_answer checked has_place b
+by_room checked true a b same = ap (item_answer checked true) (same refl)
+by_room (Ok done) false a b same = refl
+by_room (Err fault) false a b same = refl
+
+-- two places are there where the farther one is
+pub farther_place : (k m n : ℕ) → nat_lt (max k m) n ≡ (nat_lt k n && nat_lt m n)
+farther_place k m n = grind (arith, nat_tests)

@@ -2,22 +2,25 @@
 use Rattle.std.proofs.Common.{◌≡◌, ℕ, zero, suc, ◌+◌, ◌<◌, ◌≤◌, List, [], ◌∷◌, length, map, Option, None, Some}
 use Rattle.std.proofs.Common.{insert, remove, slice_get, slice_set, sum_by, refl, sym, ap, subst, ◌∙◌, arith}
 use Rattle.std.proofs.lemmas.List.{length-map}
-use Rattle.std.proofs.lemmas.List.Edits.{length-remove}
+use Rattle.std.proofs.lemmas.List.Edits.{length-insert, length-remove}
 use Rattle.std.proofs.lemmas.List.Sums.{sum_by-insert, sum_by-remove}
 use Rattle.std.proofs.lemmas.Option.{get_or_from_slice_get, slice_get_within}
 use Rattle.cam_units.specs.declared.bounds.Bounds.{Bounds}
 use Rattle.cam_objects.specs.Bounds.{bounds_of}
 use Rattle.cam_objects.specs.Cells.{AreCellsOf, Reaches, item_boxes}
+use Rattle.cam_objects.specs.Contents.{Content, content_of}
 use Rattle.cam_objects.specs.Leaves.{item_leaves, meaning_in}
 use Rattle.cam_objects.specs.Soundness.{IsSoundContent}
 use Rattle.cam_objects.specs.Weights.{item_count, weight_in}
 use Rattle.cam_objects.specs.declared.layer.Layer.{Layer}
 use Rattle.cam_edits.specs.declared.indexed.Kept.{Kept}
 use Rattle.cam_edits.specs.declared.shift.Shift.{Shift}
+use Rattle.cam_edits.specs.declared.step.Step.{Step}
 use Rattle.cam_edits.specs.Machinery.PlaceLaws.{changed_is, element_at, found, get_inserted, reordered_is}
 use Rattle.cam_edits.specs.Places.{HasAt, changed, reordered}
 use Rattle.cam_edits.specs.Machinery.Shifts.{IsEdited, IsKeptOf, IsShift, WasKept, WereCells, count_at, count_of, leaves_at}
 use Rattle.cam_edits.specs.Machinery.Shifts.{leaves_in}
+use Rattle.cam_edits.specs.Steps.{IsFit, IsSoundStep, after_step, items_after}
 
 -- a count, after so many went and so many came
 pub record Follows (new old gone come : ℕ) : Type 0 where
@@ -144,11 +147,32 @@ module _ {X : Type 0} where
       record { before = map box xs; known = known; edit = edit_read box shift.from shift.to xs ys shifted }
 
 -- the edit of a shift whose places are known
-pub cells_edited : (shift : Shift) (cells : Reaches) (after : List Bounds) (was : WereCells shift cells after)
-    (from to : Option ℕ) → shift.from ≡ from → shift.to ≡ to → IsEdited from to was.before after
-cells_edited shift cells after was from to left came =
-    subst (λ o. IsEdited from o was.before after) came
-    (subst (λ o. IsEdited o shift.to was.before after) left was.edit)
+pub edited : {X : Type 0} (shift : Shift) (xs ys : List X) → IsShift shift xs ys → (from to : Option ℕ) → shift.from ≡ from
+    → shift.to ≡ to → IsEdited from to xs ys
+edited shift xs ys edit from to left came =
+    subst (λ o. IsEdited from o xs ys) came (subst (λ o. IsEdited o shift.to xs ys) left edit)
+
+pub came_within : {X : Type 0} (xs ys : List X) (from to : ℕ) → IsEdited (Some from) (Some to) xs ys → to < length ys
+came_within xs ys from to edit =
+    let fewer = length-remove xs from edit.0 in
+    let all = length-insert (remove xs from) to edit.2.0 (omega (arith, edit.1, fewer)) in
+    omega (arith, all, fewer, ap length edit.2.1, edit.1)
+
+-- what was kept of a layer, after a step of it
+abbrev pub kept_before : (before after self : Layer) (step : Step) (shift : Shift) (kept : Kept) (gone : ℕ) → IsKeptOf before kept
+    → before ≡ self → IsSoundStep step (content_of self) → content_of after ≡ after_step step (content_of before)
+    → ((c : Content) → IsFit step c → IsShift shift c.items (items_after step c.items))
+    → gone ≡ leaves_at before shift.from → WasKept kept shift gone after
+kept_before before after self step shift kept gone known same fit content shifts left =
+    let fits = subst (λ (l : Layer). IsSoundStep step (content_of l)) (sym same) fit in record {
+      before = before;
+      known = known;
+      sound = subst (λ (x : Content). IsSoundContent x.entries x.items) (sym content) fits.after;
+      entries = sym (ap (λ (x : Content). x.entries) content);
+      shifted = subst (IsShift shift before.items.items) (sym (ap (λ (x : Content). x.items) content))
+          (shifts (content_of before) fits.fits);
+      left = left;
+    }
 
 -- the leaves of a layer of which something was kept before so many left and so many came
 pub layer_leaves : (kept : Kept) (shift : Shift) (gone come : ℕ) (layer : Layer) → WasKept kept shift gone layer

@@ -22,8 +22,8 @@ use Rattle.cam_edits.specs.declared.step.Step.{Step}
 use Rattle.cam_edits.specs.declared.step.Step.TheVariants as steps
 use Rattle.cam_edits.specs.Boards.{changed_at, content_at, content_or_empty, empty_content, place_named, with_content}
 use Rattle.cam_edits.specs.DrillSteps.{after_drill_step}
-use Rattle.cam_edits.specs.Editing.{drill_step_of, edited, edited_at, edited_sheet, drill_step_checks, drill_step_unless}
-use Rattle.cam_edits.specs.Editing.{judged_change, judged_drill, step_checks, with_drill_step, with_step}
+use Rattle.cam_edits.specs.Editing.{drill_step_of, edited, edited_at, edited_sheet, drill_step_checks, step_unless}
+use Rattle.cam_edits.specs.Editing.{judged_change, judged_drill, step_checks, with_drill, with_gerber, with_step}
 use Rattle.cam_edits.specs.Machinery.PlaceLaws.{changed_is, element_at, reordered_is, within}
 use Rattle.cam_edits.specs.Moving.{way}
 use Rattle.cam_edits.specs.Places.{changed, changed_to, reordered}
@@ -158,7 +158,7 @@ module _ (sheets after : List Sheet) (h : AreSound sheets) where
       subst AreSound is (changed_sound sheets place new (slice_get sheets place) h sound)
 
   stepped : (change : Change) (place : ℕ) (c : GerberContent) (r : Result Step EditFault) → IsSoundGerber c
-      → judged_change c change ≡ r → with_step sheets place c r ≡ Ok after → AreSound after
+      → judged_change c change ≡ r → with_step (with_gerber c) sheets place r ≡ Ok after → AreSound after
   stepped change place c (Ok step) sound judgement e =
       let told = change_accepted c change step judgement in
       let new : IsSoundGerber (after_step step c) =
@@ -173,13 +173,13 @@ module _ (sheets after : List Sheet) (h : AreSound sheets) where
   drill_stepped : (place : ℕ) (c : DrillContent) (step : DrillStep) (o : Option EditFault)
       → IsSoundDrillContent c.tools c.items
       → first_holding (drill_step_checks c step) ≡ o
-      → with_drill_step sheets place c (drill_step_unless c step o) ≡ Ok after → AreSound after
+      → with_step (with_drill c) sheets place (step_unless step o) ≡ Ok after → AreSound after
   drill_stepped place c step None sound none e =
       put_sound place (Drill (after_drill_step step c)) (drill_step_stays_sound c step sound none) e
   drill_stepped place c step (Some fault) sound refused e = absurd cc
 
   drill_judged_sound : (place : ℕ) (c : DrillContent) (o : Option DrillStep) → IsSoundDrillContent c.tools c.items
-      → with_drill_step sheets place c (judged_drill c o) ≡ Ok after → AreSound after
+      → with_step (with_drill c) sheets place (judged_drill c o) ≡ Ok after → AreSound after
   drill_judged_sound place c None sound e = absurd cc
   drill_judged_sound place c (Some step) sound e =
       drill_stepped place c step (first_holding (drill_step_checks c step)) sound refl e

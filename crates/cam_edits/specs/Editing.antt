@@ -63,6 +63,16 @@ drill_step_of (changes.Tool k t) = Some (drill_steps.Tool k t)
 drill_step_of (changes.Diameter t d) = Some (drill_steps.Diameter t d)
 drill_step_of _ = None
 
+-- the step of an edit, or what the edit is refused for first
+abbrev pub step_unless : {S : Type 0} → S → Option EditFault → Result S EditFault
+step_unless step None = Ok step
+step_unless step (Some fault) = Err fault
+
+-- by what its kind of layer checks of steps
+abbrev pub judged_by : {S : Type 0} → (S → Checks EditFault) → Option S → Result S EditFault
+judged_by checks None = Err WrongKind
+judged_by checks (Some step) = step_unless step (first_holding (checks step))
+
 -- ---- what a step of a Gerber layer may be refused for, in the order in which it is told
 
 abbrev pub has_aperture : Item → Bool
@@ -124,14 +134,8 @@ module _ (c : GerberContent) where
   step_checks (steps.Polarity k dark) = polarity_checks (slice_get c.items k)
   step_checks _ = []
 
-  -- the step of an edit, or what the edit is refused for first
-  abbrev pub step_unless : Step → Option EditFault → Result Step EditFault
-  step_unless step None = Ok step
-  step_unless step (Some fault) = Err fault
-
   abbrev pub judged : Option Step → Result Step EditFault
-  judged None = Err WrongKind
-  judged (Some step) = step_unless step (first_holding (step_checks step))
+  judged step = judged_by step_checks step
 
   abbrev pub judged_unless : Option EditFault → Option Step → Result Step EditFault
   judged_unless None step = judged step
@@ -186,28 +190,26 @@ module _ (c : DrillContent) where
   drill_step_checks (drill_steps.Tool k t) = tool_checks k t
   drill_step_checks (drill_steps.Diameter t d) = diameter_checks t d
 
-  abbrev pub drill_step_unless : DrillStep → Option EditFault → Result DrillStep EditFault
-  drill_step_unless step None = Ok step
-  drill_step_unless step (Some fault) = Err fault
-
   abbrev pub judged_drill : Option DrillStep → Result DrillStep EditFault
-  judged_drill None = Err WrongKind
-  judged_drill (Some step) = drill_step_unless step (first_holding (drill_step_checks step))
+  judged_drill step = judged_by drill_step_checks step
 
 -- ---- boards
 
--- what the sheet at a place holds after the step
-abbrev pub with_step : List Sheet → ℕ → GerberContent → Result Step EditFault → Result (List Sheet) EditFault
-with_step sheets place c (Ok step) = Ok (changed_at (λ _. Gerber (after_step step c)) place sheets)
-with_step sheets place c (Err fault) = Err fault
+-- the sheets, where that at a place holds what the step makes of it
+abbrev pub with_step : {S : Type 0} → (S → Content) → List Sheet → ℕ → Result S EditFault → Result (List Sheet) EditFault
+with_step after sheets place (Ok step) = Ok (changed_at (λ _. after step) place sheets)
+with_step after sheets place (Err fault) = Err fault
 
-abbrev pub with_drill_step : List Sheet → ℕ → DrillContent → Result DrillStep EditFault → Result (List Sheet) EditFault
-with_drill_step sheets place c (Ok step) = Ok (changed_at (λ _. Drill (after_drill_step step c)) place sheets)
-with_drill_step sheets place c (Err fault) = Err fault
+abbrev pub with_gerber : GerberContent → Step → Content
+with_gerber c step = Gerber (after_step step c)
+
+abbrev pub with_drill : DrillContent → DrillStep → Content
+with_drill c step = Drill (after_drill_step step c)
 
 abbrev pub edited_sheet : Change → List Sheet → ℕ → Content → Result (List Sheet) EditFault
-edited_sheet change sheets place (Gerber c) = with_step sheets place c (judged_change c change)
-edited_sheet change sheets place (Drill c) = with_drill_step sheets place c (judged_drill c (drill_step_of change))
+edited_sheet change sheets place (Gerber c) = with_step (with_gerber c) sheets place (judged_change c change)
+edited_sheet change sheets place (Drill c) =
+    with_step (with_drill c) sheets place (judged_drill c (drill_step_of change))
 
 abbrev pub edited_at : Change → List Sheet → Option ℕ → Result (List Sheet) EditFault
 edited_at change sheets None = Err NoLayer

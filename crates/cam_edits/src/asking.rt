@@ -79,14 +79,8 @@ impl SheetContent {
         ensures { option_map item_of result ≡ item_at (content_of self.now) k }
     {
         match self {
-            SheetContent::Gerber(layer) => match layer.layer().items().get(k) {
-                Some(item) => Some(ListedItem::Gerber(item)),
-                None => None,
-            },
-            SheetContent::Drill(layer) => match layer.layer().items().get(k) {
-                Some(item) => Some(ListedItem::Drill(item)),
-                None => None,
-            },
+            SheetContent::Gerber(layer) => Some(ListedItem::Gerber(layer.layer().items().get(k)?)),
+            SheetContent::Drill(layer) => Some(ListedItem::Drill(layer.layer().items().get(k)?)),
         }
     }
 

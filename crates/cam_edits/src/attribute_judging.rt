@@ -21,16 +21,12 @@ fn is_field_byte(byte: u8) -> bool
     byte.is_ascii_graphic() && byte != b'%' && byte != b'*'
 }
 
-fn is_key_byte(byte: u8) -> bool
-    ensures { result ≡ is_key_byte byte }
-{
-    is_field_byte(byte) && byte != b','
-}
-
 fn are_key_bytes(bytes: &[u8]) -> bool
     ensures { result ≡ list_all is_key_byte bytes.now }
 {
-    bytes.iter().all(|b| is_key_byte(*b))
+    bytes
+        .iter()
+        .all(|byte| is_field_byte(*byte) && *byte != b',')
 }
 
 fn are_field_bytes(bytes: &[u8]) -> bool
@@ -44,10 +40,7 @@ fn are_field_bytes(bytes: &[u8]) -> bool
 pub fn is_key(key: &[u8]) -> bool
     ensures { result ≡ is_key key.now }
 {
-    if key.is_empty() || key.len() > 255 {
-        return false;
-    }
-    are_key_bytes(key)
+    !key.is_empty() && key.len() <= 255 && are_key_bytes(key)
 }
 
 /// Whether an edit may write the fields of an attribute so, without the comma before them: 1 to 4,096 bytes from `!` to
@@ -55,10 +48,7 @@ pub fn is_key(key: &[u8]) -> bool
 pub fn is_field_text(text: &[u8]) -> bool
     ensures { result ≡ is_field_text text.now }
 {
-    if text.is_empty() || text.len() > 4_096 {
-        return false;
-    }
-    are_field_bytes(text)
+    !text.is_empty() && text.len() <= 4_096 && are_field_bytes(text)
 }
 
 /// Whether fields are kept so: none, or a text of them with a comma before it.

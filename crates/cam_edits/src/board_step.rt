@@ -1,6 +1,6 @@
 //! Steps that edit a board.
 
-ghost use Rattle.std.specs.Prelude.{◌≡◌, ◌↔◌, ◌∷◌, ◌++◌, [], List, IsTrue, count_by};
+ghost use Rattle.std.specs.Prelude.{◌≡◌, ◌∷◌, ◌++◌, [], List, count_by};
 ghost use Rattle.cam_edits.specs.BoardSteps.{
   HasBoardRoom,
   IsBoardFit,
@@ -97,11 +97,17 @@ impl Reversible for BoardStep {
     fn fits(&self, board: &Board) -> bool {
         match self {
             BoardStep::Gerber { sheet, step, .. } => match board.sheets.get(*sheet) {
-                Some(kept) => fits_sheet(step, &kept.content),
+                Some(kept) => match &kept.content {
+                    SheetContent::Gerber(layer) => layer.fits(step),
+                    SheetContent::Drill(_) => false,
+                },
                 None => false,
             },
             BoardStep::Drill { sheet, step, .. } => match board.sheets.get(*sheet) {
-                Some(kept) => fits_drill_sheet(step, &kept.content),
+                Some(kept) => match &kept.content {
+                    SheetContent::Gerber(_) => false,
+                    SheetContent::Drill(layer) => layer.fits(step),
+                },
                 None => false,
             },
         }
@@ -169,26 +175,6 @@ fn puts_at(step: &BoardStep, place: usize) -> bool
             *sheet == place && matches!(step, Step::PutAttribute { .. })
         }
         BoardStep::Drill { .. } => false,
-    }
-}
-
-/// Whether the step may be played on what a sheet holds.
-fn fits_sheet(step: &Step, content: &SheetContent) -> bool
-    ensures { IsTrue result ↔ IsFitOn step.now (content_of content.now) }
-{
-    match content {
-        SheetContent::Gerber(layer) => layer.fits(step),
-        SheetContent::Drill(_) => false,
-    }
-}
-
-/// Whether the step of a drill layer may be played on what a sheet holds.
-fn fits_drill_sheet(step: &DrillStep, content: &SheetContent) -> bool
-    ensures { IsTrue result ↔ IsDrillFitOn step.now (content_of content.now) }
-{
-    match content {
-        SheetContent::Gerber(_) => false,
-        SheetContent::Drill(layer) => layer.fits(step),
     }
 }
 

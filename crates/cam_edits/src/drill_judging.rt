@@ -1,28 +1,20 @@
 //! Judges edits of a drill layer.
 
-ghost use Rattle.std.specs.Prelude.{◌≡◌, IfOk, Some, is_some};
+ghost use Rattle.std.specs.Prelude.{◌≡◌, IfOk, Some};
 ghost use Rattle.cam_objects.specs.Contents.{drill_content_of};
-ghost use Rattle.cam_objects.specs.Drilling.{diameter_of};
 ghost use Rattle.cam_objects.specs.DrillSoundness.{IsSoundDrillLayer};
 ghost use Rattle.cam_edits.specs.DrillSteps.{IsDrillFit};
-ghost use Rattle.cam_edits.specs.Editing.{drill_step_of, is_tool_size, judged_drill};
+ghost use Rattle.cam_edits.specs.Editing.{drill_step_of, judged_drill};
 ghost use Rattle.cam_edits.specs.Machinery.Judging.{drill_step_answer};
 ghost use Rattle.cam_edits.specs.Machinery.Shifts.{drill_leaves_in};
-ghost use Rattle.cam_edits.specs.declared.drill_step.DrillStep.TheVariants.{
-  Delete,
-  Diameter,
-  Insert,
-  Move,
-  Reorder,
-  Tool,
-};
+ghost use Rattle.cam_edits.specs.declared.drill_step.DrillStep.TheVariants.{Diameter, Move, Tool};
 
 use crate::drill_step::DrillStep;
 use crate::edit::{Change, NewItem};
 use crate::fault::EditFault;
-use crate::item_refusal::check_insertion;
+use crate::item_refusal::{judge_item, judge_place};
 use crate::moving::{is_move, way};
-use cam_objects::{DrillItem, DrillLayer};
+use cam_objects::DrillLayer;
 use cam_refusals::limits::SIZE_LIMIT;
 use cam_units::{Nm, Point};
 
@@ -77,40 +69,16 @@ pub(crate) fn check_drill(
     ensures { result ≡ drill_step_answer (drill_content_of layer.now) step.now }
 {
     match step {
-        DrillStep::Insert { k, item } => check_insert(layer, leaves, *k, item),
-        DrillStep::Delete { k } => check_delete(layer, *k),
+        DrillStep::Insert { k, item } => {
+            let has_room = layer.has_room_beside(leaves, item);
+            judge_item(layer.check_item(item), *k <= layer.items.len(), has_room)
+        }
+        DrillStep::Delete { k } => judge_place(layer.items.len(), *k),
         DrillStep::Move { k, dx, dy } => check_move(layer, *k, way(*dx, *dy)),
-        DrillStep::Reorder { k, m } => check_reorder(layer, *k, *m),
+        DrillStep::Reorder { k, m } => judge_place(layer.items.len(), (*k).max(*m)),
         DrillStep::Tool { k, t } => check_tool(layer, *k, *t),
         DrillStep::Diameter { t, d } => check_diameter(layer, *t, *d),
     }
-}
-
-fn check_insert(
-    layer: &DrillLayer,
-    leaves: u64,
-    k: usize,
-    item: &DrillItem,
-) -> Result<(), EditFault>
-    requires sound { IsSoundDrillLayer layer.now }
-    requires leaves { leaves ≡ drill_leaves_in layer.now }
-    ensures { result ≡ drill_step_answer (drill_content_of layer.now) (Insert k item.now) }
-{
-    check_insertion(layer.check_item(item), k <= layer.items.len())?;
-    if !layer.has_room_beside(leaves, item) {
-        return Err(EditFault::TooMuch);
-    }
-    Ok(())
-}
-
-#[tactic(auto, unfolding(crate::specs::Editing::drill_step_checks))]
-fn check_delete(layer: &DrillLayer, k: usize) -> Result<(), EditFault>
-    ensures { result ≡ drill_step_answer (drill_content_of layer.now) (Delete k) }
-{
-    if k >= layer.items.len() {
-        return Err(EditFault::NoItem);
-    }
-    Ok(())
 }
 
 fn check_move(layer: &DrillLayer, k: usize, by: Point) -> Result<(), EditFault>
@@ -130,26 +98,13 @@ fn check_move(layer: &DrillLayer, k: usize, by: Point) -> Result<(), EditFault>
 }
 
 #[tactic(auto, unfolding(crate::specs::Editing::drill_step_checks))]
-fn check_reorder(layer: &DrillLayer, k: usize, m: usize) -> Result<(), EditFault>
-    ensures { result ≡ drill_step_answer (drill_content_of layer.now) (Reorder k m) }
-{
-    if k >= layer.items.len() {
-        return Err(EditFault::NoItem);
-    }
-    if m >= layer.items.len() {
-        return Err(EditFault::NoItem);
-    }
-    Ok(())
-}
-
-#[tactic(auto, unfolding(crate::specs::Editing::drill_step_checks))]
 fn check_tool(layer: &DrillLayer, k: usize, t: u16) -> Result<(), EditFault>
     ensures { result ≡ drill_step_answer (drill_content_of layer.now) (Tool k t) }
 {
     if k >= layer.items.len() {
         return Err(EditFault::NoItem);
     }
-    if !has_tool(layer, t) {
+    if layer.tools.get(t).is_none() {
         return Err(EditFault::NoTool);
     }
     Ok(())
@@ -159,25 +114,11 @@ fn check_tool(layer: &DrillLayer, k: usize, t: u16) -> Result<(), EditFault>
 fn check_diameter(layer: &DrillLayer, t: u16, d: Nm) -> Result<(), EditFault>
     ensures { result ≡ drill_step_answer (drill_content_of layer.now) (Diameter t d) }
 {
-    if !has_tool(layer, t) {
+    if layer.tools.get(t).is_none() {
         return Err(EditFault::NoTool);
     }
-    if !is_tool_size(d) {
+    if d.0 < 1 || d.0 > SIZE_LIMIT as i64 {
         return Err(EditFault::SizeRefused);
     }
     Ok(())
-}
-
-/// Whether the layer has a tool of the number.
-fn has_tool(layer: &DrillLayer, t: u16) -> bool
-    ensures { result ≡ is_some (diameter_of layer.now.tools t) }
-{
-    layer.tools.get(t).is_some()
-}
-
-/// Whether a tool may have this diameter.
-fn is_tool_size(d: Nm) -> bool
-    ensures { result ≡ is_tool_size d }
-{
-    1 <= d.0 && d.0 <= SIZE_LIMIT as i64
 }

@@ -8,7 +8,6 @@ ghost use Rattle.cam_edits.specs.Machinery.Shifts.{
   AreToolsOf,
   IsKeptOfDrill,
   WasKeptBefore,
-  WasKeptOfDrill,
   drill_leaves_at,
   tools_of,
 };
@@ -28,16 +27,6 @@ pub(crate) fn leaves_at(layer: &DrillLayer, place: Option<usize>) -> u64
         Some(item) => item.leaf_count() as u64,
         None => 0,
     }
-}
-
-/// Lets what is kept follow a step with which items shifted and so many holes and slots left their place.
-fn mend_shifted(kept: &mut Kept, shift: Shift, gone: u64, layer: &DrillLayer)
-    requires { WasKeptOfDrill kept.old shift gone layer.now }
-    ensures { IsKeptOfDrill layer.now kept.new }
-{
-    let come = leaves_at(layer, shift.to);
-    kept.leaves = kept.leaves + come - gone;
-    mend(&mut kept.cells, &mut layer.boxes(), shift);
 }
 
 /// Reads the items of a tool anew, whose diameter was changed.
@@ -72,6 +61,10 @@ pub(crate) fn mend_kept(
 {
     match size {
         Some((t, _)) => renew_tool(&mut kept.cells, t, tools, layer),
-        None => mend_shifted(kept, shift, gone, layer),
+        None => {
+            let come = leaves_at(layer, shift.to);
+            kept.leaves = kept.leaves + come - gone;
+            mend(&mut kept.cells, &mut layer.boxes(), shift);
+        }
     }
 }

@@ -1,16 +1,12 @@
 //! Steps that edit a drill layer.
 
-ghost use Rattle.std.specs.Prelude.{◌≡◌, ◌↔◌, ℕ, IfNone, IfSome, IsTrue, List, count_by};
+ghost use Rattle.std.specs.Prelude.{◌≡◌, ℕ, IfNone, IfSome, List};
 ghost use Rattle.cam_objects.specs.DrillSoundness.{tool_of};
-ghost use Rattle.cam_shapes.specs.Shifting.{IsShiftable};
-ghost use Rattle.cam_edits.specs.Moving.{IsMovableDrillItem};
-ghost use Rattle.cam_edits.specs.Places.{HasAt};
 ghost use Rattle.cam_edits.specs.DrillSteps.{
   HasDrillRoom,
   IsDrillFit,
   after_drill_step,
   inverse_drill_step,
-  is_drill_insertion,
   tools_after,
   with_tool,
 };
@@ -21,7 +17,7 @@ use crate::carrying::{carry, put};
 use crate::moving::{can_move_drill_item, way};
 use crate::reversible::Reversible;
 use cam_objects::{DrillItem, DrillLayer};
-use cam_units::{Nm, Point};
+use cam_units::Nm;
 use std::alloc::AllocError;
 use std::mem;
 
@@ -76,7 +72,10 @@ impl Reversible for DrillStep {
         match self {
             DrillStep::Insert { k, .. } => *k <= layer.items.len(),
             DrillStep::Delete { k } => *k < layer.items.len(),
-            DrillStep::Move { k, dx, dy } => can_move_at(&layer.items, *k, way(*dx, *dy)),
+            DrillStep::Move { k, dx, dy } => match layer.items.get(*k) {
+                Some(item) => can_move_drill_item(item, way(*dx, *dy)),
+                None => false,
+            },
             DrillStep::Reorder { k, m } => *k < layer.items.len() && *m < layer.items.len(),
             DrillStep::Tool { k, .. } => *k < layer.items.len(),
             DrillStep::Diameter { t, .. } => layer.tools.get(*t).is_some(),
@@ -84,7 +83,11 @@ impl Reversible for DrillStep {
     }
 
     fn room(group: &[DrillStep], layer: &mut DrillLayer) -> Result<(), AllocError> {
-        layer.items.reserve(insertion_count(group))
+        let count = group
+            .iter()
+            .filter(|step| matches!(step, DrillStep::Insert { .. }))
+            .count();
+        layer.items.reserve(count)
     }
 
     fn play(self, layer: &mut DrillLayer) -> DrillStep {
@@ -135,26 +138,6 @@ impl DrillStep {
             DrillStep::Tool { .. } => None,
             DrillStep::Diameter { t, d } => Some((*t, *d)),
         }
-    }
-}
-
-/// How many of the steps insert an item.
-fn insertion_count(group: &[DrillStep]) -> usize
-    ensures { result ≡ count_by is_drill_insertion group.now }
-{
-    group
-        .iter()
-        .filter(|step| matches!(step, DrillStep::Insert { .. }))
-        .count()
-}
-
-/// Whether there is an item at the place that can be moved so, and back.
-fn can_move_at(items: &[DrillItem], k: usize, by: Point) -> bool
-    ensures { IsTrue result ↔ IsShiftable by × HasAt (IsMovableDrillItem by) items.now k }
-{
-    match items.get(k) {
-        Some(item) => can_move_drill_item(item, by),
-        None => false,
     }
 }
 

@@ -21,7 +21,7 @@ ghost use Rattle.cam_edits.specs.Steps.{HasRoom, IsSoundStep, after_step, invers
 
 use crate::copies::mend_copies;
 use crate::judging::check;
-use crate::mending::{leaves_at, mend_kept};
+use crate::mending::{leaves_at, mend};
 use crate::reversible::Reversible;
 use crate::shift::Shift;
 use crate::step::Step;
@@ -136,7 +136,9 @@ impl IndexedLayer {
         let shift = Shift::of(&step);
         let gone = leaves_at(&self.layer, shift.from);
         let answer = step.play(&mut self.layer);
-        mend_kept(&mut self.kept, shift, gone, &self.layer);
+        let come = leaves_at(&self.layer, shift.to);
+        self.kept.leaves = self.kept.leaves + come - gone;
+        mend(&mut self.kept.cells, &mut self.layer.boxes(), shift);
         mend_copies(&mut self.copies, &self.layer, shift);
         answer
     }

@@ -1,6 +1,6 @@
 //! The tools of the items of a drill layer, which are kept beside it.
 
-ghost use Rattle.std.specs.Prelude.{◌≡◌, ◌≤◌, Some, length};
+ghost use Rattle.std.specs.Prelude.{◌≡◌, ◌≤◌, length};
 ghost use Rattle.cam_objects.specs.DrillSoundness.{tool_of};
 ghost use Rattle.cam_edits.specs.Machinery.Shifts.{AreToolsOf, IsNextOfTool, WereTools, tools_of};
 
@@ -30,27 +30,14 @@ pub(crate) fn tools_of(alloc: Global, layer: &DrillLayer) -> ItemNumbers
     tools
 }
 
-/// Lets them follow an item that left a place and came to one, or that changed where they are the same. Takes no
-/// memory.
-fn carry(tools: &mut ItemNumbers, layer: &DrillLayer, from: usize, to: usize)
-    requires { WereTools (record { from = Some from; to = Some to }) tools.old (tools_of layer.now.items.items) }
-    ensures { AreToolsOf (tools_of layer.now.items.items) tools.new }
-{
-    let number = tool(&layer.items[to]);
-    if from == to {
-        tools.set(to, number);
-        return;
-    }
-    tools.carry(from, to, number);
-}
-
 /// Lets them follow items that shifted with a step. Takes no memory.
 pub(crate) fn follow(tools: &mut ItemNumbers, layer: &DrillLayer, shift: Shift)
     requires { WereTools shift tools.old (tools_of layer.now.items.items) }
     ensures { AreToolsOf (tools_of layer.now.items.items) tools.new }
 {
     match (shift.from, shift.to) {
-        (Some(from), Some(to)) => carry(tools, layer, from, to),
+        (Some(from), Some(to)) if from == to => tools.set(to, tool(&layer.items[to])),
+        (Some(from), Some(to)) => tools.carry(from, to, tool(&layer.items[to])),
         (Some(from), None) => tools.remove(from),
         (None, Some(to)) => tools.insert(to, tool(&layer.items[to])),
         (None, None) => {}

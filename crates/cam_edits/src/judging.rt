@@ -1,6 +1,6 @@
 //! Judges edits of a Gerber layer.
 
-ghost use Rattle.std.specs.Prelude.{◌≡◌, Bool, IfOk, Some};
+ghost use Rattle.std.specs.Prelude.{◌≡◌, IfOk, Some};
 ghost use Rattle.cam_objects.specs.Contents.{content_of};
 ghost use Rattle.cam_objects.specs.Soundness.{HasSoundItems};
 ghost use Rattle.cam_edits.specs.Editing.{judged, judged_change};
@@ -8,16 +8,16 @@ ghost use Rattle.cam_edits.specs.Machinery.Judging.{IsItemStep, other_aperture, 
 ghost use Rattle.cam_edits.specs.Machinery.Shifts.{leaves_in};
 ghost use Rattle.cam_edits.specs.Sheets.{IsSoundGerber};
 ghost use Rattle.cam_edits.specs.Steps.{IsFit};
-ghost use Rattle.cam_edits.specs.declared.step.Step.TheVariants.{Aperture, Delete, Insert, Move, Polarity, Reorder};
+ghost use Rattle.cam_edits.specs.declared.step.Step.TheVariants.{Aperture, Move};
 
 use crate::apertures::other_aperture;
 use crate::attribute_judging::{dropping, setting};
 use crate::edit::{Change, NewItem};
 use crate::fault::EditFault;
-use crate::item_refusal::{check_insertion, item_refusal};
+use crate::item_refusal::{judge_item, judge_place};
 use crate::moving::{is_move, way};
 use crate::step::Step;
-use cam_objects::{Item, Layer, Object};
+use cam_objects::{Item, Layer};
 use cam_units::Point;
 
 /// The step of an edit of the layer, which has so many leaves; it fits the layer. Or the edit's first refusal.
@@ -64,37 +64,23 @@ pub(crate) fn check(layer: &Layer, leaves: u64, step: &Step) -> Result<(), EditF
     ensures { result ≡ step_answer (content_of layer.now) step.now }
 {
     match step {
-        Step::Insert { k, item } => check_insert(layer, leaves, *k, item),
-        Step::Delete { k } => check_delete(layer, *k),
+        Step::Insert { k, item } => {
+            let has_room = layer.has_room_beside(leaves, item);
+            judge_item(layer.check_item(item), *k <= layer.items.len(), has_room)
+        }
+        Step::Delete { k } => judge_place(layer.items.len(), *k),
         Step::Move { k, dx, dy } => check_move(layer, *k, way(*dx, *dy)),
-        Step::Reorder { k, m } => check_reorder(layer, *k, *m),
+        Step::Reorder { k, m } => judge_place(layer.items.len(), (*k).max(*m)),
         Step::Aperture { k, n } => check_aperture(layer, leaves, *k, *n),
-        Step::Polarity { k, .. } => check_polarity(layer, *k),
+        Step::Polarity { k, .. } => match layer.items.get(*k) {
+            Some(Item::One(_)) => Ok(()),
+            Some(Item::Repeat { .. }) => Err(EditFault::HasNone),
+            None => Err(EditFault::NoItem),
+        },
         Step::PutAttribute { .. } => Ok(()),
         Step::TakeAttribute { .. } => Ok(()),
         Step::SetFields { .. } => Ok(()),
     }
-}
-
-fn check_insert(layer: &Layer, leaves: u64, k: usize, item: &Item) -> Result<(), EditFault>
-    requires { leaves ≡ leaves_in layer.now }
-    ensures { result ≡ step_answer (content_of layer.now) (Insert k item.now) }
-{
-    check_insertion(layer.check_item(item), k <= layer.items.len())?;
-    if !layer.has_room_beside(leaves, item) {
-        return Err(EditFault::TooMuch);
-    }
-    Ok(())
-}
-
-#[tactic(auto, unfolding(crate::specs::Editing::step_checks))]
-fn check_delete(layer: &Layer, k: usize) -> Result<(), EditFault>
-    ensures { result ≡ step_answer (content_of layer.now) (Delete k) }
-{
-    if k >= layer.items.len() {
-        return Err(EditFault::NoItem);
-    }
-    Ok(())
 }
 
 fn check_move(layer: &Layer, k: usize, by: Point) -> Result<(), EditFault>
@@ -113,19 +99,6 @@ fn check_move(layer: &Layer, k: usize, by: Point) -> Result<(), EditFault>
     Ok(())
 }
 
-#[tactic(auto, unfolding(crate::specs::Editing::step_checks))]
-fn check_reorder(layer: &Layer, k: usize, m: usize) -> Result<(), EditFault>
-    ensures { result ≡ step_answer (content_of layer.now) (Reorder k m) }
-{
-    if k >= layer.items.len() {
-        return Err(EditFault::NoItem);
-    }
-    if m >= layer.items.len() {
-        return Err(EditFault::NoItem);
-    }
-    Ok(())
-}
-
 fn check_aperture(layer: &Layer, leaves: u64, k: usize, n: u32) -> Result<(), EditFault>
     requires sound { HasSoundItems layer.now }
     requires leaves { leaves ≡ leaves_in layer.now }
@@ -137,21 +110,6 @@ fn check_aperture(layer: &Layer, leaves: u64, k: usize, n: u32) -> Result<(), Ed
     let Some(item) = other_aperture(item, n) else {
         return Err(EditFault::HasNone);
     };
-    if let Err(fault) = layer.check_item(&item) {
-        return Err(item_refusal(fault));
-    }
-    if !layer.has_room_at_beside(leaves, k, &item) {
-        return Err(EditFault::TooMuch);
-    }
-    Ok(())
-}
-
-fn check_polarity(layer: &Layer, k: usize) -> Result<(), EditFault>
-    ensures { (dark : Bool) → result ≡ step_answer (content_of layer.now) (Polarity k dark) }
-{
-    match layer.items.get(k) {
-        Some(Item::One(_)) => Ok(()),
-        Some(Item::Repeat { .. }) => Err(EditFault::HasNone),
-        None => Err(EditFault::NoItem),
-    }
+    let has_room = layer.has_room_at_beside(leaves, k, &item);
+    judge_item(layer.check_item(&item), true, has_room)
 }

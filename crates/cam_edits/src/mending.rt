@@ -3,24 +3,10 @@
 ghost use Rattle.std.specs.Prelude.{◌≡◌, MatchOption, None, Some};
 ghost use Rattle.cam_objects.specs.Cells.{AreCellsOf};
 ghost use Rattle.cam_objects.specs.Soundness.{HasSoundItems};
-ghost use Rattle.cam_edits.specs.Machinery.Shifts.{IsKeptOf, WasKept, WereCells, leaves_at, there};
+ghost use Rattle.cam_edits.specs.Machinery.Shifts.{WereCells, leaves_at, there};
 
-use crate::indexed::Kept;
 use crate::shift::Shift;
 use cam_objects::{BoxedItems, ItemCells, Layer};
-
-/// Lets cells follow an item that left a place and came to one, or that changed where they are the same. Takes no
-/// memory.
-fn carry<B: BoxedItems>(cells: &mut ItemCells, items: &mut B, from: usize, to: usize)
-    requires { WereCells (record { from = Some from; to = Some to }) cells.old (B.boxes items.old) }
-    ensures { AreCellsOf (B.boxes items.old) cells.new }
-{
-    if from == to {
-        cells.renew(items, to);
-        return;
-    }
-    cells.carry(items, from, to);
-}
 
 /// Lets cells follow items that shifted with a step. Takes no memory.
 pub(crate) fn mend<B: BoxedItems>(cells: &mut ItemCells, items: &mut B, shift: Shift)
@@ -28,7 +14,8 @@ pub(crate) fn mend<B: BoxedItems>(cells: &mut ItemCells, items: &mut B, shift: S
     ensures { AreCellsOf (B.boxes items.old) cells.new }
 {
     match (shift.from, shift.to) {
-        (Some(from), Some(to)) => carry(cells, items, from, to),
+        (Some(from), Some(to)) if from == to => cells.renew(items, to),
+        (Some(from), Some(to)) => cells.carry(items, from, to),
         (Some(from), None) => cells.remove(from),
         (None, Some(to)) => cells.insert(items, to),
         (None, None) => {}
@@ -55,14 +42,4 @@ pub(crate) fn leaves_at(layer: &Layer, place: Option<usize>) -> u64
         Some(item) => layer.item_leaf_count(item),
         None => 0,
     }
-}
-
-/// Lets what is kept follow a step with which items shifted and so many leaves left their place. Takes no memory.
-pub(crate) fn mend_kept(kept: &mut Kept, shift: Shift, gone: u64, layer: &Layer)
-    requires { WasKept kept.old shift gone layer.now }
-    ensures { IsKeptOf layer.now kept.new }
-{
-    let come = leaves_at(layer, shift.to);
-    kept.leaves = kept.leaves + come - gone;
-    mend(&mut kept.cells, &mut layer.boxes(), shift);
 }

@@ -1,10 +1,9 @@
 //! Whether items can be moved and moved back: each control point, where it stands and where it is moved to.
 
-ghost use Rattle.std.specs.Prelude.{◌≡◌, ◌↔◌, All, IsTrue};
+ghost use Rattle.std.specs.Prelude.{◌≡◌, ◌↔◌, IsTrue};
 ghost use Rattle.cam_objects.specs.Shifting.{IsMove};
 ghost use Rattle.cam_shapes.specs.Shifting.{IsShiftable};
 ghost use Rattle.cam_edits.specs.Moving.{
-  IsMovableContour,
   IsMovableDrillItem,
   IsMovableItem,
   IsMovableObject,
@@ -13,7 +12,7 @@ ghost use Rattle.cam_edits.specs.Moving.{
   way,
 };
 
-use cam_objects::{Contour, DrillItem, Item, Object, Seg};
+use cam_objects::{DrillItem, Item, Object, Seg};
 use cam_shapes::shifted;
 use cam_units::Point;
 
@@ -43,7 +42,10 @@ pub(crate) fn can_move_item(item: &Item, by: Point) -> bool
     }
     match item {
         Item::One(object) => can_move_object(object, by),
-        Item::Repeat { objects, .. } => can_move_objects(objects.as_slice(), by),
+        Item::Repeat { objects, .. } => objects
+            .as_slice()
+            .iter()
+            .all(|object| can_move_object(object, by)),
     }
 }
 
@@ -56,7 +58,10 @@ pub(crate) fn can_move_drill_item(item: &DrillItem, by: Point) -> bool
     }
     match item {
         DrillItem::Hit { at, .. } => can_move_point(*at, by),
-        DrillItem::Rout { points, .. } => can_move_points(points.as_slice(), by),
+        DrillItem::Rout { points, .. } => points
+            .as_slice()
+            .iter()
+            .all(|point| can_move_point(*point, by)),
     }
 }
 
@@ -74,13 +79,6 @@ fn can_move_point(point: Point, by: Point) -> bool
     is_shiftable(point) && is_shiftable(shifted(point, by))
 }
 
-fn can_move_points(points: &[Point], by: Point) -> bool
-    requires { IsShiftable by }
-    ensures { IsTrue result ↔ All (IsMovablePoint by) points.now }
-{
-    points.iter().all(|point| can_move_point(*point, by))
-}
-
 fn can_move_seg(seg: Seg, by: Point) -> bool
     requires { IsShiftable by }
     ensures { IsTrue result ↔ IsMovableSeg by seg }
@@ -89,20 +87,6 @@ fn can_move_seg(seg: Seg, by: Point) -> bool
         Seg::Line { to } => can_move_point(to, by),
         Seg::Curve { to, centre, .. } => can_move_point(to, by) && can_move_point(centre, by),
     }
-}
-
-fn can_move_segs(segs: &[Seg], by: Point) -> bool
-    requires { IsShiftable by }
-    ensures { IsTrue result ↔ All (IsMovableSeg by) segs.now }
-{
-    segs.iter().all(|seg| can_move_seg(*seg, by))
-}
-
-fn can_move_contour(contour: &Contour, by: Point) -> bool
-    requires { IsShiftable by }
-    ensures { IsTrue result ↔ IsMovableContour by contour.now }
-{
-    can_move_point(contour.start, by) && can_move_segs(contour.segs.as_slice(), by)
 }
 
 fn can_move_object(object: &Object, by: Point) -> bool
@@ -118,13 +102,9 @@ fn can_move_object(object: &Object, by: Point) -> bool
             centre,
             ..
         } => { can_move_point(*from, by) && can_move_point(*to, by) && can_move_point(*centre, by) }
-        Object::Region { contour, .. } => can_move_contour(contour, by),
+        Object::Region { contour, .. } => {
+            let segs = contour.segs.as_slice();
+            can_move_point(contour.start, by) && segs.iter().all(|seg| can_move_seg(*seg, by))
+        }
     }
-}
-
-fn can_move_objects(objects: &[Object], by: Point) -> bool
-    requires { IsShiftable by }
-    ensures { IsTrue result ↔ All (IsMovableObject by) objects.now }
-{
-    objects.iter().all(|object| can_move_object(object, by))
 }

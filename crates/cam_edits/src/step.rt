@@ -152,20 +152,26 @@ impl Reversible for Step {
 fn insertion_count(group: &[Step]) -> usize
     ensures { result ≡ count_by is_insertion group.now }
 {
-    group
-        .iter()
-        .filter(|step| matches!(step, Step::Insert { .. }))
-        .count()
+    let mut count = 0;
+    for step in group {
+        if matches!(step, Step::Insert { .. }) {
+            count += 1;
+        }
+    }
+    count
 }
 
 /// How many of the steps put an attribute.
 fn attribute_count(group: &[Step]) -> usize
     ensures { result ≡ count_by puts_attribute group.now }
 {
-    group
-        .iter()
-        .filter(|step| matches!(step, Step::PutAttribute { .. }))
-        .count()
+    let mut count = 0;
+    for step in group {
+        if matches!(step, Step::PutAttribute { .. }) {
+            count += 1;
+        }
+    }
+    count
 }
 
 /// Whether there is an item at the place that can be moved so, and back.
@@ -183,7 +189,9 @@ fn has_aperture_at(items: &[Item], k: usize) -> bool
     ensures { IsTrue result ↔ HasAt (IsOne HasAperture) items.now k }
 {
     match items.get(k) {
-        Some(item) => has_aperture(item),
+        Some(Item::One(Object::Region { .. })) => false,
+        Some(Item::One(_)) => true,
+        Some(Item::Repeat { .. }) => false,
         None => false,
     }
 }
@@ -195,17 +203,6 @@ fn is_object_at(items: &[Item], k: usize) -> bool
     match items.get(k) {
         Some(item) => matches!(item, Item::One(_)),
         None => false,
-    }
-}
-
-/// Whether the item is a flash, a draw or an arc.
-fn has_aperture(item: &Item) -> bool
-    ensures { IsTrue result ↔ IsOne HasAperture item.now }
-{
-    match item {
-        Item::One(Object::Region { .. }) => false,
-        Item::One(_) => true,
-        Item::Repeat { .. } => false,
     }
 }
 

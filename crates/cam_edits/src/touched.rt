@@ -43,9 +43,10 @@ pub(crate) fn touched(alloc: Global, layer: &Layer, step: &Step) -> Result<Vec<B
             two_boxes(alloc, layer.item_bounds(*k), after)
         }
         Step::Polarity { k, .. } => kept_box(alloc, layer.item_bounds(*k)),
-        Step::PutAttribute { .. } => no_box(alloc),
-        Step::TakeAttribute { .. } => no_box(alloc),
-        Step::SetFields { .. } => no_box(alloc),
+        // An edit of attributes touches no box.
+        Step::PutAttribute { .. } => Ok(Vec::new(alloc)),
+        Step::TakeAttribute { .. } => Ok(Vec::new(alloc)),
+        Step::SetFields { .. } => Ok(Vec::new(alloc)),
     }
 }
 
@@ -75,13 +76,6 @@ pub(crate) fn drill_touched(
         }
         DrillStep::Diameter { t, d } => boxes_of_tool(alloc, layer, tools, *t, *d),
     }
-}
-
-/// No box: an edit of attributes touches none.
-fn no_box(alloc: Global) -> Result<Vec<Bounds>, AllocError>
-    ensures { IfOk result (λ boxes. boxes.items ≡ []) }
-{
-    Ok(Vec::new(alloc))
 }
 
 /// A box alone.

@@ -213,17 +213,14 @@ impl<S: Reversible> History<S> {
     {
         let past = self.past.len();
         let future = self.future.len();
-        match &self.group {
-            Some(group) => Counts {
-                past,
-                future,
-                group: Some(group.len()),
-            },
-            None => Counts {
-                past,
-                future,
-                group: None,
-            },
+        let group = match &self.group {
+            Some(group) => Some(group.len()),
+            None => None,
+        };
+        Counts {
+            past,
+            future,
+            group,
         }
     }
 

@@ -1,5 +1,5 @@
 -- How edits are judged by the checks of items.
-use Rattle.std.specs.Prelude.{ℕ, Bool, if◌then◌else◌, Option, None, Some, Result, Ok, Err}
+use Rattle.std.specs.Prelude.{ℕ, nat_lt, Bool, if◌then◌else◌, not, [], ◌∷◌, Option, None, Some, Result, Ok, Err}
 use Rattle.cam_refusals.specs.Checks.{answer_of, first_holding}
 use Rattle.cam_objects.specs.Contents.{Content, DrillContent}
 use Rattle.cam_objects.specs.declared.item.Item.{Item}
@@ -52,6 +52,19 @@ placed (Err fault) = Err (item_refusal fault)
 -- the first refusal of an insertion whose item was checked so, and whose place is there or not
 abbrev pub insertion_answer : Result Unit ItemFault → Bool → Result Unit EditFault
 insertion_answer checked has_place = if has_place then placed checked else Err (unplaced checked)
+
+-- the limits of the layer come last
+abbrev pub limited : Result Unit EditFault → Bool → Option EditFault
+limited (Ok done) room = if room then None else Some TooMuch
+limited (Err fault) room = Some fault
+
+-- and where the layer keeps its limits with it or not
+abbrev pub item_answer : Result Unit ItemFault → Bool → Bool → Result Unit EditFault
+item_answer checked has_place has_room = answer_of (limited (insertion_answer checked has_place) has_room)
+
+-- the refusal of an edit at a place of a list of so many items
+abbrev pub place_answer : ℕ → ℕ → Result Unit EditFault
+place_answer count k = answer_of (first_holding ((NoItem, not (nat_lt k count)) ∷ []))
 
 -- the flash, draw or arc with another aperture
 abbrev pub other_aperture : ℕ → Item → Option Item

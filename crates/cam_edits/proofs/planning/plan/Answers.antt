@@ -1,11 +1,11 @@
-use Rattle.std.proofs.Common.{◌≡◌, ap, sym, ◌∙◌}
+use Rattle.std.proofs.Common.{◌≡◌, ap, refl, sym, ◌∙◌}
 use Rattle.std.proofs.lemmas.Result.{err_from_is_err_and}
 use Rattle.cam_objects.specs.Contents.{content_of as gerber_content, drill_content_of as drill_content}
-use Rattle.cam_edits.proofs.DrillEdits as drill_edits
-use Rattle.cam_edits.proofs.FittingEdits as fitting_edits
-use Rattle.cam_edits.proofs.Plans.{drill_no_memory, drill_planned, drill_told, no_layer, no_memory, planned, sound_there, told}
+use Rattle.cam_edits.proofs.FittingEdits.{change_accepted}
+use Rattle.cam_edits.proofs.Plans.{drill_planned, no_layer, no_memory, planned, sound_there, told}
+use Rattle.cam_edits.proofs.Refusals.{accepted}
 use Rattle.cam_edits.proofs.planning.plan.Goals as goal
-use Rattle.cam_edits.specs.Editing.{drill_step_of}
+use Rattle.cam_edits.specs.Editing.{drill_step_checks, drill_step_of, judged_change, judged_drill, with_drill, with_gerber}
 use Rattle.cam_edits.specs.Machinery.Shifts.{drill_leaves_in, leaves_in}
 use Rattle.cam_edits.specs.Sheets.{Content, Gerber, Drill, content_of, sheets_of}
 use Rattle.cam_edits.specs.declared.board.SheetContent.{SheetContent}
@@ -25,52 +25,50 @@ judged-requires-clause-leaves c = c.leaves.ensures ∙ sym (ap leaves_in c.layer
 
 pub judged-requires-clause-sound : goal.judged-requires-clause-sound
 judged-requires-clause-sound c =
-    let sheets = sheets_of c.args.board.now in
     let holds = held kept.Gerber _ _ _ _ c.content.ensures c.in-Gerber.is c.layer-layer.ensures in
-    sound_there c.args.edit sheets c.in-Some.sheet (sym c.in-Some.ensures.value) c.in-Some.ensures.within c.requires
-    (Gerber (gerber_content c.layer-layer.result.now)) holds
+    sound_there c.args.edit (sheets_of c.args.board.now) c.in-Some.sheet (sym c.in-Some.ensures.value)
+    c.in-Some.ensures.within c.requires (Gerber (gerber_content c.layer-layer.result.now)) holds
 
 pub returns-in_err-step-in-Gerber-clause-refused : goal.returns-in_err-step-in-Gerber-clause-refused
 returns-in_err-step-in-Gerber-clause-refused c =
-    let sheets = sheets_of c.args.board.now in
+    let layer = gerber_content c.layer-layer.result.now in
     let holds = held kept.Gerber _ _ _ _ c.content.ensures c.in-Gerber.is c.layer-layer.ensures in
     let p = err_from_is_err_and c.from_residual.result c.from_residual.ensures.1 in
     rw (p.1, p.2)
-    (told c.args.edit sheets c.in-Some.sheet (sym c.in-Some.ensures.value) c.in-Some.ensures.within
-    (gerber_content c.layer-layer.result.now) holds c.in_err-step-in-Gerber.field-0.0
-    (sym c.in_err-step-in-Gerber.ensures.value))
+    (told c.args.edit (sheets_of c.args.board.now) c.in-Some.sheet (sym c.in-Some.ensures.value) c.in-Some.ensures.within
+    (Gerber layer) holds (with_gerber layer) (judged_change layer c.args.edit.change) refl c.in_err-step-in-Gerber.field-0.0 (sym c.in_err-step-in-Gerber.ensures.value))
 
 pub touched-requires-clause-sound : goal.touched-requires-clause-sound
 touched-requires-clause-sound c =
-    let sheets = sheets_of c.args.board.now in
     let holds = held kept.Gerber _ _ _ _ c.content.ensures c.in-Gerber.is c.layer-layer.ensures in
-    (sound_there c.args.edit sheets c.in-Some.sheet (sym c.in-Some.ensures.value) c.in-Some.ensures.within c.requires
-    (Gerber (gerber_content c.layer-layer.result.now)) holds).content
+    (sound_there c.args.edit (sheets_of c.args.board.now) c.in-Some.sheet (sym c.in-Some.ensures.value)
+    c.in-Some.ensures.within c.requires (Gerber (gerber_content c.layer-layer.result.now)) holds).content
 
 pub touched-requires-clause-accepted : goal.touched-requires-clause-accepted
 touched-requires-clause-accepted c =
-    (fitting_edits.change_accepted (gerber_content c.layer-layer.result.now) c.args.edit.change c.in_ok-step-in-Gerber.step
+    (change_accepted (gerber_content c.layer-layer.result.now) c.args.edit.change c.in_ok-step-in-Gerber.step
     (sym c.in_ok-step-in-Gerber.ensures.value)).1
 
 pub returns-in_err-boxes-in-Gerber-clause-refused : goal.returns-in_err-boxes-in-Gerber-clause-refused
 returns-in_err-boxes-in-Gerber-clause-refused c =
-    let sheets = sheets_of c.args.board.now in
+    let layer = gerber_content c.layer-layer.result.now in
     let holds = held kept.Gerber _ _ _ _ c.content.ensures c.in-Gerber.is c.layer-layer.ensures in
     let up = c.from_residual-in_err-boxes-in-Gerber in
     let p = err_from_is_err_and up.result up.ensures.1 in
     rw p.1
-    (no_memory c.args.edit sheets c.in-Some.sheet (sym c.in-Some.ensures.value) c.in-Some.ensures.within
-    (gerber_content c.layer-layer.result.now) holds c.in_ok-step-in-Gerber.step (sym c.in_ok-step-in-Gerber.ensures.value)
-    p.0 p.2)
+    (no_memory c.args.edit (sheets_of c.args.board.now) c.in-Some.sheet (sym c.in-Some.ensures.value)
+    c.in-Some.ensures.within (Gerber layer) holds (with_gerber layer) (judged_change layer c.args.edit.change) refl
+    c.in_ok-step-in-Gerber.step (sym c.in_ok-step-in-Gerber.ensures.value) p.0 p.2)
 
 pub returns-in-Gerber-clause-planned : goal.returns-in-Gerber-clause-planned
 returns-in-Gerber-clause-planned c =
     let sheets = sheets_of c.args.board.now in
+    let named = sym c.in-Some.ensures.value in
     let holds = held kept.Gerber _ _ _ _ c.content.ensures c.in-Gerber.is c.layer-layer.ensures in
-    planned c.args.edit sheets c.in-Some.sheet (sym c.in-Some.ensures.value) c.in-Some.ensures.within
-    (gerber_content c.layer-layer.result.now) holds c.in_ok-step-in-Gerber.step (sym c.in_ok-step-in-Gerber.ensures.value)
-    c.in_ok-boxes-in-Gerber.boxes c.in_ok-boxes-in-Gerber.ensures c.in_ok-step-in-Gerber.ensures.fits
-    (sound_there c.args.edit sheets c.in-Some.sheet (sym c.in-Some.ensures.value) c.in-Some.ensures.within c.requires
+    planned c.args.edit sheets c.in-Some.sheet named c.in-Some.ensures.within (gerber_content c.layer-layer.result.now)
+    holds c.in_ok-step-in-Gerber.step (sym c.in_ok-step-in-Gerber.ensures.value) c.in_ok-boxes-in-Gerber.boxes
+    c.in_ok-boxes-in-Gerber.ensures c.in_ok-step-in-Gerber.ensures.fits
+    (sound_there c.args.edit sheets c.in-Some.sheet named c.in-Some.ensures.within c.requires
     (Gerber (gerber_content c.layer-layer.result.now)) holds).content
 
 pub judged_drill-requires-clause-leaves : goal.judged_drill-requires-clause-leaves
@@ -79,49 +77,50 @@ judged_drill-requires-clause-leaves c =
 
 pub judged_drill-requires-clause-sound : goal.judged_drill-requires-clause-sound
 judged_drill-requires-clause-sound c =
-    let sheets = sheets_of c.args.board.now in
     let holds = held kept.Drill _ _ _ _ c.content.ensures c.in-Drill.is c.layer-layer-in-Drill.ensures in
-    sound_there c.args.edit sheets c.in-Some.sheet (sym c.in-Some.ensures.value) c.in-Some.ensures.within c.requires
-    (Drill (drill_content c.layer-layer-in-Drill.result.now)) holds
+    sound_there c.args.edit (sheets_of c.args.board.now) c.in-Some.sheet (sym c.in-Some.ensures.value)
+    c.in-Some.ensures.within c.requires (Drill (drill_content c.layer-layer-in-Drill.result.now)) holds
 
 pub returns-in_err-step-in-Drill-clause-refused : goal.returns-in_err-step-in-Drill-clause-refused
 returns-in_err-step-in-Drill-clause-refused c =
-    let sheets = sheets_of c.args.board.now in
+    let layer = drill_content c.layer-layer-in-Drill.result.now in
     let holds = held kept.Drill _ _ _ _ c.content.ensures c.in-Drill.is c.layer-layer-in-Drill.ensures in
     let up = c.from_residual-in_err-step-in-Drill in
     let p = err_from_is_err_and up.result up.ensures.1 in
     rw (p.1, p.2)
-    (drill_told c.args.edit sheets c.in-Some.sheet (sym c.in-Some.ensures.value) c.in-Some.ensures.within
-    (drill_content c.layer-layer-in-Drill.result.now) holds c.in_err-step-in-Drill.field-0.0 (sym c.in_err-step-in-Drill.ensures.value))
+    (told c.args.edit (sheets_of c.args.board.now) c.in-Some.sheet (sym c.in-Some.ensures.value) c.in-Some.ensures.within
+    (Drill layer) holds (with_drill layer) (judged_drill layer (drill_step_of c.args.edit.change)) refl
+    c.in_err-step-in-Drill.field-0.0 (sym c.in_err-step-in-Drill.ensures.value))
 
 pub drill_touched-requires-clause-sound : goal.drill_touched-requires-clause-sound
 drill_touched-requires-clause-sound c =
-    let sheets = sheets_of c.args.board.now in
     let holds = held kept.Drill _ _ _ _ c.content.ensures c.in-Drill.is c.layer-layer-in-Drill.ensures in
-    sound_there c.args.edit sheets c.in-Some.sheet (sym c.in-Some.ensures.value) c.in-Some.ensures.within c.requires
-    (Drill (drill_content c.layer-layer-in-Drill.result.now)) holds
+    sound_there c.args.edit (sheets_of c.args.board.now) c.in-Some.sheet (sym c.in-Some.ensures.value)
+    c.in-Some.ensures.within c.requires (Drill (drill_content c.layer-layer-in-Drill.result.now)) holds
 
 pub drill_touched-requires-clause-accepted : goal.drill_touched-requires-clause-accepted
 drill_touched-requires-clause-accepted c =
-    (drill_edits.accepted (drill_content c.layer-layer-in-Drill.result.now) (drill_step_of c.args.edit.change) c.in_ok-step-in-Drill.step
-    (sym c.in_ok-step-in-Drill.ensures.value)).1
+    (accepted (drill_step_checks (drill_content c.layer-layer-in-Drill.result.now)) (drill_step_of c.args.edit.change)
+    c.in_ok-step-in-Drill.step (sym c.in_ok-step-in-Drill.ensures.value)).1
 
 pub returns-in_err-boxes-in-Drill-clause-refused : goal.returns-in_err-boxes-in-Drill-clause-refused
 returns-in_err-boxes-in-Drill-clause-refused c =
-    let sheets = sheets_of c.args.board.now in
+    let layer = drill_content c.layer-layer-in-Drill.result.now in
     let holds = held kept.Drill _ _ _ _ c.content.ensures c.in-Drill.is c.layer-layer-in-Drill.ensures in
     let up = c.from_residual-in_err-boxes-in-Drill in
     let p = err_from_is_err_and up.result up.ensures.1 in
     rw p.1
-    (drill_no_memory c.args.edit sheets c.in-Some.sheet (sym c.in-Some.ensures.value) c.in-Some.ensures.within
-    (drill_content c.layer-layer-in-Drill.result.now) holds c.in_ok-step-in-Drill.step (sym c.in_ok-step-in-Drill.ensures.value) p.0 p.2)
+    (no_memory c.args.edit (sheets_of c.args.board.now) c.in-Some.sheet (sym c.in-Some.ensures.value)
+    c.in-Some.ensures.within (Drill layer) holds (with_drill layer)
+    (judged_drill layer (drill_step_of c.args.edit.change)) refl c.in_ok-step-in-Drill.step (sym c.in_ok-step-in-Drill.ensures.value) p.0 p.2)
 
 pub returns-clause-planned : goal.returns-clause-planned
 returns-clause-planned c =
     let sheets = sheets_of c.args.board.now in
+    let named = sym c.in-Some.ensures.value in
+    let layer = drill_content c.layer-layer-in-Drill.result.now in
     let holds = held kept.Drill _ _ _ _ c.content.ensures c.in-Drill.is c.layer-layer-in-Drill.ensures in
-    drill_planned c.args.edit sheets c.in-Some.sheet (sym c.in-Some.ensures.value) c.in-Some.ensures.within
-    (drill_content c.layer-layer-in-Drill.result.now) holds c.in_ok-step-in-Drill.step (sym c.in_ok-step-in-Drill.ensures.value)
-    c.in_ok-boxes-in-Drill.boxes c.in_ok-boxes-in-Drill.ensures c.in_ok-step-in-Drill.ensures.fits
-    (sound_there c.args.edit sheets c.in-Some.sheet (sym c.in-Some.ensures.value) c.in-Some.ensures.within c.requires
-    (Drill (drill_content c.layer-layer-in-Drill.result.now)) holds)
+    drill_planned c.args.edit sheets c.in-Some.sheet named c.in-Some.ensures.within layer holds c.in_ok-step-in-Drill.step
+    (sym c.in_ok-step-in-Drill.ensures.value) c.in_ok-boxes-in-Drill.boxes c.in_ok-boxes-in-Drill.ensures
+    c.in_ok-step-in-Drill.ensures.fits
+    (sound_there c.args.edit sheets c.in-Some.sheet named c.in-Some.ensures.within c.requires (Drill layer) holds)

@@ -11,75 +11,56 @@ use Rattle.cam_edits.proofs.board_step.BoardStepReversible.play.Goals as goal
 pub returns-in-Gerber-clause-content : goal.returns-in-Gerber-clause-content
 returns-in-Gerber-clause-content c =
     let step = c.in-Gerber.step in
-    let xs = c.args.board.now.sheets.items in
-    let k = c.in-Gerber.sheet in
-    let s = c.index_mut.result.now in
     let fits = rw c.in-Gerber.is at c.requires.fits in
-    let e = sheet_at (λ (t : Sheet). IsFitOn step t.content) xs k s fits c.index_mut.ensures.value in
-    rw c.in-Gerber.is
-    (sheets_changed xs k s e (after_on step) c.play_on.new.content c.play_on.ensures.content)
+    let e = sheet_at (λ (t : Sheet). IsFitOn step t.content) _ c.in-Gerber.sheet _ fits c.index_mut.ensures.value in
+    rw c.in-Gerber.is (sheets_changed _ _ _ e (after_on step) _ c.play_on.ensures.content)
 
 pub returns-in-Gerber-clause-answer : goal.returns-in-Gerber-clause-answer
 returns-in-Gerber-clause-answer c =
     let step = c.in-Gerber.step in
-    let xs = c.args.board.now.sheets.items in
-    let k = c.in-Gerber.sheet in
-    let s = c.index_mut.result.now in
     let fits = rw c.in-Gerber.is at c.requires.fits in
-    let e = sheet_at (λ (t : Sheet). IsFitOn step t.content) xs k s fits c.index_mut.ensures.value in
+    let e = sheet_at (λ (t : Sheet). IsFitOn step t.content) _ c.in-Gerber.sheet _ fits c.index_mut.ensures.value in
     rw c.in-Gerber.is
-    (ap (λ (answer : Step). steps.Gerber k answer c.in-Gerber.boxes)
-    (c.play_on.ensures.answer ∙ ap (inverse_on step) (sym (content_is xs k s e))))
+    (ap (λ (answer : Step). steps.Gerber c.in-Gerber.sheet answer c.in-Gerber.boxes)
+    (c.play_on.ensures.answer ∙ ap (inverse_on step) (sym (content_is c.args.board.now.sheets.items c.in-Gerber.sheet _ e))))
 
 pub returns-in-Gerber-clause-room : goal.returns-in-Gerber-clause-room
 returns-in-Gerber-clause-room c = λ rest room.
     let step = c.in-Gerber.step in
-    let xs = c.args.board.now.sheets.items in
     let k = c.in-Gerber.sheet in
-    let s = c.index_mut.result.now in
     let fits = rw c.in-Gerber.is at c.requires.fits in
-    let e = sheet_at (λ (t : Sheet). IsFitOn step t.content) xs k s fits c.index_mut.ensures.value in
-    let fit = told_there xs k s e (λ (t : Sheet). IsFitOn step t.content) fits in
-    room_for_rest rest (steps.Gerber k step c.in-Gerber.boxes) xs k s c.play_on.new.content e
-    (room_here k rest c.in-Gerber.boxes step s.content c.play_on.new.content fit c.play_on.ensures.content
-    c.play_on.ensures.room)
+    let e = sheet_at (λ (t : Sheet). IsFitOn step t.content) _ k _ fits c.index_mut.ensures.value in
+    let fit = told_there c.args.board.now.sheets.items c.in-Gerber.sheet _ e (λ (t : Sheet). IsFitOn step t.content) fits in
+    room_for_rest rest (steps.Gerber k step c.in-Gerber.boxes) _ k _ c.play_on.new.content e
+    (room_here k rest c.in-Gerber.boxes step _ c.play_on.new.content fit c.play_on.ensures.content c.play_on.ensures.room)
     (rw c.in-Gerber.is at room)
 
 pub returns-in-Drill-clause-content : goal.returns-in-Drill-clause-content
 returns-in-Drill-clause-content c =
     let step = c.in-Drill.step in
-    let xs = c.args.board.now.sheets.items in
-    let k = c.in-Drill.sheet in
-    let s = c.index_mut-in-Drill.result.now in
     let fits = rw c.in-Drill.is at c.requires.fits in
-    let e = sheet_at (λ (t : Sheet). IsDrillFitOn step t.content) xs k s fits c.index_mut-in-Drill.ensures.value in
-    rw c.in-Drill.is
-    (sheets_changed xs k s e (after_drill_on step) c.play_drill_on.new.content c.play_drill_on.ensures.content)
+    let e = sheet_at (λ (t : Sheet). IsDrillFitOn step t.content) _ c.in-Drill.sheet _ fits c.index_mut-in-Drill.ensures.value in
+    rw c.in-Drill.is (sheets_changed _ _ _ e (after_drill_on step) _ c.play_drill_on.ensures.content)
 
 pub returns-in-Drill-clause-answer : goal.returns-in-Drill-clause-answer
 returns-in-Drill-clause-answer c =
     let step = c.in-Drill.step in
-    let xs = c.args.board.now.sheets.items in
-    let k = c.in-Drill.sheet in
-    let s = c.index_mut-in-Drill.result.now in
     let fits = rw c.in-Drill.is at c.requires.fits in
-    let e = sheet_at (λ (t : Sheet). IsDrillFitOn step t.content) xs k s fits c.index_mut-in-Drill.ensures.value in
+    let e = sheet_at (λ (t : Sheet). IsDrillFitOn step t.content) _ c.in-Drill.sheet _ fits c.index_mut-in-Drill.ensures.value in
     rw c.in-Drill.is
-    (ap (λ (answer : DrillStep). steps.Drill k answer c.in-Drill.boxes)
-    (c.play_drill_on.ensures.answer ∙ ap (inverse_drill_on step) (sym (content_is xs k s e))))
+    (ap (λ (answer : DrillStep). steps.Drill c.in-Drill.sheet answer c.in-Drill.boxes)
+    (c.play_drill_on.ensures.answer ∙ ap (inverse_drill_on step) (sym (content_is c.args.board.now.sheets.items c.in-Drill.sheet _ e))))
 
 pub returns-in-Drill-clause-room : goal.returns-in-Drill-clause-room
 returns-in-Drill-clause-room c = λ rest room.
     let step = c.in-Drill.step in
-    let xs = c.args.board.now.sheets.items in
     let k = c.in-Drill.sheet in
-    let s = c.index_mut-in-Drill.result.now in
     let fits = rw c.in-Drill.is at c.requires.fits in
-    let e = sheet_at (λ (t : Sheet). IsDrillFitOn step t.content) xs k s fits c.index_mut-in-Drill.ensures.value in
-    let fit = told_there xs k s e (λ (t : Sheet). IsDrillFitOn step t.content) fits in
-    room_for_rest rest (steps.Drill k step c.in-Drill.boxes) xs k s c.play_drill_on.new.content e
-    (drill_room_here k rest c.in-Drill.boxes step s.content c.play_drill_on.new.content fit
-    c.play_drill_on.ensures.content c.play_drill_on.ensures.room)
+    let e = sheet_at (λ (t : Sheet). IsDrillFitOn step t.content) _ k _ fits c.index_mut-in-Drill.ensures.value in
+    let fit = told_there c.args.board.now.sheets.items c.in-Drill.sheet _ e (λ (t : Sheet). IsDrillFitOn step t.content) fits in
+    room_for_rest rest (steps.Drill k step c.in-Drill.boxes) _ k _ c.play_drill_on.new.content e
+    (drill_room_here k rest c.in-Drill.boxes step _ c.play_drill_on.new.content fit c.play_drill_on.ensures.content
+    c.play_drill_on.ensures.room)
     (rw c.in-Drill.is at room)
 
 pub index_mut-requires : goal.index_mut-requires
@@ -91,12 +72,9 @@ index_mut-requires c =
 pub play_on-requires-clause-fits : goal.play_on-requires-clause-fits
 play_on-requires-clause-fits c =
     let step = c.in-Gerber.step in
-    let xs = c.args.board.now.sheets.items in
-    let k = c.in-Gerber.sheet in
-    let s = c.index_mut.result.now in
     let fits = rw c.in-Gerber.is at c.requires.fits in
-    let e = sheet_at (λ (t : Sheet). IsFitOn step t.content) xs k s fits c.index_mut.ensures.value in
-    told_there xs k s e (λ (t : Sheet). IsFitOn step t.content) fits
+    let e = sheet_at (λ (t : Sheet). IsFitOn step t.content) _ c.in-Gerber.sheet _ fits c.index_mut.ensures.value in
+    told_there c.args.board.now.sheets.items c.in-Gerber.sheet _ e (λ (t : Sheet). IsFitOn step t.content) fits
 
 pub index_mut-requires-in-Drill : goal.index_mut-requires-in-Drill
 index_mut-requires-in-Drill c =
@@ -107,9 +85,6 @@ index_mut-requires-in-Drill c =
 pub play_drill_on-requires-clause-fits : goal.play_drill_on-requires-clause-fits
 play_drill_on-requires-clause-fits c =
     let step = c.in-Drill.step in
-    let xs = c.args.board.now.sheets.items in
-    let k = c.in-Drill.sheet in
-    let s = c.index_mut-in-Drill.result.now in
     let fits = rw c.in-Drill.is at c.requires.fits in
-    let e = sheet_at (λ (t : Sheet). IsDrillFitOn step t.content) xs k s fits c.index_mut-in-Drill.ensures.value in
-    told_there xs k s e (λ (t : Sheet). IsDrillFitOn step t.content) fits
+    let e = sheet_at (λ (t : Sheet). IsDrillFitOn step t.content) _ c.in-Drill.sheet _ fits c.index_mut-in-Drill.ensures.value in
+    told_there c.args.board.now.sheets.items c.in-Drill.sheet _ e (λ (t : Sheet). IsDrillFitOn step t.content) fits

@@ -1,10 +1,11 @@
-use Rattle.std.proofs.Common.{◌∙◌, ◌∷◌, ◌++◌, [], ap, subst, sym}
-use Rattle.cam_objects.specs.Cells.{AreFirstCopiesOf}
-use Rattle.cam_objects.specs.Contents.{Content, content_of}
-use Rattle.cam_objects.specs.Soundness.{IsSoundContent}
+use Rattle.std.proofs.Common.{◌∙◌, ◌∷◌, ◌++◌, [], List, ap, subst, sym, arith}
+use Rattle.cam_units.specs.declared.bounds.Bounds.{Bounds}
+use Rattle.cam_objects.specs.Cells.{AreCellsOf, AreFirstCopiesOf}
+use Rattle.cam_objects.specs.Contents.{content_of}
 use Rattle.cam_objects.specs.declared.layer.Layer.{Layer}
-use Rattle.cam_edits.specs.Machinery.Shifts.{IsShift}
+use Rattle.cam_edits.specs.Machinery.Shifts.{WereCells}
 use Rattle.cam_edits.specs.Steps.{HasRoom, IsSoundStep, after_step, inverse_step}
+use Rattle.cam_edits.proofs.ShiftedItems.{boxes_of, kept_before, layer_cells, layer_leaves}
 use Rattle.cam_edits.proofs.indexed.IndexedLayer.play.Goals as goal
 
 pub leaves_at-gone-requires : goal.leaves_at-gone-requires
@@ -14,39 +15,71 @@ pub play-answer-requires-clause-fits : goal.play-answer-requires-clause-fits
 play-answer-requires-clause-fits c =
     (subst (λ (l : Layer). IsSoundStep c.args.step (content_of l)) (sym c.self.view_is) c.requires.fits).fits
 
-pub mend_kept-requires : goal.mend_kept-requires
-mend_kept-requires c =
-    let before = c.self.inside.layer in
-    let content = c.play-answer.ensures.content in
-    let fits = subst (λ (l : Layer). IsSoundStep c.args.step (content_of l)) (sym c.self.view_is) c.requires.fits in
-    record {
-      before = before;
-      known = c.self.invariant.kept;
-      sound = subst (λ (x : Content). IsSoundContent x.entries x.items) (sym content) fits.after;
-      entries = sym (ap (λ (x : Content). x.entries) content);
-      shifted = subst (IsShift c.of-shift.result before.items.items) (sym (ap (λ (x : Content). x.items) content))
-          (c.of-shift.ensures (content_of before) fits.fits);
-      left = c.leaves_at-gone.ensures;
-    }
+pub leaves_at-come-requires : goal.leaves_at-come-requires
+leaves_at-come-requires c =
+    let was = kept_before _ c.play-answer.new.layer _ c.args.step c.of-shift.result _ c.leaves_at-gone.result
+    c.self.invariant.kept c.self.view_is c.requires.fits c.play-answer.ensures.content
+    c.of-shift.ensures c.leaves_at-gone.ensures in
+    was.sound
+
+pub overflow_add-self : goal.overflow_add-self
+overflow_add-self c =
+    let was = kept_before _ c.play-answer.new.layer _ c.args.step c.of-shift.result _ c.leaves_at-gone.result
+    c.self.invariant.kept c.self.view_is c.requires.fits c.play-answer.ensures.content
+    c.of-shift.ensures c.leaves_at-gone.ensures in
+    let all = layer_leaves _ _ _ _ _ was c.leaves_at-come.ensures in
+    omega (arith, all.few)
+
+pub overflow_sub-self : goal.overflow_sub-self
+overflow_sub-self c =
+    let was = kept_before _ c.play-answer.new.layer _ c.args.step c.of-shift.result _ c.leaves_at-gone.result
+    c.self.invariant.kept c.self.view_is c.requires.fits c.play-answer.ensures.content
+    c.of-shift.ensures c.leaves_at-gone.ensures in
+    let all = layer_leaves _ _ _ _ _ was c.leaves_at-come.ensures in
+    omega (arith, all.sum)
+
+pub mend-requires : goal.mend-requires
+mend-requires c =
+    let was = kept_before _ c.play-answer.new.layer _ c.args.step c.of-shift.result _ c.leaves_at-gone.result
+    c.self.invariant.kept c.self.view_is c.requires.fits c.play-answer.ensures.content
+    c.of-shift.ensures c.leaves_at-gone.ensures in
+    subst (λ (l : Layer). WereCells c.of-shift.result c.self.inside.kept.cells (boxes_of l)) (sym c.boxes.ensures)
+    (layer_cells was.before c.play-answer.new.layer c.of-shift.result _ was.entries was.shifted was.known.cells)
 
 pub mend_copies-requires-clause-sound : goal.mend_copies-requires-clause-sound
-mend_copies-requires-clause-sound c = c.mend_kept.ensures.sound
+mend_copies-requires-clause-sound c =
+    let was = kept_before _ c.play-answer.new.layer _ c.args.step c.of-shift.result _ c.leaves_at-gone.result
+    c.self.invariant.kept c.self.view_is c.requires.fits c.play-answer.ensures.content
+    c.of-shift.ensures c.leaves_at-gone.ensures in
+    was.sound
 
 pub mend_copies-requires-clause-was : goal.mend_copies-requires-clause-was
 mend_copies-requires-clause-was c =
-    let before = c.self.inside.layer in
-    let content = c.play-answer.ensures.content in
-    let fits = subst (λ (l : Layer). IsSoundStep c.args.step (content_of l)) (sym c.self.view_is) c.requires.fits in
+    let was = kept_before _ c.play-answer.new.layer _ c.args.step c.of-shift.result _ c.leaves_at-gone.result
+    c.self.invariant.kept c.self.view_is c.requires.fits c.play-answer.ensures.content
+    c.of-shift.ensures c.leaves_at-gone.ensures in
     record {
-      before = before.items.items;
-      known = subst (λ es. AreFirstCopiesOf es before.items.items c.self.inside.copies)
-          (sym (ap (λ (x : Content). x.entries) content)) c.self.invariant.copies;
-      edit = subst (IsShift c.of-shift.result before.items.items) (sym (ap (λ (x : Content). x.items) content))
-          (c.of-shift.ensures (content_of before) fits.fits);
+      before = was.before.items.items;
+      known = subst (λ es. AreFirstCopiesOf es c.self.inside.layer.items.items c.self.inside.copies) was.entries
+          c.self.invariant.copies;
+      edit = was.shifted;
     }
 
 pub invariant_of-self : goal.invariant_of-self
-invariant_of-self c = record { kept = c.mend_kept.ensures; copies = c.mend_copies.ensures }
+invariant_of-self c =
+    let was = kept_before _ c.play-answer.new.layer _ c.args.step c.of-shift.result _ c.leaves_at-gone.result
+    c.self.invariant.kept c.self.view_is c.requires.fits c.play-answer.ensures.content
+    c.of-shift.ensures c.leaves_at-gone.ensures in
+    let all = layer_leaves _ _ _ _ _ was c.leaves_at-come.ensures in
+    record {
+      kept = record {
+        sound = was.sound;
+        leaves = omega (arith, all.sum);
+        cells = subst (λ (those : List Bounds). AreCellsOf those c.mend.new.cells) (ap boxes_of c.boxes.ensures)
+            c.mend.ensures;
+      };
+      copies = c.mend_copies.ensures;
+    }
 
 pub returns-clause-content : goal.returns-clause-content
 returns-clause-content c =
