@@ -1,14 +1,11 @@
 //! Answers questions.
 
-ghost use Rattle.std.specs.Prelude.{◌++◌, ◌≡◌, Err, IfOk, MatchResult, Ok, OnOk, option_to_list, slice_get};
+ghost use Rattle.std.specs.Prelude.{◌++◌, ◌≡◌, Err, IfOk, OnOk, option_to_list, slice_get};
 ghost use Rattle.std.specs.List.{flat_map};
-ghost use Rattle.cam_refusals.specs.declared.refusal.Refusal.TheVariants.{NoMemory};
 ghost use Rattle.cam_edits.specs.Boards.{place_named};
 ghost use Rattle.cam_edits.specs.Sheets.{IsSound, content_of};
-ghost use Rattle.cam_undo.specs.Counted.{counts_at};
 ghost use Rattle.cam_station.specs.Machine.{fault};
 ghost use Rattle.cam_ask.specs.Answers.{IsAnswer, IsAnswerAt, IsAnswerOf, IsAsked, sheet_line};
-ghost use Rattle.cam_ask.specs.Texts.{history_line};
 
 use crate::lines::{push_history, push_layer};
 use crate::telling::{can_be_asked, has_place, told};
@@ -23,16 +20,6 @@ fn refused(code: Refusal) -> Result<Bytes, Fault>
     ensures { result ≡ Err (fault code) }
 {
     Err(Fault { code, at: None })
-}
-
-/// A text as an answer; a refusal where there was no memory for it.
-fn granted(text: Result<Vec<u8>, AllocError>) -> Result<Bytes, Fault>
-    ensures { MatchResult text (λ v. result ≡ Ok v.items) (λ _. result ≡ Err (fault NoMemory)) }
-{
-    match text {
-        Ok(text) => Ok(Bytes::from_vec(text)),
-        Err(_) => refused(Refusal::NoMemory),
-    }
 }
 
 /// Writes the line of the layer at a place.
@@ -58,16 +45,6 @@ fn told_layers(alloc: Global, station: &Station) -> Result<Vec<u8>, AllocError>
     Ok(text)
 }
 
-/// Writes the line of the history.
-fn told_history(alloc: Global, station: &Station) -> Result<Vec<u8>, AllocError>
-    ensures { IfOk result
-        (λ text. text.items ≡ history_line (counts_at station.now.timeline)) }
-{
-    let mut text = Vec::new(alloc);
-    push_history(&mut text, station.history())?;
-    Ok(text)
-}
-
 /// The answer of what a layer holds.
 fn answer_of(alloc: Global, content: &SheetContent, query: Query) -> Result<Bytes, Fault>
     requires { IsSound (content_of content.now) }
@@ -79,7 +56,7 @@ fn answer_of(alloc: Global, content: &SheetContent, query: Query) -> Result<Byte
     if !has_place(content, query) {
         return refused(Refusal::NoItem);
     }
-    granted(told(alloc, content, query))
+    Ok(Bytes::from_vec(told(alloc, content, query)?))
 }
 
 /// The answer of the layer of a name.
@@ -106,8 +83,12 @@ pub fn answer(alloc: Global, station: &Station, question: &Question) -> Result<B
     ensures { IsAnswer station.now question.now result }
 {
     match question {
-        Question::Layers => granted(told_layers(alloc, station)),
-        Question::History => granted(told_history(alloc, station)),
+        Question::Layers => Ok(Bytes::from_vec(told_layers(alloc, station)?)),
+        Question::History => {
+            let mut text = Vec::new(alloc);
+            push_history(&mut text, station.history())?;
+            Ok(Bytes::from_vec(text))
+        }
         Question::OfLayer { name, query } => answer_named(alloc, station, name, *query),
     }
 }

@@ -1,6 +1,6 @@
 //! The lines of answers.
 
-ghost use Rattle.std.specs.Prelude.{[], ◌++◌, ◌∷◌, ◌≡◌, OnOk, codes, decimal, length};
+ghost use Rattle.std.specs.Prelude.{[], ◌++◌, ◌∷◌, ◌≡◌, OnOk, codes, decimal};
 ghost use Rattle.std.specs.Fmt.{signed_decimal};
 ghost use Rattle.cam_edits.specs.Sheets.{content_of};
 ghost use Rattle.cam_script.specs.Spelling.{spaced};
@@ -11,12 +11,10 @@ ghost use Rattle.cam_ask.specs.Texts.{
   corner_text,
   drill_item_lines,
   entry_lines,
-  half_of,
   history_line,
   item_lines,
   kind_word,
   layer_line,
-  part_line,
   part_lines,
   place_line,
   repeated_text,
@@ -69,17 +67,6 @@ pub fn push_place(text: &mut Vec<u8>, place: usize) -> Result<(), AllocError>
     end_line(text)
 }
 
-/// Writes so many half nm, in nm.
-fn push_half(text: &mut Vec<u8>, halves: u64) -> Result<(), AllocError>
-    ensures { OnOk result (text.new.items ≡ text.old.items ++ half_of halves) }
-{
-    push_decimal(text, halves / 2)?;
-    if halves % 2 == 0 {
-        return Ok(());
-    }
-    text.extend_from_slice(b".5")
-}
-
 /// Writes a coordinate of so many half nm, in nm.
 #[tactic(auto, unfolding(crate::specs::Texts::coordinate_text))]
 fn push_coordinate(text: &mut Vec<u8>, halves: i64) -> Result<(), AllocError>
@@ -88,7 +75,12 @@ fn push_coordinate(text: &mut Vec<u8>, halves: i64) -> Result<(), AllocError>
     if halves < 0 {
         text.push(b'-')?;
     }
-    push_half(text, halves.unsigned_abs())
+    let halves = halves.unsigned_abs();
+    push_decimal(text, halves / 2)?;
+    if halves % 2 == 0 {
+        return Ok(());
+    }
+    text.extend_from_slice(b".5")
 }
 
 /// Writes the coordinates of a corner.
@@ -116,21 +108,14 @@ pub fn push_box(text: &mut Vec<u8>, bounds: Bounds) -> Result<(), AllocError>
     end_line(text)
 }
 
-/// Writes the line of an object of a block or of a repeat.
-fn push_part(text: &mut Vec<u8>, object: &Object) -> Result<(), AllocError>
-    ensures { OnOk result (text.new.items ≡ text.old.items ++ part_line object.now) }
-{
-    text.extend_from_slice(b"  ")?;
-    push_object_words(text, object)?;
-    end_line(text)
-}
-
 /// Writes the lines of the objects of a block or of a repeat.
 fn push_parts(text: &mut Vec<u8>, objects: &[Object]) -> Result<(), AllocError>
     ensures { OnOk result (text.new.items ≡ text.old.items ++ part_lines objects.now) }
 {
     for object in objects {
-        push_part(text, object)?;
+        text.extend_from_slice(b"  ")?;
+        push_object_words(text, object)?;
+        end_line(text)?;
     }
     Ok(())
 }

@@ -1,6 +1,6 @@
 //! The boxes of what items paint, in half nm, and the items of which a box encloses them.
 
-ghost use Rattle.std.specs.Prelude.{[], ◌∷◌, ◌≡◌, ◌≤◌, ◌<◌, ◌+ℤ◌, ◌*ℤ◌, ◌-ℤ◌, ◌≤ℤ◌, ◌↔◌, IfSome, IsTrue, map, pos};
+ghost use Rattle.std.specs.Prelude.{[], ◌∷◌, ◌≡◌, ◌≤◌, ◌<◌, ◌+ℤ◌, ◌≤ℤ◌, ◌↔◌, IfSome, IsTrue, map, pos};
 ghost use Rattle.std.specs.Int.RustNames.{unsigned_abs};
 ghost use Rattle.cam_units.specs.Board.{IsOnBoard, IsSize};
 ghost use Rattle.cam_shapes.specs.Arc.{IsSoundArc};
@@ -134,21 +134,11 @@ fn is_passed(arc: Arc, at: Spot) -> bool
     if at.x.unsigned_abs() >= REACH || at.y.unsigned_abs() >= REACH {
         return true;
     }
-    let Arc {
-        from,
-        to,
-        centre,
-        ccw,
-        width: _,
-    } = arc;
     in_arc(
         at,
         Arc {
-            from,
-            to,
-            centre,
-            ccw,
             width: Nm(1),
+            ..arc
         },
     )
 }
@@ -251,9 +241,7 @@ fn painted(bounds: Bounds, entries: &Dictionary, item: &Item) -> Bounds
             })),
             None => Bounds::Empty,
         },
-        Object::Flash { .. } => bounds,
-        Object::Draw { .. } => bounds,
-        Object::Region { .. } => bounds,
+        Object::Flash { .. } | Object::Draw { .. } | Object::Region { .. } => bounds,
     }
 }
 

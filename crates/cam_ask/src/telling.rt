@@ -1,17 +1,13 @@
 //! What is told of a layer.
 
-ghost use Rattle.std.specs.Prelude.{◌↔◌, ◌++◌, ◌≡◌, IfOk, IsTrue, OnOk, option_to_list, slice_get, true};
-ghost use Rattle.std.specs.List.{flat_map};
+ghost use Rattle.std.specs.Prelude.{◌≡◌, IfOk, true};
 ghost use Rattle.cam_objects.specs.Enclosed.{FindsEnclosed};
-ghost use Rattle.cam_edits.specs.Asking.{sheet_boxes};
 ghost use Rattle.cam_edits.specs.Sheets.{IsSound, content_of};
 ghost use Rattle.cam_ask.specs.Painted.{painted_boxes};
-ghost use Rattle.cam_ask.specs.Texts.{box_line};
 ghost use Rattle.cam_ask.specs.Telling.{
   IsEnclosedTold,
   IsLayerTold,
   IsTopmostTold,
-  before_in,
   box_of,
   can_be_asked,
   has_place,
@@ -88,16 +84,6 @@ fn box_of(from: Point, to: Point) -> Bounds
     corner.joined(Bounds::Closed { low: to, high: to })
 }
 
-/// The items before which the topmost is looked for.
-fn before_in(content: &SheetContent, before: Option<usize>) -> usize
-    ensures { result ≡ before_in (content_of content.now) before }
-{
-    match before {
-        Some(before) => before,
-        None => content.item_count(),
-    }
-}
-
 /// Writes the place of the topmost item at a place of the board, among those before one.
 fn told_topmost(
     alloc: Global,
@@ -147,18 +133,6 @@ fn told_enclosed(
     Ok(text)
 }
 
-/// Writes the box of an item.
-fn push_item_box(text: &mut Vec<u8>, content: &SheetContent, k: usize) -> Result<(), AllocError>
-    requires { IsSound (content_of content.now) }
-    ensures { OnOk result (text.new.items ≡ text.old.items
-        ++ flat_map box_line (option_to_list (slice_get (sheet_boxes (content_of content.now)) k))) }
-{
-    match content.item_bounds(k) {
-        Some(bounds) => push_box(text, bounds),
-        None => Ok(()),
-    }
-}
-
 /// What is told of a layer, where the question can be asked and the place is there.
 pub fn told(alloc: Global, content: &SheetContent, query: Query) -> Result<Vec<u8>, AllocError>
     requires sound { IsSound (content_of content.now) }
@@ -169,13 +143,18 @@ pub fn told(alloc: Global, content: &SheetContent, query: Query) -> Result<Vec<u
     let mut text = Vec::new(alloc);
     match query {
         Query::At { at, before } => {
-            return told_topmost(alloc, content, spot_of(at), before_in(content, before));
+            let before = before.unwrap_or(content.item_count());
+            return told_topmost(alloc, content, spot_of(at), before);
         }
         Query::In { from, to } => return told_enclosed(alloc, content, box_of(from, to)),
         Query::Item { k } => push_items(&mut text, content, k, 1)?,
         Query::Items { from, count } => push_items(&mut text, content, from, count)?,
         Query::Bounds => push_box(&mut text, content.bounds())?,
-        Query::ItemBounds { k } => push_item_box(&mut text, content, k)?,
+        Query::ItemBounds { k } => {
+            if let Some(bounds) = content.item_bounds(k) {
+                push_box(&mut text, bounds)?;
+            }
+        }
         Query::Entry { i } => push_entry_at(&mut text, content, i)?,
         Query::Entries => push_entries(&mut text, content)?,
         Query::Attributes => push_attributes(&mut text, content)?,

@@ -1,15 +1,15 @@
 -- What a line says, by its words: one with another count of words has not a form.
-use Rattle.std.proofs.Common.{◌≡◌, ◌≢◌, ◌≤◌, ◌∙◌, ap, ℕ, Bool, false, List, [], ◌∷◌, length, None, Some, Ok, Err, refl, arith}
-use Rattle.std.specs.Prelude.{slice_index}
+use Rattle.std.proofs.Common.{◌≡◌, ◌≢◌, ◌≤◌, ◌∙◌, ap, ℕ, Bool, true, false, List, [], ◌∷◌, length, None, Some, Ok, Err, refl, arith}
+use Rattle.std.specs.Prelude.{slice_index, if◌then◌else◌}
 use Rattle.std.proofs.lemmas.Bool.{le-ltb, ne_eqb}
 use Rattle.cam_refusals.specs.Limits.{line_limit}
 use Rattle.cam_script.specs.declared.line.Line.{Line}
+use Rattle.cam_script.specs.declared.line.Line.TheVariants as lines
 use Rattle.cam_script.specs.declared.line.LineFault.{LineFault}
 use Rattle.cam_script.specs.Words.{words}
 use Rattle.cam_script.specs.Parsing.{parsed, some_line, line_or_refusal, line_in, is_no_memory}
-use Rattle.cam_script.specs.Parsing.{load_line, window_line, redraw_line, plot_line, write_line}
-use Rattle.cam_script.specs.Parsing.{delete_change, move_change, reorder_change, aperture_change, polarity_change}
-use Rattle.cam_script.specs.Parsing.{tool_change, diameter_change, drop_change}
+use Rattle.cam_script.specs.Parsing.{load_line, window_line, redraw_line, put_line, names_a_layer}
+use Rattle.cam_script.specs.Parsing.{delete_change, move_change, item_change, diameter_change, drop_change}
 use Rattle.cam_script.specs.Items.{flash_in, draw_in, arc_in, hit_in}
 
 pub no_load : (ws : List (List ℕ)) → length ws ≢ 3 → load_line ws ≡ None
@@ -28,17 +28,17 @@ no_window (a ∷ b ∷ c ∷ d ∷ []) h = refl
 no_window (a ∷ b ∷ c ∷ d ∷ e ∷ []) h = absurd (h (omega arith))
 no_window (a ∷ b ∷ c ∷ d ∷ e ∷ f ∷ more) h = refl
 
-pub no_plot : (ws : List (List ℕ)) → length ws ≢ 2 → plot_line ws ≡ None
-no_plot [] h = refl
-no_plot (a ∷ []) h = refl
-no_plot (a ∷ b ∷ []) h = absurd (h (omega arith))
-no_plot (a ∷ b ∷ c ∷ more) h = refl
+pub no_put : (plots : Bool) (ws : List (List ℕ)) → length ws ≢ 2 → put_line plots ws ≡ None
+no_put plots [] h = refl
+no_put plots (a ∷ []) h = refl
+no_put plots (a ∷ b ∷ []) h = absurd (h (omega arith))
+no_put plots (a ∷ b ∷ c ∷ more) h = refl
 
-pub no_write : (ws : List (List ℕ)) → length ws ≢ 2 → write_line ws ≡ None
-no_write [] h = refl
-no_write (a ∷ []) h = refl
-no_write (a ∷ b ∷ []) h = absurd (h (omega arith))
-no_write (a ∷ b ∷ c ∷ more) h = refl
+pub put_named : (plots : Bool) (name path : List ℕ) → names_a_layer (if plots then lines.Plot name path else lines.Write name path) ≡ true
+put_named true name path = refl
+put_named false name path = refl
+
+pub ruleset putting = (no_put, put_named)
 
 pub no_redraw : (ws : List (List ℕ)) → length ws ≢ 1 → redraw_line ws ≡ None
 no_redraw [] h = refl
@@ -57,29 +57,11 @@ no_move (a ∷ b ∷ []) h = refl
 no_move (a ∷ b ∷ c ∷ []) h = absurd (h (omega arith))
 no_move (a ∷ b ∷ c ∷ d ∷ more) h = refl
 
-pub no_reorder : (ws : List (List ℕ)) → length ws ≢ 2 → reorder_change ws ≡ None
-no_reorder [] h = refl
-no_reorder (a ∷ []) h = refl
-no_reorder (a ∷ b ∷ []) h = absurd (h (omega arith))
-no_reorder (a ∷ b ∷ c ∷ more) h = refl
-
-pub no_aperture : (ws : List (List ℕ)) → length ws ≢ 2 → aperture_change ws ≡ None
-no_aperture [] h = refl
-no_aperture (a ∷ []) h = refl
-no_aperture (a ∷ b ∷ []) h = absurd (h (omega arith))
-no_aperture (a ∷ b ∷ c ∷ more) h = refl
-
-pub no_polarity : (ws : List (List ℕ)) → length ws ≢ 2 → polarity_change ws ≡ None
-no_polarity [] h = refl
-no_polarity (a ∷ []) h = refl
-no_polarity (a ∷ b ∷ []) h = absurd (h (omega arith))
-no_polarity (a ∷ b ∷ c ∷ more) h = refl
-
-pub no_tool : (ws : List (List ℕ)) → length ws ≢ 2 → tool_change ws ≡ None
-no_tool [] h = refl
-no_tool (a ∷ []) h = refl
-no_tool (a ∷ b ∷ []) h = absurd (h (omega arith))
-no_tool (a ∷ b ∷ c ∷ more) h = refl
+pub no_item : (verb : List ℕ) (ws : List (List ℕ)) → length ws ≢ 2 → item_change verb ws ≡ None
+no_item verb [] h = refl
+no_item verb (a ∷ []) h = refl
+no_item verb (a ∷ b ∷ []) h = absurd (h (omega arith))
+no_item verb (a ∷ b ∷ c ∷ more) h = refl
 
 pub no_diameter : (ws : List (List ℕ)) → length ws ≢ 2 → diameter_change ws ≡ None
 no_diameter [] h = refl

@@ -30,3 +30,5 @@ pub no_entry : (ws : List (List ℕ)) → length ws ≢ 1 → entry_query ws ≡
 no_entry [] h = refl
 no_entry (a ∷ []) h = absurd (h (omega arith))
 no_entry (a ∷ b ∷ more) h = refl
+
+pub ruleset by_places = (no_item, no_items, no_entry)

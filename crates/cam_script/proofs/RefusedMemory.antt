@@ -11,7 +11,7 @@ use Rattle.cam_script.specs.declared.line.LineFault.TheVariants.{LineTooLong, Ba
 use Rattle.cam_script.specs.Commands.{changing}
 use Rattle.cam_script.specs.Words.{count_in, is_name}
 use Rattle.cam_script.specs.Items.{item_in}
-use Rattle.cam_script.specs.Parsing.{is_no_memory, insert_change, edit_line, line_or_refusal, names_a_layer}
+use Rattle.cam_script.specs.Parsing.{is_no_memory, insert_change, change_in, edit_line, line_or_refusal, names_a_layer}
 use Rattle.cam_script.specs.Machinery.Reading.{unless_refused}
 
 -- a part was refused, and so is the whole
@@ -45,20 +45,20 @@ names_edited name (changes.Diameter t d) = refl
 names_edited name (changes.SetAttribute key fields) = refl
 names_edited name (changes.DropAttribute key) = refl
 
--- an edit of a name and a change of the words behind it
-module _ (change : List (List ℕ) → Option Change) (words : List (List ℕ)) (name : List ℕ) (rest : List (List ℕ))
+-- an edit of a name and of the words behind it
+module _ (verb : List ℕ) (words : List (List ℕ)) (name : List ℕ) (rest : List (List ℕ))
     (cut : words ≡ name ∷ rest) (named : is_name name ≡ true) where
   edit_of : Option Change → Option Line
   edit_of read = option_map (λ change. lines.Command (changing name change)) read
 
-  edit_read : edit_line change words ≡ edit_of (change rest)
+  edit_read : edit_line verb words ≡ edit_of (change_in verb rest)
   unfolding edit_of
   edit_read = rw (cut, named) refl
 
-  pub edit_refused : (fault : LineFault) → unless_refused (change rest) (is_no_memory {T = Change} (Err fault)) ≡ Err fault
-      → line_or_refusal (edit_line change words) (is_no_memory {T = Line} (Err fault)) ≡ Err fault
+  pub edit_refused : (fault : LineFault) → unless_refused (change_in verb rest) (is_no_memory {T = Change} (Err fault)) ≡ Err fault
+      → line_or_refusal (edit_line verb words) (is_no_memory {T = Line} (Err fault)) ≡ Err fault
   unfolding edit_of
-  edit_refused fault e = rw edit_read (by_change (change rest) fault e)
+  edit_refused fault e = rw edit_read (by_change (change_in verb rest) fault e)
     where
       by_change : (read : Option Change) (fault : LineFault)
           → unless_refused read (is_no_memory {T = Change} (Err fault)) ≡ Err fault
@@ -70,11 +70,21 @@ module _ (change : List (List ℕ) → Option Change) (words : List (List ℕ)) 
       by_change (Some read) BadLine e = cc
       by_change (Some read) Memory e = rw (names_edited name read) refl
 
-  pub edit_starved : (made : Change) → unless_refused (change rest) false ≡ Ok made
-      → line_or_refusal (edit_line change words) true ≡ Err Memory
+  pub edit_starved : (made : Change) → unless_refused (change_in verb rest) false ≡ Ok made
+      → line_or_refusal (edit_line verb words) true ≡ Err Memory
   unfolding edit_of
-  edit_starved made e = rw edit_read (by_change (change rest) e)
+  edit_starved made e = rw edit_read (by_change (change_in verb rest) e)
     where
       by_change : (read : Option Change) → unless_refused read false ≡ Ok made → line_or_refusal (edit_of read) true ≡ Err Memory
       by_change None e = cc
       by_change (Some read) e = rw (names_edited name read) refl
+
+  pub edit_made : (made : Change) → unless_refused (change_in verb rest) false ≡ Ok made
+      → line_or_refusal (edit_line verb words) false ≡ Ok (lines.Command (changing name made))
+  unfolding edit_of
+  edit_made made e = rw edit_read (by_change (change_in verb rest) e)
+    where
+      by_change : (read : Option Change) → unless_refused read false ≡ Ok made
+          → line_or_refusal (edit_of read) false ≡ Ok (lines.Command (changing name made))
+      by_change None e = cc
+      by_change (Some read) e = cc

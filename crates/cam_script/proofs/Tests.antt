@@ -79,8 +79,6 @@ numeral_parsed {E} most digits text value r same no_plus e parses low =
 pub lossless : (bytes : List ℕ) → IsAscii bytes → utf8_lossy bytes ≡ bytes
 lossless bytes h = utf8_lossy-IsUtf8 bytes (IsUtf8-from_ascii bytes h)
 
-pub ruleset ascii_text = lossless
-
 ascii_by : (test : ℕ → Bool) → ((b : ℕ) → test b ≡ true → b < 128) → (bytes : List ℕ) → list_all test bytes ≡ true → IsAscii bytes
 ascii_by test low [] e = IsAscii-nil
 ascii_by test low (b ∷ bs) e =
@@ -106,4 +104,4 @@ pub path_ascii : (word : List ℕ) → is_path word ≡ true → IsAscii word
 path_ascii word e = ascii_by is_ascii_graphic graphic_low word
     (last_of (nat_le 1 (length word)) (nat_le (length word) 255) (list_all is_ascii_graphic word) e)
 
-pub ruleset ascii_words = (name_ascii, path_ascii)
+pub ruleset ascii_words = (lossless, name_ascii, path_ascii)

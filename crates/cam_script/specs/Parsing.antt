@@ -10,7 +10,6 @@ use Rattle.cam_edits.specs.declared.edit.Change.{Change}
 use Rattle.cam_edits.specs.declared.edit.Change.TheVariants as changes
 use Rattle.cam_script.specs.declared.command.FileKind.{FileKind}
 use Rattle.cam_script.specs.declared.command.FileKind.TheVariants.{Gerber, Drill}
-use Rattle.cam_script.specs.declared.command.Command.{Command}
 use Rattle.cam_script.specs.declared.command.Command.TheVariants as commands
 use Rattle.cam_script.specs.declared.line.Line.{Line}
 use Rattle.cam_script.specs.declared.line.Line.TheVariants as lines
@@ -18,7 +17,7 @@ use Rattle.cam_script.specs.declared.line.LineFault.{LineFault}
 use Rattle.cam_script.specs.declared.line.LineFault.TheVariants.{LineTooLong, BadLine, Memory}
 use Rattle.cam_script.specs.Commands.{changing}
 use Rattle.cam_script.specs.Items.{item_in, polarity_read, reads}
-use Rattle.cam_script.specs.Words.{words, is_name, is_path, count_in, length_in, tool_in}
+use Rattle.cam_script.specs.Words.{words, is_name, is_path, count_in, length_in, tool_in, alone}
 
 -- the kind of file that a word names
 abbrev pub kind_in : List ℕ → Option FileKind
@@ -48,15 +47,11 @@ abbrev pub redraw_line : List (List ℕ) → Option Line
 redraw_line (count ∷ []) = reads count_in count (λ n. Some (lines.Command (commands.Redraw n)))
 redraw_line _ = None
 
--- plot NAME PATH
-abbrev pub plot_line : List (List ℕ) → Option Line
-plot_line (name ∷ path ∷ []) = if is_name name && is_path path then Some (lines.Plot name path) else None
-plot_line _ = None
-
--- write NAME PATH
-abbrev pub write_line : List (List ℕ) → Option Line
-write_line (name ∷ path ∷ []) = if is_name name && is_path path then Some (lines.Write name path) else None
-write_line _ = None
+-- plot NAME PATH, or write NAME PATH
+abbrev pub put_line : Bool → List (List ℕ) → Option Line
+put_line plots (name ∷ path ∷ []) =
+    if is_name name && is_path path then Some (if plots then lines.Plot name path else lines.Write name path) else None
+put_line plots _ = None
 
 -- ---- edits
 
@@ -77,32 +72,29 @@ move_change (k ∷ dx ∷ dy ∷ []) =
     reads count_in k (λ k. reads length_in dx (λ dx. reads length_in dy (λ dy. Some (changes.Move k dx dy))))
 move_change _ = None
 
--- reorder .. K M
-abbrev pub reorder_change : List (List ℕ) → Option Change
-reorder_change (k ∷ m ∷ []) = reads count_in k (λ k. reads count_in m (λ m. Some (changes.Reorder k m)))
-reorder_change _ = None
-
--- aperture .. K N
-abbrev pub aperture_change : List (List ℕ) → Option Change
-aperture_change (k ∷ n ∷ []) = reads count_in k (λ k. reads count_in n (λ n. Some (changes.Aperture k n)))
-aperture_change _ = None
-
--- polarity .. K dark, or polarity .. K clear
-abbrev pub polarity_change : List (List ℕ) → Option Change
-polarity_change (k ∷ polarity ∷ []) =
-    reads count_in k (λ k. reads polarity_read polarity (λ dark. Some (changes.Polarity k dark)))
-polarity_change _ = None
-
--- tool .. K T
-abbrev pub tool_change : List (List ℕ) → Option Change
-tool_change (k ∷ tool ∷ []) = reads count_in k (λ k. reads tool_in tool (λ t. Some (changes.Tool k t)))
-tool_change _ = None
-
 -- diameter .. T D
 abbrev pub diameter_change : List (List ℕ) → Option Change
 diameter_change (tool ∷ diameter ∷ []) =
     reads tool_in tool (λ t. reads length_in diameter (λ d. Some (changes.Diameter t (record { 0 = d }))))
 diameter_change _ = None
+
+-- reorder .. K M, aperture .. K N, polarity .. K dark, polarity .. K clear, or tool .. K T
+abbrev pub item_change : List ℕ → List (List ℕ) → Option Change
+item_change verb (k ∷ word ∷ []) = reads count_in k (λ k.
+    if bytes_eq verb (codes "reorder") then reads count_in word (λ m. Some (changes.Reorder k m))
+    else if bytes_eq verb (codes "aperture") then reads count_in word (λ n. Some (changes.Aperture k n))
+    else if bytes_eq verb (codes "polarity") then reads polarity_read word (λ dark. Some (changes.Polarity k dark))
+    else if bytes_eq verb (codes "tool") then reads tool_in word (λ t. Some (changes.Tool k t))
+    else None)
+item_change verb _ = None
+
+-- a change that holds no item and no text
+abbrev pub plain_change : List ℕ → List (List ℕ) → Option Change
+plain_change verb words =
+    if bytes_eq verb (codes "delete") then delete_change words
+    else if bytes_eq verb (codes "move") then move_change words
+    else if bytes_eq verb (codes "diameter") then diameter_change words
+    else item_change verb words
 
 -- setattr .. KEY, or setattr .. KEY FIELDS: fields are kept with a comma before them
 abbrev pub set_change : List (List ℕ) → Option Change
@@ -116,44 +108,23 @@ abbrev pub drop_change : List (List ℕ) → Option Change
 drop_change (key ∷ []) = if is_key key then Some (changes.DropAttribute key) else None
 drop_change _ = None
 
--- the change that the first word names, where it names one
-abbrev pub change_in : List ℕ → Option (List (List ℕ) → Option Change)
-change_in verb =
-    if bytes_eq verb (codes "insert") then Some insert_change
-    else if bytes_eq verb (codes "delete") then Some delete_change
-    else if bytes_eq verb (codes "move") then Some move_change
-    else if bytes_eq verb (codes "reorder") then Some reorder_change
-    else if bytes_eq verb (codes "aperture") then Some aperture_change
-    else if bytes_eq verb (codes "polarity") then Some polarity_change
-    else if bytes_eq verb (codes "tool") then Some tool_change
-    else if bytes_eq verb (codes "diameter") then Some diameter_change
-    else if bytes_eq verb (codes "setattr") then Some set_change
-    else if bytes_eq verb (codes "dropattr") then Some drop_change
-    else None
+-- the change that the first word names, if it names one
+abbrev pub change_in : List ℕ → List (List ℕ) → Option Change
+change_in verb words =
+    if bytes_eq verb (codes "insert") then insert_change words
+    else if bytes_eq verb (codes "setattr") then set_change words
+    else if bytes_eq verb (codes "dropattr") then drop_change words
+    else plain_change verb words
 
 -- the name of the layer stands before the change
-abbrev pub edit_line : (List (List ℕ) → Option Change) → List (List ℕ) → Option Line
-edit_line change [] = None
-edit_line change (name ∷ words) =
+abbrev pub edit_line : List ℕ → List (List ℕ) → Option Line
+edit_line verb [] = None
+edit_line verb (name ∷ words) =
     if is_name name
-    then option_map (λ change. lines.Command (changing name change)) (change words)
+    then option_map (λ change. lines.Command (changing name change)) (change_in verb words)
     else None
 
 -- ---- lines
-
--- a command that is its word alone
-abbrev pub bare_command : List ℕ → Option Command
-bare_command verb =
-    if bytes_eq verb (codes "begin") then Some commands.Begin
-    else if bytes_eq verb (codes "end") then Some commands.End
-    else if bytes_eq verb (codes "abort") then Some commands.Abort
-    else if bytes_eq verb (codes "undo") then Some commands.Undo
-    else if bytes_eq verb (codes "redo") then Some commands.Redo
-    else None
-
-abbrev pub bare_line : List ℕ → List (List ℕ) → Option Line
-bare_line verb [] = option_map (λ command. lines.Command command) (bare_command verb)
-bare_line verb (word ∷ more) = None
 
 -- list, or list NAME
 abbrev pub list_line : List (List ℕ) → Option Line
@@ -161,23 +132,21 @@ list_line [] = Some (lines.Command commands.ListAll)
 list_line (name ∷ []) = if is_name name then Some (lines.Command (commands.ListLayer name)) else None
 list_line _ = None
 
--- the form that the first word names, if it names no edit
-abbrev pub other_line : List ℕ → List (List ℕ) → Option Line
-other_line verb rest =
+-- the form that the first word names: an edit's, where it names no other
+abbrev pub line_in : List ℕ → List (List ℕ) → Option Line
+line_in verb rest =
     if bytes_eq verb (codes "load") then load_line rest
     else if bytes_eq verb (codes "window") then window_line rest
     else if bytes_eq verb (codes "redraw") then redraw_line rest
-    else if bytes_eq verb (codes "plot") then plot_line rest
-    else if bytes_eq verb (codes "write") then write_line rest
+    else if bytes_eq verb (codes "plot") then put_line true rest
+    else if bytes_eq verb (codes "write") then put_line false rest
     else if bytes_eq verb (codes "list") then list_line rest
-    else bare_line verb rest
-
-abbrev pub line_by : Option (List (List ℕ) → Option Change) → List ℕ → List (List ℕ) → Option Line
-line_by None verb rest = other_line verb rest
-line_by (Some change) verb rest = edit_line change rest
-
-abbrev pub line_in : List ℕ → List (List ℕ) → Option Line
-line_in verb rest = line_by (change_in verb) verb rest
+    else if bytes_eq verb (codes "begin") then alone (lines.Command commands.Begin) rest
+    else if bytes_eq verb (codes "end") then alone (lines.Command commands.End) rest
+    else if bytes_eq verb (codes "abort") then alone (lines.Command commands.Abort) rest
+    else if bytes_eq verb (codes "undo") then alone (lines.Command commands.Undo) rest
+    else if bytes_eq verb (codes "redo") then alone (lines.Command commands.Redo) rest
+    else edit_line verb rest
 
 abbrev pub Parsed : Type 0
 Parsed = Result (Option Line) LineFault

@@ -10,7 +10,7 @@ use Rattle.cam_script.specs.declared.question.Query.TheVariants as queries
 use Rattle.cam_script.specs.declared.question.Question.{Question}
 use Rattle.cam_script.specs.declared.question.Question.TheVariants as questions
 use Rattle.cam_script.specs.Items.{reads, reads_point}
-use Rattle.cam_script.specs.Words.{words, is_name, count_in}
+use Rattle.cam_script.specs.Words.{words, is_name, count_in, alone}
 
 -- at NAME X Y, or at NAME X Y BEFORE
 abbrev pub at_query : List (List ℕ) → Option Query
@@ -46,11 +46,6 @@ abbrev pub entry_query : List (List ℕ) → Option Query
 entry_query (i ∷ []) = reads count_in i (λ i. Some (queries.Entry i))
 entry_query _ = None
 
--- a query that is its word and the name alone
-abbrev pub bare_query : Query → List (List ℕ) → Option Query
-bare_query query [] = Some query
-bare_query query (word ∷ more) = None
-
 -- what is asked of a layer, behind the layer's name
 abbrev pub query_in : List ℕ → List (List ℕ) → Option Query
 query_in verb rest =
@@ -60,8 +55,8 @@ query_in verb rest =
     else if bytes_eq verb (codes "items") then items_query rest
     else if bytes_eq verb (codes "box") then box_query rest
     else if bytes_eq verb (codes "entry") then entry_query rest
-    else if bytes_eq verb (codes "entries") then bare_query queries.Entries rest
-    else if bytes_eq verb (codes "attributes") then bare_query queries.Attributes rest
+    else if bytes_eq verb (codes "entries") then alone queries.Entries rest
+    else if bytes_eq verb (codes "attributes") then alone queries.Attributes rest
     else None
 
 -- the name of the layer stands before what is asked
@@ -70,16 +65,11 @@ layer_question verb [] = None
 layer_question verb (name ∷ rest) =
     if is_name name then option_map (λ query. questions.OfLayer name query) (query_in verb rest) else None
 
--- a question that is its word alone
-abbrev pub bare_question : Question → List (List ℕ) → Option Question
-bare_question question [] = Some question
-bare_question question (word ∷ more) = None
-
 abbrev pub question_in : List (List ℕ) → Option Question
 question_in [] = None
 question_in (verb ∷ rest) =
-    if bytes_eq verb (codes "layers") then bare_question questions.Layers rest
-    else if bytes_eq verb (codes "history") then bare_question questions.History rest
+    if bytes_eq verb (codes "layers") then alone questions.Layers rest
+    else if bytes_eq verb (codes "history") then alone questions.History rest
     else layer_question verb rest
 
 -- a question that holds a name takes memory for it

@@ -1,6 +1,6 @@
 -- The words of a line, and the values that they write.
 use Rattle.std.specs.Prelude.{ℕ, ℤ, pos, neg_ℤ, ◌==◌, ◌&&◌, ◌||◌, ◌-◌, ◌^◌, nat_lt, nat_le, min}
-use Rattle.std.specs.Prelude.{Bool, if◌then◌else◌, List, length, filter, Option, None, Some}
+use Rattle.std.specs.Prelude.{Bool, if◌then◌else◌, List, [], ◌∷◌, length, filter, Option, None, Some}
 use Rattle.std.specs.List.{slice_split, list_all}
 use Rattle.std.specs.Option.{option_map}
 use Rattle.std.specs.Char.{is_ascii_alphanumeric, is_ascii_graphic}
@@ -49,3 +49,8 @@ length_in word =
 -- the number of a tool: one past 65,535 is read as 65,535, which no layer has
 abbrev pub tool_in : List ℕ → Option ℕ
 tool_in word = option_map (λ n. min n 65535) (count_in word)
+
+-- what is said by a word behind which none stands
+abbrev pub alone : {T : Type 0} → T → List (List ℕ) → Option T
+alone said [] = Some said
+alone said (word ∷ more) = None

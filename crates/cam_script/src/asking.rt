@@ -5,16 +5,13 @@ ghost use Rattle.cam_script.specs.Parsing.{is_no_memory};
 ghost use Rattle.cam_script.specs.Questions.{
   asked,
   at_query,
-  bare_query,
   box_query,
-  entry_query,
   in_query,
-  item_query,
-  items_query,
   layer_question,
   query_in,
   unless_nameless,
 };
+ghost use Rattle.cam_script.specs.Words.{alone};
 
 use crate::line::LineFault;
 use crate::names::{is_name, name_of};
@@ -57,27 +54,6 @@ fn in_query(words: &mut Words<'_>) -> Option<Query>
     Some(Query::In { from, to })
 }
 
-/// The words behind `item` and a name.
-#[tactic(auto, using(crate::proofs::Queries::no_item))]
-fn item_query(words: &mut Words<'_>) -> Option<Query>
-    ensures { result ≡ item_query words.old }
-{
-    let k = words.one()?;
-    let k = place(k)?;
-    Some(Query::Item { k })
-}
-
-/// The words behind `items` and a name.
-#[tactic(auto, using(crate::proofs::Queries::no_items))]
-fn items_query(words: &mut Words<'_>) -> Option<Query>
-    ensures { result ≡ items_query words.old }
-{
-    let (from, count) = words.two()?;
-    let from = place(from)?;
-    let count = place(count)?;
-    Some(Query::Items { from, count })
-}
-
 /// The words behind `box` and a name.
 fn box_query(words: &mut Words<'_>) -> Option<Query>
     ensures { result ≡ box_query words.old }
@@ -92,70 +68,58 @@ fn box_query(words: &mut Words<'_>) -> Option<Query>
     Some(Query::ItemBounds { k })
 }
 
-/// The words behind `entry` and a name.
-#[tactic(auto, using(crate::proofs::Queries::no_entry))]
-fn entry_query(words: &mut Words<'_>) -> Option<Query>
-    ensures { result ≡ entry_query words.old }
+/// What is said by a word behind which none stands.
+fn alone<T: Drop>(said: T, words: &mut Words<'_>) -> Option<T>
+    ensures { result ≡ alone said words.old }
 {
-    let i = words.one()?;
-    let i = place(i)?;
-    Some(Query::Entry { i })
-}
-
-/// A query that is its word and the name alone.
-fn bare_query(query: Query, words: &mut Words<'_>) -> Option<Query>
-    ensures { result ≡ bare_query query words.old }
-{
-    if words.next().is_some() {
-        return None;
+    match words.next() {
+        Some(_) => None,
+        None => Some(said),
     }
-    Some(query)
 }
 
 /// What is asked of a layer, by the first word and those behind the name.
+#[tactic(auto, using(crate::proofs::Queries::by_places))]
 fn query(verb: &[u8], words: &mut Words<'_>) -> Option<Query>
     ensures { result ≡ query_in verb.now words.old }
 {
     if is(verb, b"at") {
-        return at_query(words);
+        at_query(words)
+    } else if is(verb, b"in") {
+        in_query(words)
+    } else if is(verb, b"item") {
+        let k = words.one()?;
+        let k = place(k)?;
+        Some(Query::Item { k })
+    } else if is(verb, b"items") {
+        let (from, count) = words.two()?;
+        let from = place(from)?;
+        let count = place(count)?;
+        Some(Query::Items { from, count })
+    } else if is(verb, b"box") {
+        box_query(words)
+    } else if is(verb, b"entry") {
+        let i = words.one()?;
+        let i = place(i)?;
+        Some(Query::Entry { i })
+    } else if is(verb, b"entries") {
+        alone(Query::Entries, words)
+    } else if is(verb, b"attributes") {
+        alone(Query::Attributes, words)
+    } else {
+        None
     }
-    if is(verb, b"in") {
-        return in_query(words);
-    }
-    if is(verb, b"item") {
-        return item_query(words);
-    }
-    if is(verb, b"items") {
-        return items_query(words);
-    }
-    if is(verb, b"box") {
-        return box_query(words);
-    }
-    if is(verb, b"entry") {
-        return entry_query(words);
-    }
-    if is(verb, b"entries") {
-        return bare_query(Query::Entries, words);
-    }
-    if is(verb, b"attributes") {
-        return bare_query(Query::Attributes, words);
-    }
-    None
 }
 
 /// A question of a layer. All words are judged before the name takes memory.
 fn layer_question(alloc: Global, verb: &[u8], words: &mut Words<'_>) -> Result<Question, LineFault>
     ensures { unless_nameless (layer_question verb.now words.old) (is_no_memory result) ≡ result }
 {
-    let Some(name) = words.next() else {
-        return Err(LineFault::BadLine);
-    };
+    let name = words.next().ok_or(LineFault::BadLine)?;
     if !is_name(name) {
         return Err(LineFault::BadLine);
     }
-    let Some(query) = query(verb, words) else {
-        return Err(LineFault::BadLine);
-    };
+    let query = query(verb, words).ok_or(LineFault::BadLine)?;
     let name = name_of(alloc, name)?;
     Ok(Question::OfLayer { name, query })
 }
@@ -171,20 +135,12 @@ pub fn parse_question(alloc: Global, line: &[u8]) -> Result<Question, LineFault>
         return Err(LineFault::LineTooLong);
     }
     let mut words = Words::new(line);
-    let Some(verb) = words.next() else {
-        return Err(LineFault::BadLine);
-    };
+    let verb = words.next().ok_or(LineFault::BadLine)?;
     if is(verb, b"layers") {
-        if words.next().is_some() {
-            return Err(LineFault::BadLine);
-        }
-        return Ok(Question::Layers);
+        alone(Question::Layers, &mut words).ok_or(LineFault::BadLine)
+    } else if is(verb, b"history") {
+        alone(Question::History, &mut words).ok_or(LineFault::BadLine)
+    } else {
+        layer_question(alloc, verb, &mut words)
     }
-    if is(verb, b"history") {
-        if words.next().is_some() {
-            return Err(LineFault::BadLine);
-        }
-        return Ok(Question::History);
-    }
-    layer_question(alloc, verb, &mut words)
 }

@@ -1,6 +1,6 @@
 //! The edits of file attributes that a line asks for.
 
-ghost use Rattle.std.specs.Prelude.{◌≡◌, ◌∷◌, IfErr, IfOk};
+ghost use Rattle.std.specs.Prelude.{◌≡◌, ◌∷◌, IfOk};
 ghost use Rattle.cam_objects.specs.Attributes.{comma};
 ghost use Rattle.cam_script.specs.Parsing.{drop_change, is_no_memory, set_change};
 ghost use Rattle.cam_script.specs.Machinery.Reading.{unless_refused};
@@ -15,8 +15,7 @@ use std::alloc::{AllocError, Global};
 fn copied(alloc: Global, word: &[u8]) -> Result<Items<u8>, AllocError>
     ensures { IfOk result (λ bytes. bytes ≡ word.now) }
 {
-    let bytes = Vec::from_slice(alloc, word)?;
-    Ok(Items::from_vec(bytes))
+    Ok(Items::from_vec(Vec::from_slice(alloc, word)?))
 }
 
 /// The bytes of a word, with a comma before them.
@@ -29,45 +28,24 @@ fn behind_comma(alloc: Global, word: &[u8]) -> Result<Items<u8>, AllocError>
     Ok(Items::from_vec(bytes))
 }
 
-/// The name that a key is.
-fn key_of(alloc: Global, word: &[u8]) -> Result<Items<u8>, LineFault>
-    ensures ok { IfOk result (λ bytes. bytes ≡ word.now) }
-    ensures err { IfErr result (λ fault. fault ≡ LineFault.Memory) }
-{
-    copied(alloc, word).map_err(|_| LineFault::Memory)
-}
-
-/// The fields that a word writes, as they are kept.
-fn fields_of(alloc: Global, word: &[u8]) -> Result<Items<u8>, LineFault>
-    ensures ok { IfOk result (λ bytes. bytes ≡ comma ∷ word.now) }
-    ensures err { IfErr result (λ fault. fault ≡ LineFault.Memory) }
-{
-    behind_comma(alloc, word).map_err(|_| LineFault::Memory)
-}
-
 /// The words behind the name of a setting.
 pub fn set_change(alloc: Global, words: &mut Words<'_>) -> Result<Change, LineFault>
     ensures { unless_refused (set_change words.old) (is_no_memory result) ≡ result }
 {
-    let Some(key) = words.next() else {
-        return Err(LineFault::BadLine);
-    };
+    let key = words.next().ok_or(LineFault::BadLine)?;
     if !is_key(key) {
         return Err(LineFault::BadLine);
     }
     let Some(text) = words.next() else {
-        let key = key_of(alloc, key)?;
+        let key = copied(alloc, key)?;
         let fields = Items::from_vec(Vec::new(alloc));
         return Ok(Change::SetAttribute { key, fields });
     };
-    if words.next().is_some() {
+    if words.next().is_some() || !is_field_text(text) {
         return Err(LineFault::BadLine);
     }
-    if !is_field_text(text) {
-        return Err(LineFault::BadLine);
-    }
-    let key = key_of(alloc, key)?;
-    let fields = fields_of(alloc, text)?;
+    let key = copied(alloc, key)?;
+    let fields = behind_comma(alloc, text)?;
     Ok(Change::SetAttribute { key, fields })
 }
 
@@ -76,12 +54,10 @@ pub fn set_change(alloc: Global, words: &mut Words<'_>) -> Result<Change, LineFa
 pub fn drop_change(alloc: Global, words: &mut Words<'_>) -> Result<Change, LineFault>
     ensures { unless_refused (drop_change words.old) (is_no_memory result) ≡ result }
 {
-    let Some(key) = words.one() else {
-        return Err(LineFault::BadLine);
-    };
+    let key = words.one().ok_or(LineFault::BadLine)?;
     if !is_key(key) {
         return Err(LineFault::BadLine);
     }
-    let key = key_of(alloc, key)?;
+    let key = copied(alloc, key)?;
     Ok(Change::DropAttribute { key })
 }

@@ -96,21 +96,11 @@ fn arc(words: &mut Words<'_>) -> Option<Object>
 fn region(alloc: Global, words: &mut Words<'_>) -> Result<Object, LineFault>
     ensures { unless_refused (region_read words.old) (is_no_memory result) ≡ result }
 {
-    let Some(tone) = words.next() else {
-        return Err(LineFault::BadLine);
-    };
-    let Some(start) = words.next_two() else {
-        return Err(LineFault::BadLine);
-    };
-    let Some(dark) = polarity(tone) else {
-        return Err(LineFault::BadLine);
-    };
-    let Some(start) = point(start) else {
-        return Err(LineFault::BadLine);
-    };
-    let Some(segment_count) = count_segments(words) else {
-        return Err(LineFault::BadLine);
-    };
+    let tone = words.next().ok_or(LineFault::BadLine)?;
+    let start = words.next_two().ok_or(LineFault::BadLine)?;
+    let dark = polarity(tone).ok_or(LineFault::BadLine)?;
+    let start = point(start).ok_or(LineFault::BadLine)?;
+    let segment_count = count_segments(words).ok_or(LineFault::BadLine)?;
     if segment_count == 0 {
         return Err(LineFault::BadLine);
     }
@@ -136,15 +126,9 @@ fn hit(words: &mut Words<'_>) -> Option<NewItem>
 fn rout(alloc: Global, words: &mut Words<'_>) -> Result<NewItem, LineFault>
     ensures { unless_refused (rout_in words.old) (is_no_memory result) ≡ result }
 {
-    let Some(number) = words.next() else {
-        return Err(LineFault::BadLine);
-    };
-    let Some(tool) = tool(number) else {
-        return Err(LineFault::BadLine);
-    };
-    let Some(point_count) = count_points(words) else {
-        return Err(LineFault::BadLine);
-    };
+    let number = words.next().ok_or(LineFault::BadLine)?;
+    let tool = tool(number).ok_or(LineFault::BadLine)?;
+    let point_count = count_points(words).ok_or(LineFault::BadLine)?;
     if point_count == 0 {
         return Err(LineFault::BadLine);
     }
@@ -173,22 +157,18 @@ pub fn item(alloc: Global, form: &[u8], words: &mut Words<'_>) -> Result<NewItem
     ensures { unless_refused (item_in form.now words.old) (is_no_memory result) ≡ result }
 {
     if is(form, b"flash") {
-        return object_item(flash(words));
+        object_item(flash(words))
+    } else if is(form, b"draw") {
+        object_item(draw(words))
+    } else if is(form, b"arc") {
+        object_item(arc(words))
+    } else if is(form, b"region") {
+        region_item(alloc, words)
+    } else if is(form, b"hit") {
+        hit(words).ok_or(LineFault::BadLine)
+    } else if is(form, b"rout") {
+        rout(alloc, words)
+    } else {
+        Err(LineFault::BadLine)
     }
-    if is(form, b"draw") {
-        return object_item(draw(words));
-    }
-    if is(form, b"arc") {
-        return object_item(arc(words));
-    }
-    if is(form, b"region") {
-        return region_item(alloc, words);
-    }
-    if is(form, b"hit") {
-        return hit(words).ok_or(LineFault::BadLine);
-    }
-    if is(form, b"rout") {
-        return rout(alloc, words);
-    }
-    Err(LineFault::BadLine)
 }

@@ -8,6 +8,7 @@ use crate::command::{Command, FileKind};
 use crate::path::FilePath;
 use cam_edits::Name;
 use cam_refusals::Refusal;
+use std::alloc::AllocError;
 use thiserror::Error;
 
 /// A command, or one that reads or writes a file, with the file's path.
@@ -45,6 +46,16 @@ pub enum LineFault {
     /// Memory for a name, a path or an item was refused (30).
     #[error("no memory")]
     Memory,
+}
+
+impl From<AllocError> for LineFault {
+    ghost use Rattle.cam_script.specs.declared.line.LineFault.{LineFault};
+
+    ghost from_gives = { λ _ fault. fault ≡ LineFault.Memory };
+
+    fn from(_error: AllocError) -> LineFault {
+        LineFault::Memory
+    }
 }
 
 impl LineFault {

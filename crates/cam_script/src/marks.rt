@@ -13,12 +13,12 @@ pub fn kind(word: &[u8]) -> Option<FileKind>
     ensures { result ≡ kind_in word.now }
 {
     if is(word, b"gerber") {
-        return Some(FileKind::Gerber);
+        Some(FileKind::Gerber)
+    } else if is(word, b"drill") {
+        Some(FileKind::Drill)
+    } else {
+        None
     }
-    if is(word, b"drill") {
-        return Some(FileKind::Drill);
-    }
-    None
 }
 
 /// The mirror and the quarter turns that a word names.
@@ -26,30 +26,24 @@ pub fn turn(word: &[u8]) -> Option<Turn>
     ensures { result ≡ turn_read word.now }
 {
     if is(word, b"r0") {
-        return Some(Turn::R0);
+        Some(Turn::R0)
+    } else if is(word, b"r90") {
+        Some(Turn::R90)
+    } else if is(word, b"r180") {
+        Some(Turn::R180)
+    } else if is(word, b"r270") {
+        Some(Turn::R270)
+    } else if is(word, b"m0") {
+        Some(Turn::M0)
+    } else if is(word, b"m90") {
+        Some(Turn::M90)
+    } else if is(word, b"m180") {
+        Some(Turn::M180)
+    } else if is(word, b"m270") {
+        Some(Turn::M270)
+    } else {
+        None
     }
-    if is(word, b"r90") {
-        return Some(Turn::R90);
-    }
-    if is(word, b"r180") {
-        return Some(Turn::R180);
-    }
-    if is(word, b"r270") {
-        return Some(Turn::R270);
-    }
-    if is(word, b"m0") {
-        return Some(Turn::M0);
-    }
-    if is(word, b"m90") {
-        return Some(Turn::M90);
-    }
-    if is(word, b"m180") {
-        return Some(Turn::M180);
-    }
-    if is(word, b"m270") {
-        return Some(Turn::M270);
-    }
-    None
 }
 
 /// Whether an object is dark.
@@ -57,12 +51,12 @@ pub fn polarity(word: &[u8]) -> Option<bool>
     ensures { result ≡ polarity_read word.now }
 {
     if is(word, b"dark") {
-        return Some(true);
+        Some(true)
+    } else if is(word, b"clear") {
+        Some(false)
+    } else {
+        None
     }
-    if is(word, b"clear") {
-        return Some(false);
-    }
-    None
 }
 
 /// Whether an arc goes counterclockwise.
@@ -70,12 +64,12 @@ pub fn direction(word: &[u8]) -> Option<bool>
     ensures { result ≡ direction_in word.now }
 {
     if is(word, b"cw") {
-        return Some(false);
+        Some(false)
+    } else if is(word, b"ccw") {
+        Some(true)
+    } else {
+        None
     }
-    if is(word, b"ccw") {
-        return Some(true);
-    }
-    None
 }
 
 /// Whether a segment is a straight line.

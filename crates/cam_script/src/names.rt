@@ -1,26 +1,19 @@
 //! The names of layers and the paths of files.
 
-ghost use Rattle.std.specs.Prelude.{◌≡◌, IfErr, IfOk, string_bytes, true};
+ghost use Rattle.std.specs.Prelude.{◌≡◌, IfErr, IfOk, true};
 ghost use Rattle.std.specs.Char.{is_ascii_graphic};
 ghost use Rattle.std.specs.List.{list_all};
-ghost use Rattle.std.specs.Str.{IsAscii};
 ghost use Rattle.cam_script.specs.Words.{is_name, is_name_byte, is_path};
 
 use crate::line::LineFault;
 use crate::path::FilePath;
 use cam_edits::Name;
-use std::alloc::{AllocError, Global};
-
-fn is_name_byte(byte: u8) -> bool
-    ensures { result ≡ is_name_byte byte }
-{
-    byte.is_ascii_alphanumeric() || byte == b'_' || byte == b'-' || byte == b'.'
-}
+use std::alloc::Global;
 
 fn are_name_bytes(bytes: &[u8]) -> bool
     ensures { result ≡ list_all is_name_byte bytes.now }
 {
-    bytes.iter().all(|b| is_name_byte(*b))
+    bytes.iter().all(|b| b.is_ascii_alphanumeric() || *b == b'_' || *b == b'-' || *b == b'.')
 }
 
 fn are_graphic(bytes: &[u8]) -> bool
@@ -51,15 +44,6 @@ pub fn is_path(word: &[u8]) -> bool
     are_graphic(word)
 }
 
-/// The text of bytes that are ASCII.
-#[tactic(auto, using(crate::proofs::Tests::ascii_text))]
-fn text_of(alloc: Global, bytes: &[u8]) -> Result<String, AllocError>
-    requires { IsAscii bytes.now }
-    ensures { IfOk result (λ text. string_bytes text ≡ bytes.now) }
-{
-    String::from_utf8_lossy(alloc, bytes)
-}
-
 /// The name that a word is.
 #[tactic(auto, using(crate::proofs::Tests::ascii_words))]
 pub fn name_of(alloc: Global, word: &[u8]) -> Result<Name, LineFault>
@@ -67,10 +51,7 @@ pub fn name_of(alloc: Global, word: &[u8]) -> Result<Name, LineFault>
     ensures ok { IfOk result (λ name. name ≡ word.now) }
     ensures err { IfErr result (λ fault. fault ≡ LineFault.Memory) }
 {
-    match text_of(alloc, word) {
-        Ok(text) => Ok(Name::from_string(text)),
-        Err(_) => Err(LineFault::Memory),
-    }
+    Ok(Name::from_string(String::from_utf8_lossy(alloc, word)?))
 }
 
 /// The path that a word is.
@@ -80,8 +61,5 @@ pub fn path_of(alloc: Global, word: &[u8]) -> Result<FilePath, LineFault>
     ensures ok { IfOk result (λ path. path ≡ word.now) }
     ensures err { IfErr result (λ fault. fault ≡ LineFault.Memory) }
 {
-    match text_of(alloc, word) {
-        Ok(text) => Ok(FilePath::from_string(text)),
-        Err(_) => Err(LineFault::Memory),
-    }
+    Ok(FilePath::from_string(String::from_utf8_lossy(alloc, word)?))
 }

@@ -4,7 +4,7 @@ ghost use Rattle.std.specs.Prelude.{◌≡◌};
 ghost use Rattle.cam_script.specs.Items.{point_read};
 ghost use Rattle.cam_script.specs.Words.{numeral_to, count_in, length_in, tool_in};
 
-use crate::pieces::{behind_first, first_byte};
+use crate::pieces::first_byte;
 use cam_units::Point;
 use std::str;
 
@@ -49,17 +49,11 @@ pub fn place(word: &[u8]) -> Option<usize>
 pub fn length(word: &[u8]) -> Option<i64>
     ensures { result ≡ length_in word.now }
 {
-    let first = first_byte(word);
-    if first == b'-' {
-        let value = numeral(behind_first(word), MOST_LENGTH)?;
-        return Some(-(value as i64));
+    match word.split_first() {
+        Some((b'-', digits)) => Some(-(numeral(digits, MOST_LENGTH)? as i64)),
+        Some((b'+', digits)) => Some(numeral(digits, MOST_LENGTH)? as i64),
+        _ => Some(numeral(word, MOST_LENGTH)? as i64),
     }
-    if first == b'+' {
-        let value = numeral(behind_first(word), MOST_LENGTH)?;
-        return Some(value as i64);
-    }
-    let value = numeral(word, MOST_LENGTH)?;
-    Some(value as i64)
 }
 
 /// The number of a tool: one past 65,535 is read as 65,535, which no layer has.

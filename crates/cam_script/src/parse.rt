@@ -1,24 +1,21 @@
 //! Reads a line of a script.
 
-ghost use Rattle.std.specs.Prelude.{◌≡◌, false};
+ghost use Rattle.std.specs.Prelude.{◌≡◌};
 ghost use Rattle.cam_script.specs.Parsing.{
-  bare_command,
-  bare_line,
   is_no_memory,
-  line_or_refusal,
   line_in,
+  line_or_refusal,
   list_line,
   load_line,
-  other_line,
   parsed,
-  plot_line,
+  put_line,
   redraw_line,
   window_line,
-  write_line,
 };
+ghost use Rattle.cam_script.specs.Words.{alone};
 
 use crate::command::Command;
-use crate::edits::{change_form, edit};
+use crate::edits::edit;
 use crate::line::{Line, LineFault};
 use crate::marks::kind;
 use crate::names::{is_name, is_path, name_of, path_of};
@@ -33,16 +30,9 @@ use std::alloc::Global;
 fn load(alloc: Global, words: &mut Words<'_>) -> Result<Line, LineFault>
     ensures { line_or_refusal (load_line words.old) (is_no_memory result) ≡ result }
 {
-    let Some((name, kind_word, path)) = words.three() else {
-        return Err(LineFault::BadLine);
-    };
-    if !is_name(name) {
-        return Err(LineFault::BadLine);
-    }
-    let Some(kind) = kind(kind_word) else {
-        return Err(LineFault::BadLine);
-    };
-    if !is_path(path) {
+    let (name, kind_word, path) = words.three().ok_or(LineFault::BadLine)?;
+    let kind = kind(kind_word).ok_or(LineFault::BadLine)?;
+    if !is_name(name) || !is_path(path) {
         return Err(LineFault::BadLine);
     }
     let name = name_of(alloc, name)?;
@@ -80,42 +70,22 @@ fn redraw(words: &mut Words<'_>) -> Option<Line>
     Some(Line::Command(Command::Redraw { at_most }))
 }
 
-/// The words behind `plot`.
-#[tactic(auto, using(crate::proofs::Forms::no_plot))]
-fn plot(alloc: Global, words: &mut Words<'_>) -> Result<Line, LineFault>
-    ensures { line_or_refusal (plot_line words.old) (is_no_memory result) ≡ result }
+/// The words behind `plot`, or those behind `write`.
+#[tactic(auto, using(crate::proofs::Forms::putting))]
+fn put(alloc: Global, is_plot: bool, words: &mut Words<'_>) -> Result<Line, LineFault>
+    ensures { line_or_refusal (put_line is_plot words.old) (is_no_memory result) ≡ result }
 {
-    let Some((name, path)) = words.two() else {
-        return Err(LineFault::BadLine);
-    };
-    if !is_name(name) {
-        return Err(LineFault::BadLine);
-    }
-    if !is_path(path) {
+    let (name, path) = words.two().ok_or(LineFault::BadLine)?;
+    if !is_name(name) || !is_path(path) {
         return Err(LineFault::BadLine);
     }
     let name = name_of(alloc, name)?;
     let path = path_of(alloc, path)?;
-    Ok(Line::Plot { name, path })
-}
-
-/// The words behind `write`.
-#[tactic(auto, using(crate::proofs::Forms::no_write))]
-fn write(alloc: Global, words: &mut Words<'_>) -> Result<Line, LineFault>
-    ensures { line_or_refusal (write_line words.old) (is_no_memory result) ≡ result }
-{
-    let Some((name, path)) = words.two() else {
-        return Err(LineFault::BadLine);
-    };
-    if !is_name(name) {
-        return Err(LineFault::BadLine);
+    if is_plot {
+        Ok(Line::Plot { name, path })
+    } else {
+        Ok(Line::Write { name, path })
     }
-    if !is_path(path) {
-        return Err(LineFault::BadLine);
-    }
-    let name = name_of(alloc, name)?;
-    let path = path_of(alloc, path)?;
-    Ok(Line::Write { name, path })
 }
 
 /// The words behind `list`.
@@ -125,87 +95,51 @@ fn list(alloc: Global, words: &mut Words<'_>) -> Result<Line, LineFault>
     let Some(name) = words.next() else {
         return Ok(Line::Command(Command::ListAll));
     };
-    if words.next().is_some() {
-        return Err(LineFault::BadLine);
-    }
-    if !is_name(name) {
+    if words.next().is_some() || !is_name(name) {
         return Err(LineFault::BadLine);
     }
     let name = name_of(alloc, name)?;
     Ok(Line::Command(Command::ListLayer { name }))
 }
 
-/// The command that is its word alone.
-fn bare_command(verb: &[u8]) -> Option<Command>
-    ensures { result ≡ bare_command verb.now }
-{
-    if is(verb, b"begin") {
-        return Some(Command::Begin);
-    }
-    if is(verb, b"end") {
-        return Some(Command::End);
-    }
-    if is(verb, b"abort") {
-        return Some(Command::Abort);
-    }
-    if is(verb, b"undo") {
-        return Some(Command::Undo);
-    }
-    if is(verb, b"redo") {
-        return Some(Command::Redo);
-    }
-    None
-}
-
-/// The line of such a command, behind which no word stands.
-fn bare(verb: &[u8], words: &mut Words<'_>) -> Option<Line>
-    ensures { result ≡ bare_line verb.now words.old }
+/// The line of a command that is its word alone.
+fn bare(command: Command, words: &mut Words<'_>) -> Result<Line, LineFault>
+    ensures { line_or_refusal (alone (Line.Command command) words.old) (is_no_memory result) ≡ result }
 {
     if words.next().is_some() {
-        return None;
+        return Err(LineFault::BadLine);
     }
-    bare_command(verb).map(Line::Command)
-}
-
-/// A line that takes no memory.
-fn plain(line: Option<Line>) -> Result<Line, LineFault>
-    ensures { result ≡ line_or_refusal line false }
-{
-    line.ok_or(LineFault::BadLine)
-}
-
-/// The line of a first word that names no edit, and of those behind it.
-fn other(alloc: Global, verb: &[u8], words: &mut Words<'_>) -> Result<Line, LineFault>
-    ensures { line_or_refusal (other_line verb.now words.old) (is_no_memory result) ≡ result }
-{
-    if is(verb, b"load") {
-        return load(alloc, words);
-    }
-    if is(verb, b"window") {
-        return plain(window(words));
-    }
-    if is(verb, b"redraw") {
-        return plain(redraw(words));
-    }
-    if is(verb, b"plot") {
-        return plot(alloc, words);
-    }
-    if is(verb, b"write") {
-        return write(alloc, words);
-    }
-    if is(verb, b"list") {
-        return list(alloc, words);
-    }
-    plain(bare(verb, words))
+    Ok(Line::Command(command))
 }
 
 /// The line of a first word and those behind it.
 fn line_of(alloc: Global, verb: &[u8], words: &mut Words<'_>) -> Result<Line, LineFault>
     ensures { line_or_refusal (line_in verb.now words.old) (is_no_memory result) ≡ result }
 {
-    match change_form(verb) {
-        Some(form) => edit(alloc, form, words),
-        None => other(alloc, verb, words),
+    if is(verb, b"load") {
+        load(alloc, words)
+    } else if is(verb, b"window") {
+        window(words).ok_or(LineFault::BadLine)
+    } else if is(verb, b"redraw") {
+        redraw(words).ok_or(LineFault::BadLine)
+    } else if is(verb, b"plot") {
+        put(alloc, true, words)
+    } else if is(verb, b"write") {
+        put(alloc, false, words)
+    } else if is(verb, b"list") {
+        list(alloc, words)
+    } else if is(verb, b"begin") {
+        bare(Command::Begin, words)
+    } else if is(verb, b"end") {
+        bare(Command::End, words)
+    } else if is(verb, b"abort") {
+        bare(Command::Abort, words)
+    } else if is(verb, b"undo") {
+        bare(Command::Undo, words)
+    } else if is(verb, b"redo") {
+        bare(Command::Redo, words)
+    } else {
+        edit(alloc, verb, words)
     }
 }
 

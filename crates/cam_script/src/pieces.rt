@@ -33,12 +33,3 @@ pub(crate) fn first_byte(bytes: &[u8]) -> u8
         None => 0,
     }
 }
-
-pub(crate) fn behind_first(bytes: &[u8]) -> &[u8]
-    ensures { result.now ≡ drop 1 bytes.now }
-{
-    match bytes.split_first() {
-        Some((_, rest)) => rest,
-        None => bytes,
-    }
-}

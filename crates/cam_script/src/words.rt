@@ -1,22 +1,16 @@
 //! The words of a line.
 
-ghost use Rattle.std.specs.Prelude.{◌≡◌, ◌≢◌, ◌^◌, nat_lt, ◌<◌, ◌≤◌, ◌∷◌, [], ◌++◌};
+ghost use Rattle.std.specs.Prelude.{◌≡◌, ◌≢◌, ◌^◌, ◌<◌, ◌≤◌, ◌∷◌, [], ◌++◌};
 ghost use Rattle.std.specs.Prelude.{IfNone, IfSome, filter, length, position};
 ghost use Rattle.cam_script.specs.Words.{is_word_gap, is_filled, words};
 
 use crate::pieces::{before, behind};
 use std::marker::Model;
 
-fn is_word_gap(byte: u8) -> bool
-    ensures { result ≡ is_word_gap byte }
-{
-    byte == b' ' || byte == b'\t'
-}
-
 fn piece_end(bytes: &[u8]) -> Option<usize>
     ensures { result ≡ position is_word_gap bytes.now }
 {
-    bytes.iter().position(|b| is_word_gap(*b))
+    bytes.iter().position(|b| *b == b' ' || *b == b'\t')
 }
 
 /// The bytes before the first space or tab, and those behind it.
@@ -30,22 +24,6 @@ fn first_piece(bytes: &[u8]) -> (&[u8], &[u8])
         Some(end) => (before(bytes, end), behind(bytes, end)),
         None => (bytes, &[]),
     }
-}
-
-/// The first word, and what stands behind it.
-fn first_word(bytes: &[u8]) -> Option<(&[u8], &[u8])>
-    ensures some { IfSome result (λ cut. words bytes.now ≡ cut.0.now ∷ words cut.1.now) }
-    ensures none { IfNone result (words bytes.now ≡ []) }
-{
-    let mut rest = bytes;
-    while !rest.is_empty() {
-        let (piece, behind) = first_piece(rest);
-        rest = behind;
-        if !piece.is_empty() {
-            return Some((piece, rest));
-        }
-    }
-    None
 }
 
 /// The words that are left, which contracts see as a list.
@@ -76,13 +54,14 @@ impl<'a> Words<'a> {
         ensures some { IfSome result (λ word. self.old ≡ word.now ∷ self.new) }
         ensures none { IfNone result ((self.old ≡ []) × (self.new ≡ [])) }
     {
-        match first_word(self.rest) {
-            Some((word, rest)) => {
-                self.rest = rest;
-                Some(word)
+        while !self.rest.is_empty() {
+            let (piece, behind) = first_piece(self.rest);
+            self.rest = behind;
+            if !piece.is_empty() {
+                return Some(piece);
             }
-            None => None,
         }
+        None
     }
 
     /// Takes the next two words.
@@ -105,20 +84,13 @@ impl<'a> Words<'a> {
         Words { rest: self.rest }
     }
 
-    /// Whether a word was left, which is taken.
-    fn takes_more(&mut self) -> bool
-        ensures { result ≡ nat_lt 0 (length self.old) }
-    {
-        self.next().is_some()
-    }
-
     /// The words that are left, if there is one.
     pub fn one(&mut self) -> Option<&'a [u8]>
         ensures some { IfSome result (λ word. self.old ≡ word.now ∷ []) }
         ensures none { IfNone result (length self.old ≢ 1) }
     {
         let first = self.next()?;
-        if self.takes_more() {
+        if self.next().is_some() {
             return None;
         }
         Some(first)

@@ -59,6 +59,4 @@ pub gerber_read : (bytes : List ℕ) (layer : Layer) → IsGerberReading bytes (
     → gerber_meaning (gerber_reading bytes) ≡ Ok (Gerber (gerber_content layer))
 gerber_read bytes layer h = read_by bytes layer (gerber_reads bytes (Ok layer) h)
 
-pub ruleset gerber_answers = (gerber_refused, gerber_read)
-
-pub ruleset drill_answers = (drill_refused, drill_read)
+pub ruleset answers = (gerber_refused, gerber_read, drill_refused, drill_read)

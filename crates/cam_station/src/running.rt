@@ -13,11 +13,10 @@ ghost use Rattle.cam_station.specs.Run.{
   files_seen,
   load_turn,
   moment,
-  plot_turn,
+  put_turn,
   turn,
-  write_turn,
 };
-ghost use Rattle.cam_station.specs.Machinery.Lines.{HasNoBytes, IsBegun, ReplyIsUnsaid, TurnGives, TurnLeadsTo};
+ghost use Rattle.cam_station.specs.Machinery.Lines.{HasNoBytes, IsBegun, ReplyIsUnsaid, TurnGives, TurnLeadsTo, tells};
 
 use crate::fault::{Fault, without_place};
 use crate::files::{FileFault, Files};
@@ -93,49 +92,32 @@ fn bytes_of(answer: &Result<Reply, Fault>) -> Option<&Bytes>
     }
 }
 
-/// Plots, and puts the bytes under the path.
-fn plot<F: Files>(
+/// Takes a step, puts the bytes of its answer under the path, and tells of these as a plot does, or counts them.
+fn put<F: Files>(
     station: &mut Station,
-    name: Name,
+    command: Command,
+    counts: bool,
     path: &FilePath,
     files: &mut F,
 ) -> Result<Reply, Fault>
     ensures { (memory : MemoryGrant) × (put : Result (Unit {0}) FileFault)
-        × TurnGives (plot_turn path.now put (step station.old (Command.Plot name) memory))
+        × TurnGives (put_turn (tells counts) path.now put (step station.old command memory))
         station.new (Some result)
         (files_seen (F.contents files.old) (F.failed files.old))
         (files_seen (F.contents files.new) (F.failed files.new)) }
 {
-    let answer = station.apply(Command::Plot { name });
-    let Some(bytes) = bytes_of(&answer) else {
-        return answer;
-    };
-    match files.put(path.as_str(), bytes.as_slice()) {
-        Ok(()) => answer,
-        Err(fault) => Err(file_refusal(fault)),
-    }
-}
-
-/// Writes a layer, and puts its text under the path.
-fn write<F: Files>(
-    station: &mut Station,
-    name: Name,
-    path: &FilePath,
-    files: &mut F,
-) -> Result<Reply, Fault>
-    ensures { (memory : MemoryGrant) × (put : Result (Unit {0}) FileFault)
-        × TurnGives (write_turn path.now put (step station.old (Command.Write name) memory))
-        station.new (Some result)
-        (files_seen (F.contents files.old) (F.failed files.old))
-        (files_seen (F.contents files.new) (F.failed files.new)) }
-{
-    let answer = station.apply(Command::Write { name });
+    let answer = station.apply(command);
     let Some(bytes) = bytes_of(&answer) else {
         return answer;
     };
     let text = bytes.as_slice();
     match files.put(path.as_str(), text) {
-        Ok(()) => Ok(Reply::Numbers(Numbers::One(text.len() as u64))),
+        Ok(()) => {
+            if counts {
+                return Ok(Reply::Numbers(Numbers::One(text.len() as u64)));
+            }
+            answer
+        }
         Err(fault) => Err(file_refusal(fault)),
     }
 }
@@ -158,8 +140,12 @@ fn run_line<F: Files>(
         Ok(Some(Line::Load { name, kind, path })) => {
             Some(load(alloc, station, name, kind, &path, files))
         }
-        Ok(Some(Line::Plot { name, path })) => Some(plot(station, name, &path, files)),
-        Ok(Some(Line::Write { name, path })) => Some(write(station, name, &path, files)),
+        Ok(Some(Line::Plot { name, path })) => {
+            Some(put(station, Command::Plot { name }, false, &path, files))
+        }
+        Ok(Some(Line::Write { name, path })) => {
+            Some(put(station, Command::Write { name }, true, &path, files))
+        }
     }
 }
 

@@ -27,34 +27,27 @@ pub struct Served {
     pub file: Option<Bytes>,
 }
 
-/// An answer, and the bytes that it has for a file.
-#[derive(Drop)]
-struct Parted {
-    told: Result<Reply, Fault>,
-    bytes: Option<Bytes>,
-}
-
-/// Takes the bytes out of an answer.
-fn part_bytes(answer: Result<Reply, Fault>) -> Parted
-    ensures told { without_bytes (Some answer) ≡ Some result.told }
-    ensures bytes { bytes_in answer ≡ result.bytes }
+/// What an answer leaves, with the bytes that it has for a file.
+fn parted(answer: Result<Reply, Fault>) -> Served
+    ensures reply { without_bytes (Some answer) ≡ result.reply }
+    ensures file { bytes_in answer ≡ result.file }
 {
     match answer {
-        Ok(Reply::Done) => Parted {
-            told: Ok(Reply::Done),
-            bytes: None,
+        Ok(Reply::Done) => Served {
+            reply: Some(Ok(Reply::Done)),
+            file: None,
         },
-        Ok(Reply::Numbers(numbers)) => Parted {
-            told: Ok(Reply::Numbers(numbers)),
-            bytes: None,
+        Ok(Reply::Numbers(numbers)) => Served {
+            reply: Some(Ok(Reply::Numbers(numbers))),
+            file: None,
         },
-        Ok(Reply::Bytes { bytes, drawn }) => Parted {
-            told: Ok(Reply::Numbers(Numbers::One(drawn))),
-            bytes: Some(bytes),
+        Ok(Reply::Bytes { bytes, drawn }) => Served {
+            reply: Some(Ok(Reply::Numbers(Numbers::One(drawn)))),
+            file: Some(bytes),
         },
-        Err(fault) => Parted {
-            told: Err(fault),
-            bytes: None,
+        Err(fault) => Served {
+            reply: Some(Err(fault)),
+            file: None,
         },
     }
 }
@@ -64,10 +57,8 @@ fn told(answer: Result<Reply, Fault>) -> Served
     ensures reply { without_bytes (Some answer) ≡ result.reply }
     ensures file { result.file ≡ None }
 {
-    Served {
-        reply: Some(part_bytes(answer).told),
-        file: None,
-    }
+    let Served { reply, file: _ } = parted(answer);
+    Served { reply, file: None }
 }
 
 /// A copy of the bytes that were handed in; they have failed where they are more than 268,435,456, or are missing.
@@ -111,11 +102,7 @@ fn plot(station: &mut Station, name: Name, path: &FilePath) -> Served
         × IsServed handed (plot_turn path.now (Ok tt) (step station.old (Command.Plot name) memory))
         station.new result.reply result.file }
 {
-    let Parted { told, bytes } = part_bytes(station.apply(Command::Plot { name }));
-    Served {
-        reply: Some(told),
-        file: bytes,
-    }
+    parted(station.apply(Command::Plot { name }))
 }
 
 /// Writes a layer, and keeps its text.
@@ -124,16 +111,13 @@ fn write(station: &mut Station, name: Name, path: &FilePath) -> Served
         × IsServed handed (write_turn path.now (Ok tt) (step station.old (Command.Write name) memory))
         station.new result.reply result.file }
 {
-    let Parted { told, bytes } = part_bytes(station.apply(Command::Write { name }));
-    match bytes {
+    let Served { reply, file } = parted(station.apply(Command::Write { name }));
+    match file {
         Some(text) => Served {
             reply: Some(Ok(Reply::Numbers(Numbers::One(text.as_slice().len() as u64)))),
             file: Some(text),
         },
-        None => Served {
-            reply: Some(told),
-            file: None,
-        },
+        None => Served { reply, file: None },
     }
 }
 

@@ -2,14 +2,6 @@
 
 ghost use Rattle.std.specs.Prelude.{◌≡◌, ◌++◌, ◌<◌, ◌≤◌, length, min, replicate, true, vec_capacity, vec_len};
 ghost use Rattle.std.specs.Prelude.{IfErr, IfOk, OnOk, Some, option_map, option_to_list};
-ghost use Rattle.cam_objects.specs.Contents.{
-  content_leaves,
-  content_of as gerber_content_of,
-  drill_content_leaves,
-  drill_content_of,
-};
-ghost use Rattle.cam_objects.specs.DrillSoundness.{IsSoundDrillLayer};
-ghost use Rattle.cam_objects.specs.Soundness.{HasSoundItems};
 ghost use Rattle.cam_edits.specs.Images.{image_of};
 ghost use Rattle.cam_edits.specs.Sheets.{AreSound, IsSound, content_of, sheets_of};
 ghost use Rattle.cam_station.specs.TileTables.{dirty_in, redrawn_in};
@@ -17,12 +9,11 @@ ghost use Rattle.cam_station.specs.Machine.{fault};
 ghost use Rattle.cam_refusals.specs.declared.refusal.Refusal.TheVariants.{NoMemory};
 ghost use Rattle.cam_station.specs.Writing.{text_of};
 ghost use Rattle.cam_tiles.specs.Picture.{accepts};
-ghost use Rattle.cam_tiles.specs.Sources.{unasked};
 ghost use Rattle.cam_tiles.specs.declared.window.Window.{Window};
 ghost use Rattle.cam_tiles.specs.Tables.{blank, dirty_count, redrawn};
 
 use crate::fault::{Fault, without_place};
-use cam_edits::{Board, IndexedDrillLayer, IndexedLayer, SheetContent};
+use cam_edits::{Board, SheetContent};
 use cam_refusals::Refusal;
 use cam_tiles::{Raster, Source, Window};
 use cam_writers::{gerber_text, xnc_text};
@@ -37,18 +28,6 @@ fn blank(alloc: Global, window: Window) -> Result<Raster, Fault>
     match Raster::new(alloc, window) {
         Ok(raster) => Ok(raster),
         Err(_) => Err(without_place(Refusal::NoMemory)),
-    }
-}
-
-/// A raster of the window in force, if one is.
-fn blank_in(alloc: Global, window: Option<Window>) -> Result<Option<Raster>, Fault>
-    requires { (w : Window) → window ≡ Some w → accepts w ≡ true }
-    ensures made { IfOk result (λ raster. raster ≡ option_map blank window) }
-    ensures memory { IfErr result (λ told. told ≡ fault NoMemory) }
-{
-    match window {
-        Some(window) => Ok(Some(blank(alloc, window)?)),
-        None => Ok(None),
     }
 }
 
@@ -67,7 +46,10 @@ pub(crate) fn blank_behind(
     if rasters.reserve(1).is_err() {
         return Err(without_place(Refusal::NoMemory));
     }
-    blank_in(alloc, window)
+    match window {
+        Some(window) => Ok(Some(blank(alloc, window)?)),
+        None => Ok(None),
+    }
 }
 
 /// Puts a raster, if there is one, behind those that there are; there is room for it.
@@ -109,33 +91,24 @@ pub(crate) fn draw_all(alloc: Global, board: &Board, rasters: &mut [Raster], at_
     at_most - left
 }
 
-/// Draws dirty tiles of a layer, those of least number first, and answers how many.
+/// Draws dirty tiles of a layer, those of least number first, and answers how many: by the cells that its items reach, where
+/// they are known, and by the first copies of its repeats.
 pub(crate) fn draw(alloc: Global, content: &SheetContent, raster: &mut Raster, at_most: u32) -> u32
     requires { IsSound (content_of content.now) }
     ensures drawn { result ≡ min at_most (dirty_count raster.old) }
     ensures tiles { raster.new ≡ redrawn (image_of (content_of content.now)) at_most raster.old }
 {
-    let mut source = match content {
-        SheetContent::Gerber(layer) => painter(alloc, layer),
-        SheetContent::Drill(layer) => drill_painter(alloc, layer),
-    };
-    raster.redraw(&mut source, at_most)
-}
-
-/// Paints a sound layer: by the cells that its items reach, where they are known, and by the first copies of its repeats.
-fn painter(alloc: Global, layer: &IndexedLayer) -> Source<'_>
-    requires { HasSoundItems layer.now }
-    ensures { result ≡ unasked (content_leaves (gerber_content_of layer.now)) }
-{
-    Source::gerber_by_cells(alloc, layer.layer(), layer.cells(), layer.first_copies())
-}
-
-/// Paints a sound drill layer in the same way.
-fn drill_painter(alloc: Global, layer: &IndexedDrillLayer) -> Source<'_>
-    requires { IsSoundDrillLayer layer.now }
-    ensures { result ≡ unasked (drill_content_leaves (drill_content_of layer.now)) }
-{
-    Source::drill_by_cells(alloc, layer.layer(), layer.cells())
+    match content {
+        SheetContent::Gerber(layer) => {
+            let (cells, copies) = (layer.cells(), layer.first_copies());
+            let mut source = Source::gerber_by_cells(alloc, layer.layer(), cells, copies);
+            raster.redraw(&mut source, at_most)
+        }
+        SheetContent::Drill(layer) => {
+            let mut source = Source::drill_by_cells(alloc, layer.layer(), layer.cells());
+            raster.redraw(&mut source, at_most)
+        }
+    }
 }
 
 /// The canonical text of a layer, as a file of its kind.

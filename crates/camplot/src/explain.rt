@@ -51,10 +51,9 @@ fn shown(alloc: Global, line: &[u8]) -> Result<String, AllocError> {
 
 /// Whether a line has a word, and is no comment.
 fn is_run(line: &[u8]) -> bool {
-    match line.trim_ascii().first() {
-        Some(first) => *first != b'#',
-        None => false,
-    }
+    line.trim_ascii()
+        .first()
+        .is_some_and(|first| *first != b'#')
 }
 
 /// The last word of a line, which is the path of a line that reads or writes a file.

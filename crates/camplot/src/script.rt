@@ -3,7 +3,7 @@
 ghost use Rattle.std.specs.Prelude.{IfErr, IfOk, Err, Ok, string_bytes};
 ghost use Rattle.cam_station.specs.Run.{files_seen, moment};
 ghost use Rattle.camplot.specs.Disk.{reader_seen};
-ghost use Rattle.camplot.specs.Endings.{EndsAs, GivesFile, RunEnds, refused_in};
+ghost use Rattle.camplot.specs.Endings.{EndsAs, GivesFile, refused_in};
 
 use crate::ending::Ending;
 use crate::options::Call;
@@ -44,25 +44,6 @@ fn script_at<F: Files, I: Read>(
     files.get(alloc, path)
 }
 
-/// Runs the lines of a script, with an undo depth.
-fn run_lines<F: Files, O: Out, V: Watch<F>>(
-    alloc: Global,
-    depth: u32,
-    script: &[u8],
-    files: &mut F,
-    out: &mut O,
-    watch: &mut V,
-) -> Ending
-    ensures { RunEnds result script.now depth
-        (moment (F.contents files.old) (F.failed files.old) (O.said out.old) (O.failed out.old) 0)
-        (moment (F.contents files.new) (F.failed files.new) (O.said out.new) (O.failed out.new) (refused_in result)) }
-{
-    match run_watched(alloc, depth, script, files, out, watch) {
-        Ok(refused) => Ending::Ran(refused),
-        Err(fault) => Ending::Stopped(fault),
-    }
-}
-
 /// Runs the script at a path, with an undo depth, as the call says. What watches the run changes nothing of it.
 pub fn run_script<F: Files, I: Read, O: Out, V: Watch<F>>(
     alloc: Global,
@@ -82,5 +63,8 @@ pub fn run_script<F: Files, I: Read, O: Out, V: Watch<F>>(
         Ok(script) => script,
         Err(fault) => return Ending::Unread(fault),
     };
-    run_lines(alloc, call.depth, script.as_slice(), files, out, watch)
+    match run_watched(alloc, call.depth, script.as_slice(), files, out, watch) {
+        Ok(refused) => Ending::Ran(refused),
+        Err(fault) => Ending::Stopped(fault),
+    }
 }

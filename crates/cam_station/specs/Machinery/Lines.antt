@@ -1,11 +1,11 @@
 -- Parts of a run, and of a line.
-use Rattle.std.specs.Prelude.{◌≡◌, ℕ, true, false, [], ◌∷◌, Option, IsSome, Result, Ok, Err}
+use Rattle.std.specs.Prelude.{◌≡◌, ℕ, Bool, true, false, [], ◌∷◌, Option, IsSome, Result, Ok, Err}
 use Rattle.cam_station.specs.declared.reply.Reply.TheVariants.{Bytes}
 use Rattle.cam_station.specs.declared.running.RunFault.{RunFault}
 use Rattle.cam_station.specs.declared.running.RunFault.TheVariants.{Depth, Output, Memory as RunMemory}
 use Rattle.cam_station.specs.Files.{HasRisenBy}
 use Rattle.cam_station.specs.Machine.{State, Outcome, fresh, is_depth}
-use Rattle.cam_station.specs.Run.{Answers, FilesSeen, Moment, Turn, TurnsLead}
+use Rattle.cam_station.specs.Run.{Answers, FilesSeen, Moment, Tells, Turn, TurnsLead, byte_count}
 
 -- a new station, or why there is none
 abbrev pub IsBegun : ℕ → Result State RunFault → Type 0
@@ -35,3 +35,8 @@ pub record ReplyIsUnsaid (t : Turn) (before after : Moment) : Type 0 where
   pub replied : IsSome t.reply
   pub files : Answers t.ask before.files after.files
   pub out_failures : HasRisenBy 1 before.out_failures after.out_failures
+
+-- what is told of the bytes that are put: how many they are, or what a plot tells
+abbrev pub tells : Bool → Tells
+tells true = byte_count
+tells false = Bytes

@@ -124,12 +124,6 @@ pub fn fits(alloc: Global, place: &str, word: &str) -> bool {
     }
 }
 
-/// The name of a place, which stands in brackets where it may be left out.
-fn bare(place: &'static str) -> &'static str {
-    let place = place.strip_prefix('[').unwrap_or(place);
-    place.strip_suffix(']').unwrap_or(place)
-}
-
 /// What does not fit in a line that says nothing. `None` where all words fit.
 pub fn first_misfit<'a>(alloc: Global, line: &'a str) -> Option<Misfit<'a>> {
     let mut words = line.split_ascii_whitespace();
@@ -147,7 +141,9 @@ pub fn first_misfit<'a>(alloc: Global, line: &'a str) -> Option<Misfit<'a>> {
             places = "X Y ..]".split_ascii_whitespace();
             place = places.next()?;
         }
-        let place = bare(place);
+        // it stands in brackets where it may be left out
+        let place = place.strip_prefix('[').unwrap_or(place);
+        let place = place.strip_suffix(']').unwrap_or(place);
         if let Some(part) = form_of(place, word) {
             form = part;
             places = part.split_ascii_whitespace();

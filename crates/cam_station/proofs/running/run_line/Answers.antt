@@ -32,15 +32,15 @@ returns-in-Ok-Some-Load g c =
 
 pub returns-in-Ok-Some-Plot : goal.returns-in-Ok-Some-Plot
 returns-in-Ok-Some-Plot g c =
-    one.line_plots c.args.station.now c.args.line.now c.in-Ok-Some-Plot.name c.in-Ok-Some-Plot.path c.plot.new.station (Some c.plot.result)
+    one.line_plots c.args.station.now c.args.line.now c.in-Ok-Some-Plot.name c.in-Ok-Some-Plot.path c.put.new.station (Some c.put.result)
     (files_seen (g.F.Files.contents c.args.files.now) (g.F.Files.failed c.args.files.now))
-    (files_seen (g.F.Files.contents c.plot.new.files) (g.F.Files.failed c.plot.new.files))
-    (rw (c.in-Ok-Some-Plot.field-0-is, c.in-Ok-Some-Plot.field-0-0-is) at c.in-Ok-Some-Plot.ensures) c.plot.ensures
+    (files_seen (g.F.Files.contents c.put.new.files) (g.F.Files.failed c.put.new.files))
+    (rw (c.in-Ok-Some-Plot.field-0-is, c.in-Ok-Some-Plot.field-0-0-is) at c.in-Ok-Some-Plot.ensures) c.put.ensures
 
 pub returns-in-Ok-Some-Write : goal.returns-in-Ok-Some-Write
 returns-in-Ok-Some-Write g c =
-    one.line_writes c.args.station.now c.args.line.now c.in-Ok-Some-Write.name c.in-Ok-Some-Write.path c.write.new.station
-    (Some c.write.result)
+    one.line_writes c.args.station.now c.args.line.now c.in-Ok-Some-Write.name c.in-Ok-Some-Write.path c.put-in-Ok-Some-Write.new.station
+    (Some c.put-in-Ok-Some-Write.result)
     (files_seen (g.F.Files.contents c.args.files.now) (g.F.Files.failed c.args.files.now))
-    (files_seen (g.F.Files.contents c.write.new.files) (g.F.Files.failed c.write.new.files))
-    (rw (c.in-Ok-Some-Write.field-0-is, c.in-Ok-Some-Write.field-0-0-is) at c.in-Ok-Some-Write.ensures) c.write.ensures
+    (files_seen (g.F.Files.contents c.put-in-Ok-Some-Write.new.files) (g.F.Files.failed c.put-in-Ok-Some-Write.new.files))
+    (rw (c.in-Ok-Some-Write.field-0-is, c.in-Ok-Some-Write.field-0-0-is) at c.in-Ok-Some-Write.ensures) c.put-in-Ok-Some-Write.ensures

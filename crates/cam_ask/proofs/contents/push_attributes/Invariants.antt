@@ -1,7 +1,7 @@
 use Rattle.std.proofs.Common.{◌≡◌, ◌++◌, take}
 use Rattle.std.specs.List.{flat_map}
 use Rattle.cam_ask.specs.Texts.{attribute_line}
-use Rattle.cam_ask.proofs.contents.push_all_attributes.Given as goal
+use Rattle.cam_ask.proofs.contents.push_attributes.Given as goal
 
 abbrev pub invariant-loop-attribute : goal.invariant-loop-attribute
 invariant-loop-attribute l = l.text.items ≡ l.fn.text.items ++ flat_map attribute_line (take l.attribute-index l.attributes)

@@ -1,7 +1,0 @@
-use Rattle.std.proofs.Common.{◌≡◌, ◌++◌, take}
-use Rattle.std.specs.List.{flat_map}
-use Rattle.cam_ask.specs.Texts.{item_lines}
-use Rattle.cam_ask.proofs.contents.push_gerber_items.Given as goal
-
-abbrev pub invariant-loop-item : goal.invariant-loop-item
-invariant-loop-item l = l.text.items ≡ l.fn.text.items ++ flat_map item_lines (take l.item-index l.items)
