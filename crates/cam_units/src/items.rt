@@ -1,6 +1,6 @@
 //! Items in order.
 
-ghost use Rattle.std.specs.Prelude.{◌≡◌, ◌++◌, ◌∷◌, [], OnOk};
+ghost use Rattle.std.specs.Prelude.{◌≡◌};
 
 use std::alloc::AllocError;
 use std::marker::Model;
@@ -54,16 +54,6 @@ impl<T> Items<T> {
         ensures items { result.now ≡ self.old }
     {
         self.items.as_mut_slice()
-    }
-}
-
-impl<T: Drop> Items<T> {
-    /// Adds an item behind the others; refused for want of memory alone.
-    pub fn push(&mut self, item: T) -> Result<(), AllocError>
-        ensures { OnOk result (self.new ≡ self.old ++ item ∷ []) }
-    {
-        self.items.push(item)?;
-        Ok(())
     }
 }
 
