@@ -64,7 +64,7 @@ impl Vector {
     }
 
     /// Whether the way is at most as long as the radius.
-    pub fn is_within(self, radius: Nm) -> bool
+    pub(crate) fn is_within(self, radius: Nm) -> bool
         requires short { IsShort self }
         requires radius { IsSize radius.0 }
         ensures { IsTrue result ↔ IsNoLonger self radius.0 }
@@ -74,7 +74,7 @@ impl Vector {
 
     /// Whether the way leads at most `width` to the left or right, and at most `height` up or
     /// down.
-    pub fn is_between(self, width: Nm, height: Nm) -> bool
+    pub(crate) fn is_between(self, width: Nm, height: Nm) -> bool
         requires { IsShort self }
         ensures { IsTrue result ↔ IsBetween self width.0 height.0 }
     {
