@@ -1,5 +1,5 @@
 -- How far from the centre of an arc a place of its stroke lies.
-use Rattle.std.proofs.Common.{◌≡◌, ℕ, ◌+◌, ◌*◌, ◌-◌, ◌<◌, ◌≤◌, pos, ◌+ℤ◌, ◌-ℤ◌, ◌*ℤ◌, inl, inr, arith}
+use Rattle.std.proofs.Common.{◌≡◌, ℕ, ◌+◌, ◌*◌, ◌-◌, ◌<◌, ◌≤◌, pos, ◌-ℤ◌, inl, inr, arith}
 use Rattle.std.proofs.lemmas.Bool.{cases_lt}
 use Rattle.std.proofs.lemmas.Int.{ints}
 use Rattle.std.proofs.lemmas.Nat.{mul-le}
@@ -35,11 +35,7 @@ farthest p q r high near inside = elim (cases_lt ((high + r) * (high + r)) p) [
 
 -- each of the two distances may be that of the circle
 other : (p q r : ℕ) → IsNearCircle (pos p) (pos q) (pos r) → IsNearCircle (pos q) (pos p) (pos r)
-other p q r (inl sum) = inl (omega (arith, ints))
-other p q r (inr between) =
-    let sums : pos q +ℤ pos p ≡ pos p +ℤ pos q = omega (arith, ints) in
-    let products : pos 4 *ℤ pos q *ℤ pos p ≡ pos 4 *ℤ pos p *ℤ pos q = omega (arith, ints) in
-    inr (rw (sums, products) between)
+other p q r it = grind (arith, ints)
 
 pub nearest : (p q r low : ℕ) → IsNearCircle (pos p) (pos q) (pos r) → low * low ≤ q → (low - r) * (low - r) ≤ p
 nearest p q r low near outside = elim (cases_lt p ((low - r) * (low - r))) [

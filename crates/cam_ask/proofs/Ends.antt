@@ -8,10 +8,7 @@ use Rattle.std.proofs.Math.Nat.{mul-le-mul_left}
 use Rattle.cam_shapes.proofs.Strokes.{squares_order}
 
 below_next : (b n : ℕ) → b * b < (n + 1) * (n + 1) → b ≤ n
-below_next b n h = elim (cases_lt n b) [
-  | inl more ↦ absurd (omega (arith, mul-le (n + 1) (n + 1) b b (omega arith) (omega arith)))
-  | inr most ↦ most
-]
+below_next b n h = grind (arith, cases_lt, mul-le)
 
 -- both to the right
 longer : (a b y z low most : ℕ) → a * z ≤ b * y → low * low ≤ b * b + z * z → a * a + y * y ≤ most * most → a * low ≤ b * most
@@ -87,6 +84,7 @@ turned_on (pos zero) (negsuc b) (suc y) z low high least most g turned some floo
     absurd (omega (arith, ints, turned))
 turned_on (pos (suc a)) (negsuc b) y z low high least most g turned some floor next ceiling bottom top beyond within =
     absurd (omega (arith, ints, turned, mul-le 1 z (suc a) z (omega arith) (omega arith)))
-turned_on (negsuc a) (pos b) y z low high least most g turned some floor next ceiling bottom top beyond within = omega (arith, ints)
+turned_on (negsuc a) (pos b) y z low high least most g turned some floor next ceiling bottom top beyond within =
+    omega (arith, ints)
 turned_on (negsuc a) (negsuc b) y z low high least most g turned some floor next ceiling bottom top beyond within =
     omega (arith, ints, to_the_left (suc a) (suc b) y z high least g (omega (arith, ints)) some ceiling bottom within)

@@ -1,5 +1,5 @@
 -- Texts that grow by a part for each element of a list.
-use Rattle.std.proofs.Common.{◌≡◌, ◌∙◌, refl, ap, sym, ℕ, ◌+◌, ◌<◌, ◌≤◌, List, [], ◌∷◌, ◌++◌, length, take, get_or, append-nil, arith}
+use Rattle.std.proofs.Common.{◌≡◌, ◌∙◌, ap, sym, ℕ, ◌+◌, ◌<◌, ◌≤◌, List, [], ◌∷◌, ◌++◌, length, take, get_or, append-nil, arith}
 use Rattle.std.specs.Prelude.{option_to_list}
 use Rattle.std.specs.List.{flat_map}
 use Rattle.std.proofs.lemmas.List.{flat_map_more, take_all, take_more}
@@ -10,9 +10,7 @@ use Rattle.cam_ask.specs.Texts.{entries_text, entry_text, lines_at, numbered_lin
 -- one part more
 part_added : {X : Type 0} (f : X → List ℕ) (xs : List X) (i : ℕ) (d : X) (front old new : List ℕ) → i < length xs
     → old ≡ front ++ flat_map f (take i xs) → new ≡ old ++ f (get_or xs i d) → new ≡ front ++ flat_map f (take (i + 1) xs)
-part_added f xs i d front old new lt e more =
-    more ∙ ap (λ (o : List ℕ). o ++ f (get_or xs i d)) e ∙ flat_map_more f front (take i xs) (get_or xs i d)
-    ∙ ap (λ ys. front ++ flat_map f ys) (sym (take_more xs i d lt))
+part_added f xs i d front old new lt e more = grind (arith, flat_map_more, take_more)
 
 -- of the element at a place that the list has
 pub place_added : {X : Type 0} (f : X → List ℕ) (xs : List X) (i : ℕ) (front old new : List ℕ) → i < length xs
@@ -30,16 +28,13 @@ entries_to (Drill c) n = flat_map sized_lines (take n c.tools)
 
 pub entry_added : (c : Content) (i : ℕ) (front old new : List ℕ) → i < entry_count c
     → old ≡ front ++ entries_to c i → new ≡ old ++ entry_text c i → new ≡ front ++ entries_to c (i + 1)
-entry_added (Gerber c) i front old new lt e more = place_added numbered_lines c.entries i front old new lt e more
-entry_added (Drill c) i front old new lt e more = place_added sized_lines c.tools i front old new lt e more
+entry_added c i front old new lt e more = grind (arith, place_added)
 
 pub entries_none : (c : Content) → entries_to c 0 ≡ []
-entries_none (Gerber c) = refl
-entries_none (Drill c) = refl
+entries_none c = grind arith
 
 pub entries_all : (c : Content) (n : ℕ) → entry_count c ≤ n → entries_to c n ≡ entries_text c
-entries_all (Gerber c) n h = ap (flat_map numbered_lines) (take_all n c.entries h)
-entries_all (Drill c) n h = ap (flat_map sized_lines) (take_all n c.tools h)
+entries_all c n h = grind (arith, take_all)
 
 -- no more than there are
 pub taken_all : {X : Type 0} (xs : List X) (n : ℕ) → length xs ≤ n → xs ≡ take n xs

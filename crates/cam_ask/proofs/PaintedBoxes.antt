@@ -1,5 +1,5 @@
 -- The box of what an arc paints holds all that it covers.
-use Rattle.std.proofs.Common.{◌≡◌, Bool, true, false, ◌||◌, ℕ, zero, suc, ◌+◌, ◌*◌, ◌-◌, ◌==◌, ◌<◌, ◌≤◌, ℤ, pos, negsuc, ◌+ℤ◌, ◌-ℤ◌, ◌*ℤ◌, ◌≤ℤ◌, ◌⊎◌, inl, inr, List, [], ◌∷◌, get_or, Option, None, Some, refl, ap, sym, subst, ◌∙◌, arith}
+use Rattle.std.proofs.Common.{◌≡◌, Bool, true, false, ◌||◌, ℕ, zero, suc, ◌+◌, ◌*◌, ◌-◌, ◌==◌, ◌<◌, ◌≤◌, ℤ, pos, negsuc, ◌+ℤ◌, ◌-ℤ◌, ◌*ℤ◌, ◌≤ℤ◌, inl, inr, List, [], ◌∷◌, get_or, Option, None, Some, refl, ap, sym, subst, ◌∙◌, arith}
 use Rattle.std.specs.Prelude.{Any, max, min, if◌then◌else◌}
 use Rattle.std.specs.Int.RustNames.{unsigned_abs}
 use Rattle.std.proofs.lemmas.Bool.{cases_Bool, eqb-true, false≢true}
@@ -8,7 +8,7 @@ use Rattle.std.proofs.lemmas.Nat.{mul-le}
 use Rattle.cam_units.proofs.Ring.{Atom, Difference, Product, Sum, equal}
 use Rattle.cam_units.specs.Boxes.{Holds, join_of}
 use Rattle.cam_units.specs.declared.bounds.Bounds.{Bounds}
-use Rattle.cam_units.specs.declared.bounds.Bounds.TheVariants.{Empty, Closed}
+use Rattle.cam_units.specs.declared.bounds.Bounds.TheVariants.{Empty}
 use Rattle.cam_units.specs.declared.length.Nm.{Nm}
 use Rattle.cam_units.specs.declared.point.Point.{Point}
 use Rattle.cam_units.specs.declared.point.Spot.{Spot}
@@ -56,19 +56,10 @@ use Rattle.cam_ask.proofs.Sides.{IsLength, IsPassed, IsReached, passed_turned, s
 -- ---- lengths
 
 ceiling : (f n : ℕ) (b : Bool) → (f * f == n) ≡ b → n < (f + 1) * (f + 1) → n ≤ (if b then f else f + 1) * (if b then f else f + 1)
-ceiling f n true e next = omega (arith, eqb-true (f * f) n e)
-ceiling f n false e next = omega (arith, next)
+ceiling f n b e next = grind (arith, eqb-true)
 
 length_of : (v : Vector) → IsLength v (floor_of v) (ceiling_of v)
-length_of v =
-    let n = unsigned_abs (dot v v) in
-    let is : n ≡ square_of v = ap unsigned_abs (dot_is v) in
-    let f = floor_of v in
-    let r = root_square n in record {
-      floor = omega (arith, is, r.0);
-      next = omega (arith, is, r.1);
-      ceiling = omega (arith, is, ceiling f n (f * f == n) refl r.1);
-    }
+length_of v = grind (arith, square_of, dot_is, root_square, ceiling)
 
 near_naturals : (v u : Vector) (w : ℤ) (r : ℕ) → w ≡ pos r → IsNearCircle (dot v v) (dot u u) w
     → IsNearCircle (pos (square_of v)) (pos (square_of u)) (pos r)
@@ -133,18 +124,10 @@ still k z w e h = omega (arith, ints, e, some_some (pos k) z (omega (arith, ints
 
 -- a sweep that holds a direction holds each place in it
 in_direction : (k : ℕ) (s e v : Vector) → IsInSweep s e v → IsInSweep s e (times k v)
-in_direction k s e v (inl same) = inl same
-in_direction k s e v (inr (inl h)) =
-    inr (inl (h.0, still k (cross s v) _ (cross_times k s v) h.1, still k (cross v e) _ (times_cross k v e) h.2))
-in_direction k s e v (inr (inr h)) = inr (inr (h.0, either h.1))
-  where
-    either : (pos 0 ≤ℤ cross s v) ⊎ (pos 0 ≤ℤ cross v e) → (pos 0 ≤ℤ cross s (times k v)) ⊎ (pos 0 ≤ℤ cross (times k v) e)
-    either (inl a) = inl (still k (cross s v) _ (cross_times k s v) a)
-    either (inr b) = inr (still k (cross v e) _ (times_cross k v e) b)
+in_direction k s e v it = grind (arith, still, cross_times, times_cross)
 
 swept_in_direction : (ccw : Bool) (k : ℕ) (s e v : Vector) → IsSwept ccw s e v → IsSwept ccw s e (times k v)
-swept_in_direction true k s e v h = in_direction k s e v h
-swept_in_direction false k s e v h = in_direction k e s v h
+swept_in_direction ccw k s e v h = grind (arith, in_direction)
 
 -- a whole number next to the radius of a circle is less than 1 from it
 square_near : (f d : ℕ) → 0 < f → d ≤ 2 * f → (f * f + (f * f + d) - 1) * (f * f + (f * f + d) - 1) ≤ 4 * (f * f) * (f * f + d)
@@ -210,57 +193,26 @@ off_axis a axis unit e h =
 -- ---- squares about places
 
 wider : (q s : Spot) (w more : ℤ) → w ≤ℤ more → Holds (box_about q w w) s → Holds (box_about q more more) s
-wider q s w more h on = record {
-  left = omega (arith, ints, h, on.left);
-  right = omega (arith, ints, h, on.right);
-  below = omega (arith, ints, h, on.below);
-  above = omega (arith, ints, h, on.above);
-}
+wider q s w more h on = grind (arith, ints)
 
 -- the middles of the sides
 module _ (q : Spot) (w : ℤ) (h : pos 0 ≤ℤ w) where
   at_right : Holds (box_about q w w) (record { x = q.x +ℤ w; y = q.y })
-  at_right = record {
-    left = omega (arith, ints, h);
-    right = omega (arith, ints, h);
-    below = omega (arith, ints, h);
-    above = omega (arith, ints, h);
-  }
+  at_right = grind (arith, ints)
 
   at_left : Holds (box_about q w w) (record { x = q.x -ℤ w; y = q.y })
-  at_left = record {
-    left = omega (arith, ints, h);
-    right = omega (arith, ints, h);
-    below = omega (arith, ints, h);
-    above = omega (arith, ints, h);
-  }
+  at_left = grind (arith, ints)
 
   at_top : Holds (box_about q w w) (record { x = q.x; y = q.y +ℤ w })
-  at_top = record {
-    left = omega (arith, ints, h);
-    right = omega (arith, ints, h);
-    below = omega (arith, ints, h);
-    above = omega (arith, ints, h);
-  }
+  at_top = grind (arith, ints)
 
   at_bottom : Holds (box_about q w w) (record { x = q.x; y = q.y -ℤ w })
-  at_bottom = record {
-    left = omega (arith, ints, h);
-    right = omega (arith, ints, h);
-    below = omega (arith, ints, h);
-    above = omega (arith, ints, h);
-  }
+  at_bottom = grind (arith, ints)
 
 -- a box with places on all sides of a place holds that
 hull : (b : Bounds) (s : Spot) → ((p : Spot) × (Holds b p × (s.x ≤ℤ p.x))) → ((p : Spot) × (Holds b p × (s.y ≤ℤ p.y)))
     → ((p : Spot) × (Holds b p × (p.x ≤ℤ s.x))) → ((p : Spot) × (Holds b p × (p.y ≤ℤ s.y))) → Holds b s
-hull Empty s r t l b = absurd r.1.0
-hull (Closed low high) s r t l b = record {
-  left = omega (arith, ints, l.1.0.left, l.1.1);
-  right = omega (arith, ints, r.1.0.right, r.1.1);
-  below = omega (arith, ints, b.1.0.below, b.1.1);
-  above = omega (arith, ints, t.1.0.above, t.1.1);
-}
+hull b s r t l b' = grind (arith, ints)
 
 pub by_axis : (f : ℕ) → (pos f *ℤ pos 1 ≡ pos f) × (pos f *ℤ negsuc 0 ≡ pos 0 -ℤ pos f)
 by_axis f = (omega (arith, ints), omega (arith, ints))
@@ -450,17 +402,10 @@ in_arc a s h =
 -- ---- items
 
 unmoved : (p : Point) → placed origin p ≡ p
-unmoved p =
-    let x : (placed origin p).x ≡ p.x = omega (arith, ints) in
-    let y : (placed origin p).y ≡ p.y = omega (arith, ints) in
-    λ i. record { x = x i; y = y i }
+unmoved p = grind (arith, ints)
 
 alone : (l : Leaf) (P : Leaf → Type 0) → Any P (l ∷ []) → P l
-alone l P any = by any.0 any.1 any.2 any.3 any.4
-  where
-    by : (k : ℕ) (d : Leaf) → k < 1 → get_or (l ∷ []) k d ≡ d → P d → P l
-    by zero d below e h = subst P (sym e) h
-    by (suc k) d below e h = absurd (omega (arith, below))
+alone l P any = grind arith
 
 drawn : (o : Option Nm) (from to centre : Point) (ccw dark : Bool) (s : Spot)
     → IsCoveredBy (arc_leaves o (placed origin from) (placed origin to) (placed origin centre) ccw dark) s
@@ -481,22 +426,14 @@ covered means (One (objects.Arc ccw dark n from to centre)) s any =
       inside_box (item_leaves means (One (objects.Arc ccw dark n from to centre))) s any,
       drawn (round_width (means n).tip) from to centre ccw (polarity_in origin.dark dark) s any,
     )
-covered means (One (objects.Flash n at t dark)) s any =
-    inside_box (item_leaves means (One (objects.Flash n at t dark))) s any
-covered means (One (objects.Draw n from to t dark)) s any =
-    inside_box (item_leaves means (One (objects.Draw n from to t dark))) s any
+covered means (One (objects.Flash n at t dark)) s any = grind (arith, inside_box)
+covered means (One (objects.Draw n from to t dark)) s any = grind (arith, inside_box)
 covered means (One (objects.Region contour dark)) s any =
     inside_box (item_leaves means (One (objects.Region contour dark))) s any
 covered means (Repeat columns rows i j parts) s any = inside_box (item_leaves means (Repeat columns rows i j parts)) s any
 
 within : (means : ℕ → Meaning) (item : Item) (s : Spot) → Holds (painted_box means item) s → Holds (bounds_of (item_leaves means item)) s
-within means (One (objects.Arc ccw dark n from to centre)) s h =
-    ((clip_places (bounds_of (item_leaves means (One (objects.Arc ccw dark n from to centre))))
-    (drawn_box (round_width (means n).tip) from to centre ccw) s).0 h).0
-within means (One (objects.Flash n at t dark)) s h = h
-within means (One (objects.Draw n from to t dark)) s h = h
-within means (One (objects.Region contour dark)) s h = h
-within means (Repeat columns rows i j parts) s h = h
+within means item s h = grind (arith, clip_places)
 
 pub painted_law : PaintedLaw
 painted_law = record { covered = covered; within = within }

@@ -1,12 +1,13 @@
 -- The sides of an arc.
-use Rattle.std.proofs.Common.{◌≡◌, Bool, true, false, ℕ, zero, suc, ◌+◌, ◌*◌, ◌<◌, ◌≤◌, ℤ, pos, negsuc, ◌+ℤ◌, ◌-ℤ◌, ◌*ℤ◌, ◌≤ℤ◌, ◌<ℤ◌, ◌⊎◌, inl, inr, ap, sym, subst, ◌∙◌, arith}
+use Rattle.std.proofs.lemmas.Grind.{common_steps}
+use Rattle.std.proofs.Common.{◌≡◌, Bool, true, false, ℕ, zero, suc, ◌+◌, ◌*◌, ◌<◌, ◌≤◌, ℤ, pos, negsuc, ◌+ℤ◌, ◌-ℤ◌, ◌*ℤ◌, ◌≤ℤ◌, ◌<ℤ◌, ◌⊎◌, inl, inr, ap, ◌∙◌, arith}
 use Rattle.std.specs.Int.RustNames.{unsigned_abs}
 use Rattle.std.proofs.lemmas.Int.{ints, by_lt_z}
 use Rattle.std.proofs.lemmas.Nat.{mul-le}
 use Rattle.cam_units.proofs.Ring.{Polynomial, Atom, Sum, Difference, Product, equal}
 use Rattle.cam_shapes.specs.declared.vector.Vector.{Vector}
 use Rattle.cam_shapes.specs.Plane.{cross, dot}
-use Rattle.cam_shapes.specs.Arc.{IsInSweep, IsNarrow, IsSwept}
+use Rattle.cam_shapes.specs.Arc.{IsInSweep, IsSwept}
 use Rattle.cam_shapes.proofs.Strokes.{dot_is}
 use Rattle.cam_shapes.proofs.Vectors.{same_vector}
 use Rattle.cam_ask.specs.Painted.{right}
@@ -26,14 +27,10 @@ pub record IsReached (low high least most g : ℕ) : Type 0 where
 -- ---- signs of products
 
 pub some_some : (a b : ℤ) → pos 0 ≤ℤ a → pos 0 ≤ℤ b → pos 0 ≤ℤ (a *ℤ b)
-some_some (pos a) (pos b) h k = omega (arith, ints)
-some_some (pos a) (negsuc b) h k = absurd (omega (arith, ints, k))
-some_some (negsuc a) b h k = absurd (omega (arith, ints, h))
+some_some a b h k = grind (arith, ints)
 
 more_more : (a b : ℤ) → pos 0 <ℤ a → pos 0 <ℤ b → pos 0 <ℤ (a *ℤ b)
-more_more (pos a) (pos b) h k = omega (arith, ints, mul-le 1 1 a b (omega (arith, ints, h)) (omega (arith, ints, k)))
-more_more (pos a) (negsuc b) h k = absurd (omega (arith, ints, k))
-more_more (negsuc a) b h k = absurd (omega (arith, ints, h))
+more_more a b h k = grind (arith, ints, mul-le)
 
 swapped : (p a : ℤ) → p *ℤ a ≡ a *ℤ p
 swapped p a = equal (Product (Atom p) (Atom a)) (Product (Atom a) (Atom p)) (omega arith)
@@ -43,8 +40,7 @@ minus : (a b : ℤ) → (pos 0 -ℤ a) *ℤ b ≡ pos 0 -ℤ a *ℤ b
 minus a b = equal (Product (Difference (Atom (pos 0)) (Atom a)) (Atom b)) (Difference (Atom (pos 0)) (Product (Atom a) (Atom b))) (omega arith)
 
 minus_minus : (a b : ℤ) → (pos 0 -ℤ a) *ℤ (pos 0 -ℤ b) ≡ a *ℤ b
-minus_minus a b =
-    equal (Product (Difference (Atom (pos 0)) (Atom a)) (Difference (Atom (pos 0)) (Atom b))) (Product (Atom a) (Atom b)) (omega arith)
+minus_minus a b = grind (arith, equal, Product, Difference, Atom)
 
 none_some : (a b : ℤ) → a ≤ℤ pos 0 → pos 0 ≤ℤ b → (a *ℤ b) ≤ℤ pos 0
 none_some a b h k = omega (arith, ints, minus a b, some_some (pos 0 -ℤ a) b (omega (arith, ints, h)) k)
@@ -53,8 +49,7 @@ less_more : (a b : ℤ) → a <ℤ pos 0 → pos 0 <ℤ b → (a *ℤ b) <ℤ po
 less_more a b h k = omega (arith, ints, minus a b, more_more (pos 0 -ℤ a) b (omega (arith, ints, h)) k)
 
 less_less : (a b : ℤ) → a <ℤ pos 0 → b <ℤ pos 0 → pos 0 <ℤ (a *ℤ b)
-less_less a b h k =
-    omega (arith, ints, minus_minus a b, more_more (pos 0 -ℤ a) (pos 0 -ℤ b) (omega (arith, ints, h)) (omega (arith, ints, k)))
+less_less a b h k = grind (arith, ints, minus_minus, more_more)
 
 -- ---- which end a place is turned on from
 
@@ -63,13 +58,6 @@ less_less a b h k =
 abbrev IsFromEnd : ℤ → ℤ → ℤ → ℤ → ℤ → Type 0
 IsFromEnd p q r a b =
     ((pos 0 <ℤ p) × (pos 0 ≤ℤ r) × (pos 0 ≤ℤ b)) ⊎ ((q <ℤ pos 0) × (r ≤ℤ pos 0) × (pos 0 ≤ℤ a))
-
-some_less : (a b : ℤ) → pos 0 ≤ℤ a → b ≤ℤ pos 0 → (a *ℤ b) ≤ℤ pos 0
-some_less (pos a) (pos zero) h k = omega (arith, ints)
-some_less (pos a) (pos (suc b)) h k = absurd (omega (arith, ints, k))
-some_less (pos zero) (negsuc b) h k = omega (arith, ints)
-some_less (pos (suc a)) (negsuc b) h k = omega (arith, ints, less_more (negsuc b) (pos (suc a)) (omega (arith, ints)) (omega (arith, ints)))
-some_less (negsuc a) b h k = absurd (omega (arith, ints, h))
 
 narrow_end : (p q r a b c : ℤ) → (p *ℤ a +ℤ q *ℤ b) ≡ r *ℤ c → pos 0 ≤ℤ a → pos 0 ≤ℤ b → pos 0 <ℤ c
     → (p ≤ℤ pos 0 → pos 0 ≤ℤ q → ⊥) → IsFromEnd p q r a b
@@ -87,26 +75,7 @@ narrow_end p q r a b c e ha hb hc off = by_lt_z (pos 0) p
 
 wide_end : (p q r a b c : ℤ) → (p *ℤ a +ℤ q *ℤ b) ≡ r *ℤ c → c <ℤ pos 0 → (pos 0 ≤ℤ b) ⊎ (pos 0 ≤ℤ a) → pos 0 <ℤ p → q <ℤ pos 0
     → IsFromEnd p q r a b
-wide_end p q r a b c e hc either up down = by_lt_z r (pos 0)
-    (λ under. by_lt_z a (pos 0)
-    (λ before. elim either [
-      | inl hb ↦ absurd (omega (arith, ints, e, less_more a p before up, swapped p a, none_some q b (omega (arith, ints, down)) hb, less_less r c under hc))
-      | inr ha ↦ absurd (omega (arith, ints, before, ha))
-    ])
-    (λ ha. inr (down, omega (arith, ints, under), ha)))
-    (λ over. by_lt_z b (pos 0)
-    (λ before. elim either [
-      | inl hb ↦ absurd (omega (arith, ints, before, hb))
-      | inr ha ↦ absurd (omega (
-        arith,
-        ints,
-        e,
-        some_some p a (omega (arith, ints, up)) ha,
-        less_less q b down before,
-        some_less r c over (omega (arith, ints, hc)),
-      ))
-    ])
-    (λ hb. inl (up, over, hb)))
+wide_end p q r a b c e hc either up down = grind (arith, by_lt_z, ints, less_more, swapped, none_some, less_less)
 
 -- the identity of three ways in the plane
 abbrev times : ℤ → ℤ → Polynomial
@@ -135,11 +104,7 @@ opposite_back s e =
     (omega arith)
 
 by_none : (a c : ℤ) → c ≡ pos 0 → a *ℤ c ≡ pos 0
-by_none a c e = ap (λ z. a *ℤ z) e ∙ none a
-  where
-    none : (a : ℤ) → a *ℤ pos 0 ≡ pos 0
-    none (pos n) = omega (arith, ints)
-    none (negsuc n) = omega (arith, ints)
+by_none a c e = grind (arith, ints)
 
 some_dot : (v : Vector) → pos 0 ≤ℤ dot v v
 some_dot v = omega (arith, ints, dot_is v)
@@ -157,24 +122,11 @@ down_by_up s e level back up = by_lt_z e.y (pos 0) (λ down. down)
     )))
 
 up_by_down : (s e : Vector) → cross s e ≡ pos 0 → dot s e <ℤ pos 0 → e.y <ℤ pos 0 → pos 0 <ℤ s.y
-up_by_down s e level back down = by_lt_z (pos 0) s.y (λ up. up)
-    (λ under. absurd (omega (
-      arith,
-      ints,
-      opposite_back s e,
-      by_none e.x (cross s e) level,
-      none_some s.y (dot e e) under (some_dot e),
-      less_less e.y (dot s e) down back,
-    )))
+up_by_down s e level back down = grind (arith, by_lt_z, ints, opposite_back, by_none, none_some, some_dot)
 
 opposed_end : (s e : Vector) (r a b : ℤ) → cross s e ≡ pos 0 → dot s e <ℤ pos 0 → pos 0 ≤ℤ a → pos 0 ≤ℤ b
     → (s.y ≤ℤ pos 0 → pos 0 ≤ℤ e.y → ⊥) → IsFromEnd s.y e.y r a b
-opposed_end s e r a b level back ha hb off = by_lt_z (pos 0) s.y
-    (λ up. both up (down_by_up s e level back up))
-    (λ low. by_lt_z e.y (pos 0) (λ down. both (up_by_down s e level back down) down) (λ over. absurd (off low over)))
-  where
-    both : pos 0 <ℤ s.y → e.y <ℤ pos 0 → IsFromEnd s.y e.y r a b
-    both up down = by_lt_z r (pos 0) (λ under. inr (down, omega (arith, ints, under), ha)) (λ over. inl (up, over, hb))
+opposed_end s e r a b level back ha hb off = grind (arith, by_lt_z, down_by_up, up_by_down, ints)
 
 -- the way to the right, beside another way
 before_right : (s : Vector) → cross s right ≡ pos 0 -ℤ s.y
@@ -215,8 +167,7 @@ module _ (low high least most g : ℕ) (reach : IsReached low high least most g)
   above_end sx (negsuc z) vx vy up over turn length bottom top = absurd (omega (arith, ints, up))
 
   by_negative : (a : ℤ) (n : ℕ) → a *ℤ negsuc n ≡ pos 0 -ℤ a *ℤ pos (suc n)
-  by_negative (pos m) n = omega (arith, ints)
-  by_negative (negsuc m) n = omega (arith, ints)
+  by_negative a n = grind (arith, ints)
 
   below_end : (ex ey vx vy : ℤ) → ey <ℤ pos 0 → vy ≤ℤ pos 0 → pos 0 ≤ℤ (vx *ℤ ey -ℤ vy *ℤ ex)
       → IsLength (record { x = ex; y = ey }) low high
@@ -286,45 +237,20 @@ dot_turned a b =
     (omega arith)
 
 back_again : (s e : Vector) → turned s ≡ turned e → s ≡ e
-back_again s e same =
-    let y : s.y ≡ e.y = ap (λ (v : Vector). v.x) same in
-    let x : pos 0 -ℤ s.x ≡ pos 0 -ℤ e.x = ap (λ (v : Vector). v.y) same in
-    same_vector s e (omega (arith, ints, x)) y
+back_again s e same = grind (arith, same_vector, ints)
 
 abbrev AreAlike : Vector → Vector → Vector → Vector → Vector → Vector → Type 0
 AreAlike s e v s' e' v' =
     (s ≡ e → s' ≡ e') × (cross s' e' ≡ cross s e) × (dot s' e' ≡ dot s e) × (cross s' v' ≡ cross s v) × (cross v' e' ≡ cross v e)
 
 sweep_alike : (s e v s' e' v' : Vector) → AreAlike s e v s' e' v' → IsInSweep s e v → IsInSweep s' e' v'
-sweep_alike s e v s' e' v' k (inl same) = inl (k.0 same)
-sweep_alike s e v s' e' v' k (inr (inl h)) =
-    inr (inl (narrow h.0, subst (λ (z : ℤ). pos 0 ≤ℤ z) (sym k.3) h.1, subst (λ (z : ℤ). pos 0 ≤ℤ z) (sym k.4) h.2))
-  where
-    narrow : IsNarrow s e → IsNarrow s' e'
-    narrow (inl turn) = inl (subst (λ (z : ℤ). pos 0 <ℤ z) (sym k.1) turn)
-    narrow (inr flat) = inr (k.1 ∙ flat.0, subst (λ (z : ℤ). z <ℤ pos 0) (sym k.2) flat.1)
-sweep_alike s e v s' e' v' k (inr (inr h)) =
-    inr (inr (subst (λ (z : ℤ). z <ℤ pos 0) (sym k.1) h.0, either h.1))
-  where
-    either : (pos 0 ≤ℤ cross s v) ⊎ (pos 0 ≤ℤ cross v e) → (pos 0 ≤ℤ cross s' v') ⊎ (pos 0 ≤ℤ cross v' e')
-    either (inl a) = inl (subst (λ (z : ℤ). pos 0 ≤ℤ z) (sym k.3) a)
-    either (inr b) = inr (subst (λ (z : ℤ). pos 0 ≤ℤ z) (sym k.4) b)
+sweep_alike s e v s' e' v' k it = grind arith
 
 swept_turned : (ccw : Bool) (s e v : Vector) → IsSwept ccw s e v → IsSwept ccw (turned s) (turned e) (turned v)
-swept_turned true s e v h =
-    sweep_alike s e v (turned s) (turned e) (turned v)
-    (ap turned, cross_turned s e, dot_turned s e, cross_turned s v, cross_turned v e) h
-swept_turned false s e v h =
-    sweep_alike e s v (turned e) (turned s) (turned v)
-    (ap turned, cross_turned e s, dot_turned e s, cross_turned e v, cross_turned v s) h
+swept_turned ccw s e v h = grind (arith, sweep_alike, cross_turned, dot_turned)
 
 pub swept_back : (ccw : Bool) (s e v : Vector) → IsSwept ccw (turned s) (turned e) (turned v) → IsSwept ccw s e v
-swept_back true s e v h =
-    sweep_alike (turned s) (turned e) (turned v) s e v
-    (back_again s e, sym (cross_turned s e), sym (dot_turned s e), sym (cross_turned s v), sym (cross_turned v e)) h
-swept_back false s e v h =
-    sweep_alike (turned e) (turned s) (turned v) e s v
-    (back_again e s, sym (cross_turned e s), sym (dot_turned e s), sym (cross_turned e v), sym (cross_turned v s)) h
+swept_back ccw s e v h = grind (arith, common_steps, sweep_alike, back_again, cross_turned, dot_turned)
 
 abs_minus : (z : ℤ) → unsigned_abs (pos 0 -ℤ z) ≡ unsigned_abs z
 abs_minus z = omega (arith, ints)
@@ -337,20 +263,8 @@ square_turned : (v : Vector) → square_of (turned v) ≡ square_of v
 square_turned v = ap (λ n. unsigned_abs v.y * unsigned_abs v.y + n * n) (abs_minus v.x) ∙ omega arith
 
 length_turned : (v : Vector) (low high : ℕ) → IsLength v low high → IsLength (turned v) low high
-length_turned v low high h = record {
-  floor = omega (arith, square_turned v, h.floor);
-  next = omega (arith, square_turned v, h.next);
-  ceiling = omega (arith, square_turned v, h.ceiling);
-}
+length_turned v low high h = grind (arith, square_turned)
 
 pub passed_turned : (ccw : Bool) (s e v : Vector) (sl sh el eh least most g : ℕ) → IsPassed ccw s e v sl sh el eh least most g
     → IsPassed ccw (turned s) (turned e) (turned v) sl sh el eh least most g
-passed_turned ccw s e v sl sh el eh least most g h = record {
-  start = length_turned s sl sh h.start;
-  finish = length_turned e el eh h.finish;
-  bottom = omega (arith, square_turned v, h.bottom);
-  top = omega (arith, square_turned v, h.top);
-  start_reach = h.start_reach;
-  finish_reach = h.finish_reach;
-  swept = swept_turned ccw s e v h.swept;
-}
+passed_turned ccw s e v sl sh el eh least most g h = grind (arith, length_turned, square_turned, swept_turned)

@@ -1,7 +1,7 @@
 -- Bytes of a file out of the words of tiles: eight bits of a word the other way round, clear past the window's edge.
 use Rattle.std.proofs.Common.{◌≡◌, ◌↔◌, ℕ, ◌+◌, ◌*◌, ◌-◌, ◌/◌, ◌%◌, ◌^◌, ◌<◌, ◌≤◌, Bool, false, ◌&&◌, IsTrue}
 use Rattle.std.proofs.Common.{List, Some, None, option_map, unwrap_or, slice_index, slice_index_or, bit_and, nat_eq}
-use Rattle.std.proofs.Common.{min, refl, sym, subst, ap, ◌∙◌, inl, inr, arith}
+use Rattle.std.proofs.Common.{min, sym, subst, ap, ◌∙◌, arith}
 use Rattle.std.specs.Int.{IsBitSet, bit_at}
 use Rattle.std.proofs.lemmas.Bool.{cases_lt, eq-eqb, eqb-true, false≢true, lt-ltb, le-ltb}
 use Rattle.std.proofs.lemmas.Nat.{mul-le}
@@ -50,10 +50,7 @@ bytes_told black place from word bytes whole turned told j near fits =
 
 -- so many bits from the lowest on
 lowest_bits : (count i : ℕ) → count ≤ 64 → IsBitSet ((2 ^ 64 - 1) / 2 ^ (64 - count)) i ↔ (i < count)
-lowest_bits count i few =
-    let bit = set_in_shr (2 ^ 64 - 1) (64 - count) i in
-    let run = whole_run 64 (i + (64 - count)) refl in
-    ((λ h. let end = run.0 (bit.0 h) in omega arith), (λ h. bit.1 (run.1 (omega arith))))
+lowest_bits count i few = grind (arith, set_in_shr, whole_run)
 
 set_test : (n i : ℕ) → IsBitSet n i ↔ IsTrue (nat_eq (bit_at n i) 1)
 set_test n i = ((λ h. eq-eqb _ 1 ((set_is_one n i).0 h)), (λ h. (set_is_one n i).1 (eqb-true _ 1 h)))
@@ -75,16 +72,11 @@ module _ (t : Table) (column row : ℕ) (below : row < t.window.height) where
   pub tile_there : (wide : ℕ) (tile : Tile) → wide ≡ across t.window
       → slice_index_or t.tiles (row / 64 * wide + column) None ≡ tile
       → (i : ℕ) → i < 64 → tile_in t (tile_of t.window (place i) row) ≡ tile
-  tile_there wide tile is_wide found i low =
-      let beside : place i / 64 ≡ column = omega arith in
-      tile_found t (place i) row wide tile is_wide
-      (ap (λ n. slice_index_or t.tiles (row / 64 * wide + n) None) beside ∙ found)
+  tile_there wide tile is_wide found i low = grind (arith, tile_found)
 
   shown_inside : (tile : Tile) (i : ℕ) → place i < width → tile_in t (tile_of t.window (place i) row) ≡ tile
       → shown i ≡ unwrap_or (option_map (bit_in (place i) row) tile) false
-  shown_inside tile i within there =
-      ap (λ b. b && black (place i)) (lt-ltb (place i) width within)
-      ∙ black_in_tile t tile (place i) row within below there
+  shown_inside tile i within there = grind (arith, lt-ltb, black_in_tile)
 
   clear_outside : (i : ℕ) → width ≤ place i → shown i ≡ false
   clear_outside i past = ap (λ b. b && black (place i)) (le-ltb (place i) width past)
@@ -93,35 +85,13 @@ module _ (t : Table) (column row : ℕ) (below : row < t.window.height) where
   pub clean_word : (rows : List ℕ) (inside i : ℕ) → inside ≡ min (width - 64 * column) 64 → i < 64
       → tile_in t (tile_of t.window (place i) row) ≡ Some rows
       → IsBitSet (bit_and (slice_index rows (row % 64)) ((2 ^ 64 - 1) / 2 ^ (64 - inside))) i ↔ IsTrue (shown i)
-  clean_word rows inside i count low there =
-      let line = slice_index rows (row % 64) in
-      let both = set_in_and line ((2 ^ 64 - 1) / 2 ^ (64 - inside)) i in
-      let kept = lowest_bits inside i (omega arith) in
-      elim (cases_lt (place i) width) [
-        | inl within ↦
-            (let at : place i % 64 ≡ i = omega arith in
-            let pixel : shown i ≡ nat_eq (bit_at line i) 1 =
-            shown_inside (Some rows) i within there ∙ ap (λ n. nat_eq (bit_at line n) 1) at in
-            let test = set_test line i in
-            ((λ h. pixel ∙ test.0 (both.0 h).0), (λ h. both.1 (test.1 (sym pixel ∙ h), kept.1 (omega arith)))))
-        | inr past ↦ (
-          (λ h. let in_run = kept.0 (both.0 h).1 in absurd (omega arith)),
-          (λ h. absurd (false≢true (sym (clear_outside i past) ∙ h))),
-        )
-      ]
+  clean_word rows inside i count low there = grind (arith, set_in_and, lowest_bits, cases_lt, shown_inside, set_test, false≢true)
 
   -- nothing is known to be black in a dirty one
   pub dirty_word : (i : ℕ) → i < 64 → tile_in t (tile_of t.window (place i) row) ≡ None
       → IsBitSet 0 i ↔ IsTrue (shown i)
-  dirty_word i low there =
-      let clear : shown i ≡ false = elim (cases_lt (place i) width) [
-        | inl within ↦ shown_inside None i within there
-        | inr past ↦ clear_outside i past
-      ] in
-      ((λ h. absurd (h refl)), (λ h. absurd (false≢true (sym clear ∙ h))))
+  dirty_word i low there = grind (arith, cases_lt, shown_inside, clear_outside, false≢true)
 
 -- the number of a tile fits
 pub few_before : (r a c : ℕ) → r < 512 → a ≤ 512 → c < a → r * a + c < 2 ^ 32
-few_before r a c rows columns within =
-    let most : r * a ≤ 511 * 512 = mul-le r a 511 512 (omega arith) columns in
-    omega arith
+few_before r a c rows columns within = grind (arith, mul-le)

@@ -1,5 +1,5 @@
 -- Parities that change, at one centre.
-use Rattle.std.proofs.Common.{◌↔◌, ◌⊎◌, Bool, true, false, IsTrue, arith}
+use Rattle.std.proofs.Common.{◌↔◌, ◌⊎◌, Bool, IsTrue, arith}
 use Rattle.cam_shapes.specs.Sides.{differ}
 use Rattle.cam_tiles.specs.Machinery.Masks.{turned_over}
 
@@ -8,18 +8,14 @@ abbrev pub Either : Type 0 → Type 0
 Either P = P ⊎ (P → ⊥)
 
 pub true_or_not : (b : Bool) → Either (IsTrue b)
-true_or_not true = grind arith
-true_or_not false = grind arith
+true_or_not b = grind arith
 
 pub turned_like : (New Was P Q : Type 0) → P ↔ Q → New ↔ turned_over Was P → New ↔ turned_over Was Q
 turned_like New Was P Q e h = grind arith
 
 pub turned_twice : (f g : Bool) (Was Between New : Type 0) → Either Was → Between ↔ turned_over Was (IsTrue f)
     → New ↔ turned_over Between (IsTrue g) → New ↔ turned_over Was (IsTrue (differ f g))
-turned_twice true true Was Between New either h k = grind arith
-turned_twice true false Was Between New either h k = grind arith
-turned_twice false true Was Between New either h k = grind arith
-turned_twice false false Was Between New either h k = grind arith
+turned_twice f g Was Between New either h k = grind arith
 
 pub not_turned : (Was Held : Type 0) → (Held → ⊥) → Was ↔ turned_over Was Held
 not_turned Was Held none = grind arith

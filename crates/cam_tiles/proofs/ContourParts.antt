@@ -1,7 +1,6 @@
 -- Parts of contours: what their segments change, one part after another, and at which heights.
-use Rattle.std.proofs.Common.{◌≡◌, ℕ, suc, ◌+◌, ◌-◌, ◌<◌, ◌≤◌, min, Bool, true, false, IsTrue, ◌⊎◌, inl, inr}
-use Rattle.std.proofs.Common.{List, [], ◌∷◌, ◌++◌, length, drop, get_or, Option, Some}
-use Rattle.std.proofs.Common.{refl, sym, ap, subst, ◌∙◌, arith}
+use Rattle.std.proofs.Common.{◌≡◌, ℕ, ◌+◌, ◌-◌, ◌<◌, ◌≤◌, min, Bool, false, IsTrue, ◌⊎◌, inl, inr, List, [], ◌∷◌, ◌++◌, length}
+use Rattle.std.proofs.Common.{drop, get_or, Option, Some, refl, sym, ap, subst, ◌∙◌, arith}
 use Rattle.std.specs.List.{All}
 use Rattle.std.specs.Prelude.{slice_get}
 use Rattle.std.proofs.lemmas.List.{append-nil, append_assoc, drop_all, drop_more, length-drop, take-append-drop}
@@ -45,9 +44,7 @@ ends_on_board here (seg ∷ segs) on sound =
 
 before_last : (x y : Seg) (segs : List Seg) (o : Option Seg)
     → slice_get (x ∷ y ∷ segs) (length (x ∷ y ∷ segs) - 1) ≡ o → slice_get (y ∷ segs) (length (y ∷ segs) - 1) ≡ o
-before_last x y segs o h =
-    let e : length (x ∷ y ∷ segs) - 1 ≡ suc (length (y ∷ segs) - 1) = omega arith in
-    ap (λ (k : ℕ). slice_get (x ∷ y ∷ segs) k) (sym e) ∙ h
+before_last x y segs o h = grind arith
 
 pub end_is : (here : Point) (segs : List Seg) (seg : Seg) → slice_get segs (length segs - 1) ≡ Some seg
     → end_of seg ≡ end_from here segs
@@ -57,8 +54,7 @@ end_is here (x ∷ y ∷ segs) seg h = end_is (end_of x) (y ∷ segs) seg (befor
 
 pub end_more : (here there : Point) (segs : List Seg) (k : ℕ) (d : Seg) → k < length segs → there ≡ end_of (get_or segs k d)
     → end_from there (drop (k + 1) segs) ≡ end_from here (drop k segs)
-end_more here there segs k d more is =
-    ap (λ (p : Point). end_from p (drop (k + 1) segs)) is ∙ ap (end_from here) (sym (drop_more segs k d more))
+end_more here there segs k d more is = grind (arith, drop_more)
 
 pub end_all : (here : Point) (segs : List Seg) (k : ℕ) → length segs ≤ k → end_from here (drop k segs) ≡ here
 end_all here segs k all = ap (end_from here) (drop_all k segs all)
@@ -66,22 +62,16 @@ end_all here segs k all = ap (end_from here) (drop_all k segs all)
 -- ---- sides
 
 differ_three : (a b c : Bool) → differ a (differ b c) ≡ differ (differ a b) c
-differ_three true true true = refl
-differ_three true true false = refl
-differ_three true false c = refl
-differ_three false b c = refl
+differ_three a b c = grind arith
 
 pub either_differs : (a b : Bool) → IsTrue (differ a b) → IsTrue a ⊎ IsTrue b
-either_differs true b h = inl refl
-either_differs false b h = inr h
+either_differs a b h = grind arith
 
 -- one part after another
 part_changes : (s : Spot) (start here : Point) (part rest : List Seg)
     → change_side s start here (part ++ rest) ≡ differ (change_sides s here part) (change_side s start (end_from here part) rest)
 part_changes s start here [] rest = refl
-part_changes s start here (seg ∷ part) rest =
-    ap (differ (changes_side s here seg)) (part_changes s start (end_of seg) part rest)
-    ∙ differ_three (changes_side s here seg) (change_sides s (end_of seg) part) (change_side s start (end_from here (seg ∷ part)) rest)
+part_changes s start here (seg ∷ part) rest = grind (arith, differ_three, part_changes s start (end_of seg) part rest)
 
 pub next_changes : (s : Spot) (here : Point) (segs : List Seg) (k : ℕ) (d : Seg) → k < length segs
     → change_sides s here (drop k segs)
@@ -117,9 +107,7 @@ module _ {M : Type 0} (Turned : (Spot → Bool) → M → M → Type 0) (law : T
 
   pub all_of_part : {old new : M} (from here : Point) (part : List Seg) (k : ℕ) → length part ≤ k
       → TurnsPartBut from here (drop k part) part old new → Turned (λ s. change_sides s from part) old new
-  all_of_part from here part k all =
-      turned_so Turned law (λ s. differ (change_sides s here (drop k part)) (change_sides s from part))
-      (λ s. change_sides s from part) (λ s. ap (λ b. differ b (change_sides s from part)) (none_changes s here part k all))
+  all_of_part from here part k all = grind (arith, turned_so, none_changes)
 
   module _ (start : Point) where
     -- the first part of the segments that are left
@@ -162,8 +150,7 @@ AreFoundBut start here left all heights =
 pub one_found : (start here : Point) (left all : List Seg) (heights : List Heights) (h : Heights)
     → ChangeWithin h here (first_part left) → AreFoundBut start here left all heights
     → AreFoundBut start (end_from here (first_part left)) (behind_part left) all (heights ++ h ∷ [])
-one_found start here left all heights h within found more those =
-    subst (AreHeightsOf start all) (sym (append_assoc heights (h ∷ []) more)) (found (h ∷ more) (within, those))
+one_found start here left all heights h within found more those = grind (arith, append_assoc)
 
 pub all_found : (start here : Point) (left all : List Seg) (heights : List Heights) → AreFoundBut start here left all heights
     → AreHeightsOf start all heights

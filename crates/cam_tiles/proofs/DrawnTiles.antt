@@ -1,7 +1,7 @@
 -- Redraws: the dirty tiles of least number are drawn, and the others kept.
 use Rattle.std.proofs.Common.{◌≡◌, ℕ, zero, suc, ◌+◌, ◌-◌, ◌<◌, ◌≤◌, min, Bool, nat_lt, if◌then◌else◌}
 use Rattle.std.proofs.Common.{List, [], ◌∷◌, ◌++◌, length, take, drop, count_by, cond, slice_get, Some, None}
-use Rattle.std.proofs.Common.{is_none, is_some, option_and_then, refl, sym, ap, ◌∙◌, inl, inr, arith}
+use Rattle.std.proofs.Common.{is_none, is_some, option_and_then, refl, sym, ap, ◌∙◌, arith}
 use Rattle.std.proofs.lemmas.Bool.{cases_lt, le-ltb, lt-ltb}
 use Rattle.std.proofs.lemmas.List.{take-take}
 use Rattle.std.proofs.lemmas.List.Sums.{sum_by-cons, sum_by-take-le}
@@ -62,20 +62,19 @@ module _ (draw : ℕ → List ℕ) where
   take-drawn_from k n (suc end) [] = refl
   take-drawn_from k n (suc end) (Some rows ∷ tiles) = ap (λ rest. Some rows ∷ rest) (take-drawn_from (k + 1) n end tiles)
   take-drawn_from k zero (suc end) (None ∷ tiles) = refl
-  take-drawn_from k (suc n) (suc end) (None ∷ tiles) =
-      ap (λ rest. Some (draw k) ∷ rest) (take-drawn_from (k + 1) n end tiles)
+  take-drawn_from k (suc n) (suc end) (None ∷ tiles) = grind (arith, take-drawn_from (k + 1) n end tiles)
 
   -- no more are drawn than are dirty
   pub drawn_as_many : (k n m : ℕ) (tiles : List Tile) → m ≡ min n (dirty tiles)
       → drawn_from draw k n tiles ≡ drawn_from draw k m tiles
   drawn_as_many k n m [] e = refl
   drawn_as_many k n m (Some rows ∷ tiles) e =
-      ap (λ rest. Some rows ∷ rest) (drawn_as_many (k + 1) n m tiles (omega (arith, dirty_after_clean rows tiles)))
+      grind (arith, dirty_after_clean, drawn_as_many (k + 1) n m tiles (omega (arith, dirty_after_clean rows tiles)))
   drawn_as_many k zero zero (None ∷ tiles) e = refl
   drawn_as_many k zero (suc m) (None ∷ tiles) e = absurd (omega arith)
   drawn_as_many k (suc n) zero (None ∷ tiles) e = absurd (omega (arith, dirty_after_dirty tiles))
   drawn_as_many k (suc n) (suc m) (None ∷ tiles) e =
-      ap (λ rest. Some (draw k) ∷ rest) (drawn_as_many (k + 1) n m tiles (omega (arith, dirty_after_dirty tiles)))
+      grind (arith, dirty_after_dirty, drawn_as_many (k + 1) n m tiles (omega (arith, dirty_after_dirty tiles)))
 
   -- up to behind the last of so many dirty tiles, all are drawn
   pub drawn_to : (k n end : ℕ) (tiles : List Tile) → dirty (take end tiles) ≡ n
@@ -83,12 +82,10 @@ module _ (draw : ℕ → List ℕ) where
   drawn_to k n zero tiles e = ap (λ m. drawn_from draw k m tiles) (sym e) ∙ none_drawn k tiles
   drawn_to k n (suc end) [] e = refl
   drawn_to k n (suc end) (Some rows ∷ tiles) e =
-      ap (λ rest. Some rows ∷ rest)
-      (drawn_to (k + 1) n end tiles (omega (arith, dirty_after_clean rows (take end tiles), e)))
+      grind (arith, dirty_after_clean, drawn_to (k + 1) n end tiles (omega (arith, dirty_after_clean rows (take end tiles), e)))
   drawn_to k zero (suc end) (None ∷ tiles) e = absurd (omega (arith, dirty_after_dirty (take end tiles), e))
   drawn_to k (suc n) (suc end) (None ∷ tiles) e =
-      ap (λ rest. Some (draw k) ∷ rest)
-      (drawn_to (k + 1) n end tiles (omega (arith, dirty_after_dirty (take end tiles), e)))
+      grind (arith, dirty_after_dirty, drawn_to (k + 1) n end tiles (omega (arith, dirty_after_dirty (take end tiles), e)))
 
 -- what is kept of a tile in a list
 abbrev at : List Tile → ℕ → Tile
@@ -99,11 +96,7 @@ abbrev drawn_where : Bool → List ℕ → Tile → Tile
 drawn_where is_first rows tile = if is_some tile then tile else (if is_first then Some rows else None)
 
 before_one_more : (m n more : ℕ) → more ≡ 1 + m → nat_lt m n ≡ nat_lt more (suc n)
-before_one_more m n more e =
-    elim (cases_lt m n) [
-      | inl under ↦ lt-ltb m n under ∙ sym (lt-ltb more (suc n) (omega arith))
-      | inr over ↦ le-ltb m n over ∙ sym (le-ltb more (suc n) (omega arith))
-    ]
+before_one_more m n more e = grind (arith, cases_lt, lt-ltb, le-ltb)
 
 module _ (draw : ℕ → List ℕ) (rows : List ℕ) where
   tile-drawn_from : (a n : ℕ) (tiles : List Tile) (k : ℕ) → k < length tiles → rows ≡ draw (a + k)
@@ -111,20 +104,12 @@ module _ (draw : ℕ → List ℕ) (rows : List ℕ) where
   tile-drawn_from a n [] k within e = absurd (omega arith)
   tile-drawn_from a n (Some kept ∷ tiles) zero within e = refl
   tile-drawn_from a zero (None ∷ tiles) zero within e = refl
-  tile-drawn_from a (suc n) (None ∷ tiles) zero within e =
-      let here : a + 0 ≡ a = omega arith in
-      ap Some (sym (ap draw here) ∙ sym e)
-      ∙ ap (λ first. drawn_where first rows None) (sym (lt-ltb 0 (suc n) (omega arith)))
+  tile-drawn_from a (suc n) (None ∷ tiles) zero within e = grind (arith, lt-ltb)
   tile-drawn_from a n (Some kept ∷ tiles) (suc k) within e =
       let there : a + suc k ≡ a + 1 + k = omega arith in
       tile-drawn_from (a + 1) n tiles k (omega arith) (e ∙ ap draw there)
       ∙ ap (λ m. drawn_where (nat_lt m n) rows (at tiles k)) (sym (dirty_after_clean kept (take k tiles)))
-  tile-drawn_from a zero (None ∷ tiles) (suc k) within e =
-      let there : a + suc k ≡ a + 1 + k = omega arith in
-      ap (λ rest. at rest k) (sym (none_drawn draw (a + 1) tiles))
-      ∙ tile-drawn_from (a + 1) zero tiles k (omega arith) (e ∙ ap draw there)
-      ∙ ap (λ first. drawn_where first rows (at tiles k))
-      (le-ltb (dirty (take k tiles)) 0 (omega arith) ∙ sym (le-ltb (dirty (None ∷ take k tiles)) 0 (omega arith)))
+  tile-drawn_from a zero (None ∷ tiles) (suc k) within e = grind (arith, none_drawn, le-ltb)
   tile-drawn_from a (suc n) (None ∷ tiles) (suc k) within e =
       let there : a + suc k ≡ a + 1 + k = omega arith in
       tile-drawn_from (a + 1) n tiles k (omega arith) (e ∙ ap draw there)

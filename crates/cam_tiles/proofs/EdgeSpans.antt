@@ -1,6 +1,5 @@
 -- Edges by their ends: the heights that they cross, and places of which both ends lie on one side.
-use Rattle.std.proofs.Common.{◌≡◌, ◌≢◌, ◌↔◌, ℤ, pos, ◌-ℤ◌, ◌*ℤ◌, ◌≤ℤ◌, ◌<◌}
-use Rattle.std.proofs.Common.{Bool, true, false, IsTrue, if◌then◌else◌, sym, ap, ◌∙◌, arith}
+use Rattle.std.proofs.Common.{◌≡◌, ◌≢◌, ◌↔◌, ℤ, pos, ◌-ℤ◌, ◌*ℤ◌, ◌≤ℤ◌, ◌<◌, Bool, false, IsTrue, if◌then◌else◌, sym, ◌∙◌, arith}
 use Rattle.std.specs.Int.{int_max, int_min}
 use Rattle.std.specs.Int.RustNames.{int_lt, unsigned_abs}
 use Rattle.std.proofs.lemmas.Bool.{false≢true}
@@ -8,7 +7,7 @@ use Rattle.std.proofs.lemmas.Int.{by_lt_z, clamps, ints}
 use Rattle.cam_refusals.specs.Limits.{board_limit}
 use Rattle.cam_units.specs.declared.point.Point.{Point}
 use Rattle.cam_units.specs.declared.point.Spot.{Spot}
-use Rattle.cam_shapes.specs.Edge.{crosses_ray, edge, is_above, is_left, is_right}
+use Rattle.cam_shapes.specs.Edge.{crosses_ray, edge, is_above}
 use Rattle.cam_shapes.proofs.Boxes.{tells_right}
 use Rattle.cam_shapes.proofs.Crossings.{not_under, under}
 use Rattle.cam_tiles.specs.declared.masks.heights.Heights.{Heights}
@@ -18,26 +17,7 @@ use Rattle.cam_tiles.proofs.GridLemmas.{long}
 -- a number that only one of two others exceeds lies between them
 apart_between : (y a b low high : ℤ) → low ≡ int_min a b → high ≡ int_max a b -ℤ pos 1
     → ((low ≤ℤ y) × (y ≤ℤ high)) ↔ (int_lt y a ≢ int_lt y b)
-apart_between y a b low high is_low is_high =
-    by_lt_z y a
-    (λ m. by_lt_z y b
-    (λ n. (
-      (λ within. absurd (omega (arith, ints, clamps, within.0))),
-      (λ h. absurd (h (under y a m ∙ sym (under y b n)))),
-    ))
-    (λ n. (
-      (λ within e. false≢true (sym (not_under y b n) ∙ sym e ∙ under y a m)),
-      (λ h. (omega (arith, ints, clamps), omega (arith, ints, clamps))),
-    )))
-    (λ m. by_lt_z y b
-    (λ n. (
-      (λ within e. false≢true (sym (not_under y a m) ∙ e ∙ under y b n)),
-      (λ h. (omega (arith, ints, clamps), omega (arith, ints, clamps))),
-    ))
-    (λ n. (
-      (λ within. absurd (omega (arith, ints, clamps, within.1))),
-      (λ h. absurd (h (not_under y a m ∙ sym (not_under y b n)))),
-    )))
+apart_between y a b low high is_low is_high = grind (arith, by_lt_z, ints, clamps, under, false≢true, not_under)
 
 twice_least : (a b : ℤ) → pos 2 *ℤ int_min a b ≡ int_min (pos 2 *ℤ a) (pos 2 *ℤ b)
 twice_least a b = omega (arith, ints, clamps)
@@ -48,21 +28,15 @@ twice_most a b = omega (arith, ints, clamps)
 -- from the lower end on, up to below the higher one
 pub between_ends : (p q : Point) (h : Heights) → h.low ≡ pos 2 *ℤ int_min p.y q.y
     → h.high ≡ pos 2 *ℤ int_max p.y q.y -ℤ pos 1 → (s : Spot) → IsWithin h s ↔ (is_above p s ≢ is_above q s)
-between_ends p q h is_low is_high s =
-    apart_between s.y (pos 2 *ℤ p.y) (pos 2 *ℤ q.y) h.low h.high (is_low ∙ twice_least p.y q.y)
-    (omega (arith, ints, is_high, twice_most p.y q.y))
+between_ends p q h is_low is_high s = grind (arith, apart_between, twice_least, ints, twice_most)
 
 two_apart : (a b met_falling met_rising : Bool)
     → IsTrue (if a then (if b then false else met_falling) else (if b then met_rising else false)) → a ≢ b
-two_apart true true m n h e = false≢true h
-two_apart true false m n h e = false≢true (sym e)
-two_apart false true m n h e = false≢true e
-two_apart false false m n h e = false≢true h
+two_apart a b m n h e = grind (arith, false≢true)
 
 -- only an edge with one end above the place meets the ray
 pub met_apart : (s : Spot) (p q : Point) → IsTrue (crosses_ray s (edge p q)) → is_above p s ≢ is_above q s
-met_apart s p q met =
-    two_apart (is_above p s) (is_above q s) (is_right s (edge p q)) (is_left s (edge p q)) met
+met_apart s p q met = grind (arith, two_apart)
 
 -- ---- places on one side of both ends
 
@@ -88,6 +62,4 @@ twice_kept m short = omega (arith, ints)
 
 pub most_kept : (a b m : ℤ) → unsigned_abs a < board_limit → unsigned_abs b < board_limit
     → m ≡ int_max (long a) (long b) → long (pos 2 *ℤ long m) ≡ pos 2 *ℤ int_max a b
-most_kept a b m near near_too e =
-    let is = e ∙ ap (λ z. int_max z (long b)) (kept a near) ∙ ap (λ z. int_max a z) (kept b near_too) in
-    twice_kept m (most_short a b m is near near_too) ∙ ap (λ z. pos 2 *ℤ z) is
+most_kept a b m near near_too e = grind (arith, long, kept, twice_kept, most_short)

@@ -1,6 +1,5 @@
 -- Rows of columns whose centres are places of the board, or as they are seen from a point of it.
-use Rattle.std.proofs.Common.{◌≡◌, ℕ, ◌+◌, ◌≤◌, ℤ, pos, ◌+ℤ◌, ◌≤ℤ◌}
-use Rattle.std.proofs.Common.{arith}
+use Rattle.std.proofs.Common.{◌≡◌, ℕ, ◌+◌, ◌≤◌, ℤ, pos, ◌+ℤ◌, ◌≤ℤ◌, arith}
 use Rattle.std.proofs.lemmas.Int.{ints}
 use Rattle.cam_units.specs.Board.{IsInReach, IsPlace}
 use Rattle.cam_units.specs.declared.point.Spot.{Spot}

@@ -1,5 +1,5 @@
 -- Figures by their runs.
-use Rattle.std.proofs.Common.{◌≡◌, ◌↔◌, ◌⊎◌, ℕ, ℤ, pos, ◌-ℤ◌, ◌*ℤ◌, inl, inr, arith}
+use Rattle.std.proofs.Common.{◌≡◌, ◌↔◌, ◌⊎◌, ℕ, ℤ, pos, ◌-ℤ◌, ◌*ℤ◌, arith}
 use Rattle.std.proofs.lemmas.Int.{ints}
 use Rattle.cam_units.specs.declared.length.Nm.{Nm}
 use Rattle.cam_units.specs.declared.point.Point.{Point}
@@ -29,18 +29,7 @@ no_way z = omega (arith, ints)
 
 pub disc_stroke : (s : Spot) (p : Point) (w : Nm)
     → IsInDisc s (record { centre = p; diameter = w }) ↔ IsInCapsule s (record { from = p; to = p; width = w })
-disc_stroke s p w = (
-  (λ inside. record { wide = inside.some; near = inl inside.near }),
-  (λ inside. elim inside.near [
-    | inl first ↦ record { some = inside.wide; near = first }
-    | inr other ↦ elim other [
-      | inl last ↦ record { some = inside.wide; near = last }
-      | inr beside ↦
-          let long = rw (no_way p.x, no_way p.y) at beside.between.long in
-          absurd (omega (arith, ints, long))
-    ]
-  ]),
-)
+disc_stroke s p w = grind (arith, no_way, ints)
 
 -- ---- figures
 
@@ -55,21 +44,12 @@ pub tells_figure : (g : Grid) (columns : ℕ) (IsHeld B H Y S E : Spot → Type 
     → ((t : Spot) → IsHeld t ↔ (((B t × (H t → ⊥) × (Y t → ⊥)) ⊎ S t) ⊎ E t))
     → TellsFigure g columns IsHeld
     (record { body = body; hollow = hollow; beyond = beyond; start = start; end = end })
-tells_figure g columns IsHeld B H Y S E body hollow beyond start end b h y s e law = record {
-  fit = record { body = b.fits; hollow = h.fits; beyond = y.fits; start = s.fits; end = e.fits };
-  each = λ column row near within.
-      parts_like _ _ _ _ _ _ _ _ _ _ _ (law (centre_in g column row)) (b.each column row near within)
-      (h.each column row near within) (y.each column row near within) (s.each column row near within)
-      (e.each column row near within);
-}
+tells_figure g columns IsHeld B H Y S E body hollow beyond start end b h y s e law = grind (arith, parts_like)
 
 -- a disc is a stroke of no length
 pub disc_law : (p q : Point) (w : Nm) → p ≡ q → (t : Spot)
     → IsInCapsule t (record { from = p; to = q; width = w }) ↔ IsInDisc t (record { centre = p; diameter = w })
-disc_law p q w is t =
-    let same : IsInDisc t (record { centre = p; diameter = w })
-    ↔ IsInCapsule t (record { from = p; to = q; width = w }) = rw is (disc_stroke t q w) in
-    (same.1, same.0)
+disc_law p q w is t = grind (arith, disc_stroke)
 
 pub straight_law : (c : Capsule) (t : Spot)
     → IsInCapsule t c
@@ -90,11 +70,7 @@ body_law P = grind arith
 pub tells_body : (g : Grid) (columns : ℕ) (IsHeld : Spot → Type 0) (body : Runs) (none : FigureRuns)
     → Tells g columns IsHeld body → IsClear none.hollow → IsClear none.beyond → IsClear none.start → IsClear none.end
     → TellsFigure g columns IsHeld (record none { body = body })
-tells_body g columns IsHeld body none told hollow beyond start end =
-    tells_figure g columns IsHeld IsHeld (λ s. ⊥) (λ s. ⊥) (λ s. ⊥) (λ s. ⊥) body none.hollow none.beyond none.start
-    none.end told (tells_nothing g columns none.hollow hollow) (tells_nothing g columns none.beyond beyond)
-    (tells_nothing g columns none.start start) (tells_nothing g columns none.end end)
-    (λ s. body_law (IsHeld s))
+tells_body g columns IsHeld body none told hollow beyond start end = grind (arith, tells_figure, tells_nothing, body_law)
 
 parts_united : (P B L N S T E F H Y : Type 0) → (H → ⊥) → (Y → ⊥) → (L ⊎ T) ↔ (B ⊎ S) → (N ⊎ F) ↔ (L ⊎ E)
     → (((B × (H → ⊥) × (Y → ⊥)) ⊎ S) ⊎ E) ↔ P → (((N × (H → ⊥) × (Y → ⊥)) ⊎ T) ⊎ F) ↔ P
@@ -157,10 +133,4 @@ tells_left g columns IsHeld r body hollow fit fit_hollow same told = record {
 
 pub tells_like : (g : Grid) (columns : ℕ) (P Q : Spot → Type 0) (s : FigureRuns) → ((t : Spot) → Q t ↔ P t)
     → TellsFigure g columns P s → TellsFigure g columns Q s
-tells_like g columns P Q s same told = record {
-  fit = told.fit;
-  each = λ column row near within.
-      let here = told.each column row near within in
-      let there = same (centre_in g column row) in
-      ((λ on. there.1 (here.0 on)), (λ held. here.1 (there.0 held)));
-}
+tells_like g columns P Q s same told = grind arith

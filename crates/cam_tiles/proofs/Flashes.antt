@@ -1,5 +1,5 @@
 -- Flashes of apertures, and other figures, by where they stand.
-use Rattle.std.proofs.Common.{◌≡◌, ◌↔◌, Bool, true, false, if◌then◌else◌, sym, subst, lit<, arith}
+use Rattle.std.proofs.Common.{◌≡◌, ◌↔◌, Bool, if◌then◌else◌, sym, subst, lit<, arith}
 use Rattle.std.proofs.lemmas.Int.{ints}
 use Rattle.cam_units.specs.Board.{IsOnBoard, IsSize}
 use Rattle.cam_units.specs.declared.length.Nm.{Nm}
@@ -18,8 +18,7 @@ use Rattle.cam_tiles.proofs.Joined.{seen_itself}
 
 -- the sides are sizes, whichever way the shape is turned
 pub sized : (quarter : Bool) (w h : Nm) → IsSideLength w.0 → IsSideLength h.0 → IsSize (if quarter then h else w).0
-sized true w h wide high = (omega (arith, ints, high.0), omega (arith, ints, high.1))
-sized false w h wide high = (omega (arith, ints, wide.0), omega (arith, ints, wide.1))
+sized quarter w h wide high = grind (arith, ints)
 
 -- the flash point is on the board
 pub origin_board : IsOnBoard flash_point
@@ -43,6 +42,4 @@ sound_hole hole w is size = subst IsSoundDisc (sym is) (record { centre = origin
 
 pub outside_hole : (P : Type 0) (s : Spot) (hole : Disc) (w : Nm) → hole ≡ disc w
     → (P × (IsInHole s (disc w) → ⊥)) ↔ (P × (IsInHole s hole → ⊥))
-outside_hole P s hole w is =
-    subst (λ (d : Disc). (P × (IsInHole s (disc w) → ⊥)) ↔ (P × (IsInHole s d → ⊥))) (sym is)
-    ((λ a. a), (λ a. a))
+outside_hole P s hole w is = grind arith

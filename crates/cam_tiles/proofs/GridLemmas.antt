@@ -1,7 +1,6 @@
 -- Grids: the centres of a tile are those of its pixels, and places of the board.
-use Rattle.std.proofs.Common.{◌≡◌, ℕ, ◌+◌, ◌*◌, ◌-◌, ◌/◌, ◌%◌, ◌<◌, ◌≤◌, ℤ, pos, ◌+ℤ◌, ◌-ℤ◌, ◌*ℤ◌, ◌≤ℤ◌, min}
-use Rattle.std.proofs.Common.{true}
-use Rattle.std.proofs.Common.{sym, ap, subst, ◌∙◌, FitsSigned, w64, to_z, of_z, arith}
+use Rattle.std.proofs.Common.{◌≡◌, ℕ, ◌+◌, ◌*◌, ◌-◌, ◌/◌, ◌%◌, ◌<◌, ◌≤◌, ℤ, pos, ◌+ℤ◌, ◌-ℤ◌, ◌*ℤ◌, ◌≤ℤ◌, min, true, sym, ap}
+use Rattle.std.proofs.Common.{subst, ◌∙◌, FitsSigned, w64, to_z, of_z, arith}
 use Rattle.std.proofs.Math.Nat.{mod-lt}
 use Rattle.std.proofs.lemmas.Int.{ints}
 use Rattle.std.proofs.lemmas.Nat.{div_below}
@@ -12,7 +11,7 @@ use Rattle.cam_units.proofs.Ring.Polynomial.{Atom, Sum, Difference, Product}
 use Rattle.cam_tiles.specs.declared.grid.Grid.{Grid}
 use Rattle.cam_tiles.specs.declared.window.Window.{Window}
 use Rattle.cam_tiles.specs.Picture.{accepts, centre_of, coarsest_pitch, middle}
-use Rattle.cam_tiles.specs.Tiles.{IsGrid, across, centre_in, columns, tiles_down, grid_of, first_column, rows, tiles_of, top}
+use Rattle.cam_tiles.specs.Tiles.{IsGrid, across, centre_in, columns, grid_of, first_column, rows, tiles_of, top}
 use Rattle.cam_tiles.proofs.WindowLemmas.{accepted}
 
 -- middles that stand so many pitches further on, and so many back
@@ -52,9 +51,7 @@ pub left_within : (w : Window) (k : ℕ) → 1 ≤ w.width → first_column w k 
 left_within w k some = let within : k % across w < across w = mod-lt k (omega arith) in omega arith
 
 pub top_within : (w : Window) (k : ℕ) → 1 ≤ w.width → k < tiles_of w → top w k < w.height
-top_within w k some there =
-    let within : k / across w < tiles_down w = div_below k (across w) (tiles_down w) (omega arith) (omega (arith, there)) in
-    omega arith
+top_within w k some there = grind (arith, div_below)
 
 -- the grid of a tile lies on the board
 pub on_board : (w : Window) (k : ℕ) → accepts w ≡ true → k < tiles_of w → IsGrid (grid_of w k)
@@ -89,21 +86,4 @@ pub grid_kept : (w : Window) (k a b : ℕ) (first : Spot) (columns_there rows_th
     record { x = long first.x; y = long first.y; step = long (pos 2 *ℤ long w.pitch); cols = columns_there; rows = rows_there }
     (grid_of w k)
 grid_kept w k a b first columns_there rows_there place h wide wide_too is_first is_columns is_rows =
-    let limits = accepted w h in
-    let step = twice_kept w.pitch limits.pitch.0 limits.pitch.1 in
-    let grid : Spot → ℤ → ℕ → ℕ → Grid = λ f s c r. record { x = f.x; y = f.y; step = s; cols = c; rows = r } in
-    let of_columns : columns_there ≡ columns w k =
-    is_columns ∙ ap (λ n. min (w.width - 64 * (k % n)) 64) wide ∙ omega arith in
-    let of_rows : rows_there ≡ rows w k =
-    is_rows ∙ ap (λ n. min (w.height - 64 * (k / n)) 64) wide_too ∙ omega arith in
-    let corner : first ≡ centre_of w (first_column w k) (top w k) =
-    is_first ∙ ap (λ n. centre_of w (64 * (k % n)) (64 * (k / b))) wide
-    ∙ ap (λ n. centre_of w (first_column w k) (64 * (k / n))) wide_too in
-    let x_kept : long first.x ≡ first.x = omega (arith, ints, place.x) in
-    let y_kept : long first.y ≡ first.y = omega (arith, ints, place.y) in
-    ap (λ x. grid (record { x = x; y = long first.y }) (long (pos 2 *ℤ long w.pitch)) columns_there rows_there) x_kept
-    ∙ ap (λ y. grid (record { x = first.x; y = y }) (long (pos 2 *ℤ long w.pitch)) columns_there rows_there) y_kept
-    ∙ ap (λ f. grid f (long (pos 2 *ℤ long w.pitch)) columns_there rows_there) corner
-    ∙ ap (λ s. grid (centre_of w (first_column w k) (top w k)) s columns_there rows_there) step
-    ∙ ap (λ c. grid (centre_of w (first_column w k) (top w k)) (pos 2 *ℤ w.pitch) c rows_there) of_columns
-    ∙ ap (λ r. grid (centre_of w (first_column w k) (top w k)) (pos 2 *ℤ w.pitch) (columns w k) r) of_rows
+    grind (arith, accepted, twice_kept, ints)

@@ -1,7 +1,6 @@
 -- painting by an index: leaves that are seen nowhere may be left out
-use Rattle.std.proofs.Common.{◌≡◌, ℕ, zero, suc, ◌+◌, ◌<◌, ◌≤◌, inl, inr, true, cond}
-use Rattle.std.proofs.Common.{◌-◌, List, [], ◌∷◌, ◌++◌, length, get_or, drop, filter}
-use Rattle.std.proofs.Common.{refl, sym, ap, subst, ◌∙◌, arith}
+use Rattle.std.proofs.Common.{◌≡◌, ℕ, zero, suc, ◌+◌, ◌<◌, ◌≤◌, inl, inr, true, cond, ◌-◌, List, [], ◌∷◌, ◌++◌, length, get_or}
+use Rattle.std.proofs.Common.{drop, filter, refl, sym, ap, subst, ◌∙◌, arith}
 use Rattle.std.specs.List.{All, flat_map}
 use Rattle.std.specs.Option.{option_or}
 use Rattle.std.proofs.lemmas.Bool.{cases_Bool, false≢true}
@@ -10,7 +9,7 @@ use Rattle.std.proofs.lemmas.List.{drop_more, length-drop, length_push, reverse-
 use Rattle.std.proofs.lemmas.List.Elements.{All-cons, All-nil, All-push}
 use Rattle.cam_units.specs.Boxes.{HaveCommonPlace, Holds, IsInBox}
 use Rattle.cam_units.specs.declared.bounds.Bounds.{Bounds}
-use Rattle.cam_units.specs.declared.bounds.Bounds.TheVariants.{Empty, Closed}
+use Rattle.cam_units.specs.declared.bounds.Bounds.TheVariants.{Closed}
 use Rattle.cam_units.specs.declared.point.Spot.{Spot}
 use Rattle.cam_objects.specs.Bounds.{bounds_of}
 use Rattle.cam_objects.specs.Image.{IsUncovered}
@@ -166,15 +165,7 @@ seen_back lists w within boxed n m low far so_far =
 -- a box that has both corners of another has all its places
 pub corners_held : (b box : Bounds) (low high : Spot) → box ≡ Closed low high → Holds b low → Holds b high
     → (s : Spot) → Holds box s → Holds b s
-corners_held Empty box low high is least greatest s held = absurd least
-corners_held (Closed first last) box low high is least greatest s held =
-    let between : IsInBox low high s = subst (λ c. Holds c s) is held in
-    record {
-      left = omega (arith, ints, least.left, between.left);
-      right = omega (arith, ints, greatest.right, between.right);
-      below = omega (arith, ints, least.below, between.below);
-      above = omega (arith, ints, greatest.above, between.above);
-    }
+corners_held b box low high is least greatest s held = grind (arith, ints)
 
 -- ---- the numbers that are listed for a row
 

@@ -1,7 +1,7 @@
 -- Words of which some bits are decided, and what becomes of these.
-use Rattle.std.proofs.Common.{◌≡◌, ◌≢◌, ℕ, zero, suc, ◌+◌, ◌-◌, ◌^◌, ◌<◌, ◌≤◌, ◌==◌, ◌&&◌, ◌||◌, not, min, max, Bool, true, false}
-use Rattle.std.proofs.Common.{Some, None, if◌then◌else◌, List, length, slice_index, slice_set, bit_and, bit_or, refl, ap, ◌∙◌, arith}
-use Rattle.std.proofs.Common.{get_or-set_other, get_or-set_same, inl, inr, sym, take, drop, ◌*◌, ◌/◌, ◌%◌}
+use Rattle.std.proofs.Common.{rules, ◌≡◌, ◌≢◌, ℕ, ◌+◌, ◌-◌, ◌^◌, ◌<◌, ◌≤◌, ◌==◌, ◌&&◌, ◌||◌, not, min, max, Bool, true, false}
+use Rattle.std.proofs.Common.{Some, None, if◌then◌else◌, List, length, slice_index, slice_set, bit_and, bit_or, ap, ◌∙◌, arith}
+use Rattle.std.proofs.Common.{get_or-set_other, get_or-set_same, inl, inr, sym, take, drop, ◌*◌, ◌/◌}
 use Rattle.std.specs.Int.{IsBitSet, bit_at, w64}
 use Rattle.std.specs.Option.{option_or}
 use Rattle.std.proofs.lemmas.Bool.{cases_eq, eq-eqb, eqb-true}
@@ -15,19 +15,13 @@ use Rattle.cam_tiles.proofs.JoinedWords.{bit_told}
 -- ---- bits
 
 least_one : (x y : ℕ) → x < 2 → y < 2 → (min x y == 1) ≡ (x == 1 && y == 1)
-least_one zero y small near = let e : min 0 y ≡ 0 = omega arith in rw e refl
-least_one (suc zero) y small near = let e : min 1 y ≡ y = omega arith in rw e refl
-least_one (suc (suc x)) y small near = absurd (omega (arith, small))
+least_one x y small near = grind arith
 
 most_one : (x y : ℕ) → x < 2 → y < 2 → (max x y == 1) ≡ (x == 1 || y == 1)
-most_one zero y small near = let e : max 0 y ≡ y = omega arith in rw e refl
-most_one (suc zero) y small near = let e : max 1 y ≡ 1 = omega arith in rw e refl
-most_one (suc (suc x)) y small near = absurd (omega (arith, small))
+most_one x y small near = grind arith
 
 rest_one : (x : ℕ) → x < 2 → (1 - x == 1) ≡ not (x == 1)
-rest_one zero small = refl
-rest_one (suc zero) small = refl
-rest_one (suc (suc x)) small = absurd (omega (arith, small))
+rest_one x small = grind arith
 
 pub set_in_both : (a b i : ℕ) → is_set (bit_and a b) i ≡ (is_set a i && is_set b i)
 set_in_both a b i = ap (λ n. n == 1) (bit_at_and a b i) ∙ least_one _ _ (bit_at-lt a i) (bit_at-lt b i)
@@ -47,8 +41,7 @@ set_in_none i = ap (λ n. n == 1) (bit_at-zero i)
 
 -- a word that has all of some bits has each of them
 right_of_both : (a b : Bool) → b ≡ true → (a && b) ≡ b → a ≡ true
-right_of_both true b on same = refl
-right_of_both false b on same = same ∙ on
+right_of_both a b on same = grind arith
 
 pub set_by_bits : (word bits i : ℕ) → bit_and word bits ≡ bits → IsBitSet bits i → is_set word i ≡ true
 set_by_bits word bits i all on =
@@ -57,9 +50,7 @@ set_by_bits word bits i all on =
 
 -- and one that has each of them has all
 least_of : (x y : ℕ) → y < 2 → (y ≡ 1 → x ≡ 1) → min x y ≡ y
-least_of x zero small on = omega arith
-least_of x (suc zero) small on = omega (arith, on refl)
-least_of x (suc (suc y)) small on = absurd (omega (arith, small))
+least_of x y small on = grind arith
 
 pub bits_by_set : (word bits : ℕ) → word < 2 ^ 64 → bits < 2 ^ 64
     → ((i : ℕ) → i < 64 → IsBitSet bits i → is_set word i ≡ true) → bit_and word bits ≡ bits
@@ -71,41 +62,20 @@ bits_by_set word bits fits small all =
 
 -- a word whose bits are all set is the greatest
 pub all_set_is_most : (word : ℕ) → word < 2 ^ 64 → ((i : ℕ) → i < 64 → is_set word i ≡ true) → word ≡ 2 ^ 64 - 1
-all_set_is_most word fits all =
-    same_from_bits_below 64 word (2 ^ 64 - 1) fits (omega arith)
-    (λ i near. eqb-true _ _ (all i near) ∙ sym (bit_at_ones 64 i near))
+all_set_is_most word fits all = search (rules, same_from_bits_below, eqb-true, bit_at_ones)
 
 -- ---- a word
 
 taken : (d k b n : Bool)
     → (if d || (b && not d) then Some ((k && not (b && not d)) || ((b && not d) && n)) else None)
     ≡ option_or (if d then Some k else None) (given b n)
-taken true true true n = refl
-taken true true false n = refl
-taken true false true n = refl
-taken true false false n = refl
-taken false true true n = refl
-taken false false true n = refl
-taken false k false n = refl
+taken d k b n = grind arith
 
 pub word_taken : (decided dark bits ink i : ℕ) → decided < 2 ^ 64 → bits < 2 ^ 64 → i < 64
     → (let new = bit_and bits (2 ^ 64 - 1 - decided) in
     ink_of (bit_or decided new) (bit_or (bit_and dark (2 ^ 64 - 1 - new)) (bit_and new ink)) i
     ≡ option_or (ink_of decided dark i) (given (is_set bits i) (is_set ink i)))
-word_taken decided dark bits ink i fits small near =
-    let new = bit_and bits (2 ^ 64 - 1 - decided) in
-    let less : new < 2 ^ 64 = omega (arith, and_le_l bits (2 ^ 64 - 1 - decided), small) in
-    let now : is_set new i ≡ (is_set bits i && not (is_set decided i)) =
-    set_in_both bits (2 ^ 64 - 1 - decided) i ∙ ap (λ b. is_set bits i && b) (set_in_rest decided i fits near) in
-    rw (
-      set_in_either decided new i,
-      set_in_either (bit_and dark (2 ^ 64 - 1 - new)) (bit_and new ink) i,
-      set_in_both dark (2 ^ 64 - 1 - new) i,
-      set_in_both new ink i,
-      set_in_rest new i less near,
-      now,
-    )
-    (taken (is_set decided i) (is_set dark i) (is_set bits i) (is_set ink i))
+word_taken decided dark bits ink i fits small near = grind (arith, and_le_l, set_in_both, set_in_rest, set_in_either, taken)
 
 -- ---- words side by side
 
@@ -150,16 +120,11 @@ next_taken ink bits old_decided old_dark k decided dark word other all before in
 
 pub tile_part : (words : List ℕ) (tile row : ℕ) → row < 64
     → slice_index (take (64 * tile + 64 - 64 * tile) (drop (64 * tile) words)) row ≡ slice_index words (64 * tile + row)
-tile_part words tile row low =
-    get_or-take (64 * tile + 64 - 64 * tile) (drop (64 * tile) words) row 0 (omega arith)
-    ∙ get_or-drop (64 * tile) words row 0
+tile_part words tile row low = grind (arith, get_or-take, get_or-drop)
 
 pub marked_at : (words : List ℕ) (tile row i : ℕ) → i < 64
     → is_marked words row (64 * tile + i) ≡ is_set (slice_index words (64 * tile + row)) i
-marked_at words tile row i small =
-    let own : (64 * tile + i) / 64 ≡ tile = omega arith in
-    let column : (64 * tile + i) % 64 ≡ i = omega arith in
-    rw (own, column) refl
+marked_at words tile row i small = grind arith
 
 -- rows of a tile that are decided all along, by its own words
 pub known_of : (words : List ℕ) (tile rows : ℕ) → rows ≤ 64 → AreKnown words tile rows → (row i : ℕ) → row < rows → i < 64
@@ -173,7 +138,4 @@ pub known_by : (words : List ℕ) (tile rows : ℕ) → rows ≤ 64
     → ((row i : ℕ) → row < rows → i < 64
     → is_set (slice_index (take (64 * tile + 64 - 64 * tile) (drop (64 * tile) words)) row) i ≡ true)
     → AreKnown words tile rows
-known_by words tile rows few all row column low here =
-    let small : column % 64 < 64 = omega arith in
-    rw here (ap (λ w. is_set w (column % 64)) (sym (tile_part words tile row (omega (arith, low, few))))
-    ∙ all row (column % 64) low small)
+known_by words tile rows few all row column low here = grind (arith, tile_part)

@@ -1,15 +1,12 @@
 -- Marks that are joined with others, and with masks that show one shape.
-use Rattle.std.proofs.Common.{◌≡◌, ◌↔◌, ◌⊎◌, ℕ, ◌^◌, pos, ◌-ℤ◌, ◌*ℤ◌, bit_and}
-use Rattle.std.proofs.Common.{sym, subst, inl, inr, arith}
+use Rattle.std.proofs.Common.{◌≡◌, ◌↔◌, ◌⊎◌, ℕ, ◌^◌, pos, bit_and, inl, inr, arith}
 use Rattle.std.specs.Int.{IsBitSet}
 use Rattle.std.proofs.lemmas.Bool.{cases_eq}
 use Rattle.std.proofs.lemmas.Int.{ints}
 use Rattle.cam_units.specs.declared.point.Spot.{Spot}
 use Rattle.cam_apertures.proofs.Painting.{through}
 use Rattle.cam_objects.specs.Image.{relative}
-use Rattle.cam_tiles.specs.declared.grid.Grid.{Grid}
 use Rattle.cam_tiles.specs.declared.masks.join.Join.{Join}
-use Rattle.cam_tiles.specs.declared.masks.join.Join.TheVariants.{Add, Clear}
 use Rattle.cam_tiles.specs.Machinery.Masks.{IsBlank, IsIn, IsMarked, Joins, Marking, Merges, joined}
 use Rattle.cam_tiles.specs.Tiles.{centre_in}
 
@@ -21,13 +18,11 @@ set_or_not n i = elim (cases_eq (bit_and n (2 ^ i)) 0) [ inl clear ↦ inr (λ s
 -- marks and places that are the same are joined to the same
 pub joined_like : (how : Join) (New Was Be Held Other : Type 0) → Was ↔ Be → Held ↔ Other → New ↔ joined how Was Held
     → New ↔ joined how Be Other
-joined_like Add New Was Be Held Other w e h = grind arith
-joined_like Clear New Was Be Held Other w e h = grind arith
+joined_like how New Was Be Held Other w e h = grind arith
 
 -- where the shape holds nothing, a mark stays
 pub joined_none : (how : Join) (P Q : Type 0) → (Q → ⊥) → P ↔ joined how P Q
-joined_none Add P Q none = grind (arith, none)
-joined_none Clear P Q none = grind (arith, none)
+joined_none how P Q none = grind arith
 
 pub same : {A : Type 0} → A ↔ A
 same = ((λ a. a), (λ a. a))
@@ -35,10 +30,7 @@ same = ((λ a. a), (λ a. a))
 -- ---- the marks of a grid
 
 pub seen_itself : (P : Spot → Type 0) (s : Spot) → P (relative (record { x = pos 0; y = pos 0 }) s) ↔ P s
-seen_itself P s =
-    let x : s.x -ℤ pos 2 *ℤ pos 0 ≡ s.x = omega (arith, ints) in
-    let y : s.y -ℤ pos 2 *ℤ pos 0 ≡ s.y = omega (arith, ints) in
-    rw (x, y) same
+seen_itself P s = grind (arith, ints, same)
 
 -- ---- masks that show a shape
 
@@ -52,26 +44,14 @@ pub shows_nothing : (m : Marking) → IsBlank m → Shows (λ s. ⊥) m
 shows_nothing m blank = record { marks = λ column row within. (blank column row within, λ none. absurd none) }
 
 pub shows_like : (P Q : Spot → Type 0) (m : Marking) → ((s : Spot) → P s ↔ Q s) → Shows P m → Shows Q m
-shows_like P Q m alike h = record {
-  marks = λ column row within. through (h.marks column row within) (alike (centre_in m.grid column row));
-}
+shows_like P Q m alike h = grind (arith, through)
 
 -- what a mask shows, joined with another shape
 pub shows_joined : (how : Join) (P Q : Spot → Type 0) (old new : Marking) → Shows P old → Joins how Q old new
     → Shows (λ s. joined how (P s) (Q s)) new
-shows_joined how P Q old new h j = record {
-  marks = subst (λ (g : Grid). (column row : ℕ) → IsIn g column row
-      → IsMarked new column row ↔ joined how (P (centre_in g column row)) (Q (centre_in g column row))) (sym j.grid)
-      (λ column row within. joined_like how _ _ _ _ _ (h.marks column row within) same (j.marks column row within));
-}
+shows_joined how P Q old new h j = grind (arith, joined_like, same)
 
 -- marks that are joined with a mask are joined with the shape that it shows
 pub merges_shown : (how : Join) (P : Spot → Type 0) (own old new : Marking) → own.grid ≡ old.grid → Shows P own
     → Merges how own old new → Joins how P old new
-merges_shown how P own old new e h m = record {
-  grid = m.grid;
-  marks = λ column row within. joined_like how _ _ _ _ _ same
-      (subst (λ (g : Grid). (column row : ℕ) → IsIn g column row
-      → IsMarked own column row ↔ P (centre_in g column row)) e h.marks column row within)
-      (m.marks column row within);
-}
+merges_shown how P own old new e h m = grind (arith, joined_like, same)

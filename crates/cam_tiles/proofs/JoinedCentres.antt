@@ -22,28 +22,18 @@ pub columns_joined : (g : Grid) (columns all : ℕ) (how : Join) (IsHeld : ℕ �
     (old new : List ℕ) → g.rows ≤ 64 → columns ≤ all
     → ((column row : ℕ) → column < columns → row < g.rows → IsHeld row column ↔ P (centre_in g column row))
     → JoinsColumns all how IsHeld old new → JoinsCentres g columns how P old new
-columns_joined g columns all how IsHeld P old new few within told h = record {
-  each = λ column row near below.
-      joined_like how _ _ _ _ _ same (told column row near below)
-      (h.each row column (omega (arith, below, few)) (omega (arith, near, within)));
-}
+columns_joined g columns all how IsHeld P old new few within told h = grind (arith, joined_like, same)
 
 -- nothing is held
 pub none_joined : (g : Grid) (columns : ℕ) (how : Join) (P : Spot → Type 0) (old : List ℕ)
     → ((column row : ℕ) → column < columns → row < g.rows → P (centre_in g column row) → ⊥)
     → JoinsCentres g columns how P old old
-none_joined g columns how P old none = record {
-  each = λ column row near below. joined_none how _ (P (centre_in g column row)) (none column row near below);
-}
+none_joined g columns how P old none = grind (arith, joined_none)
 
 -- words behind those of some columns change none of them
 pub marks_kept : (g : Grid) (columns : ℕ) (P : Spot → Type 0) (part rest : List ℕ) → g.rows ≤ 64 → AreWide columns part
     → MarksCentres g columns P part → MarksCentres g columns P (part ++ rest)
-marks_kept g columns P part rest few wide told column row near within =
-    let k = 64 * (column / 64) + row in
-    let same : slice_index (part ++ rest) k ≡ slice_index part k =
-    get_or_append_left part rest 0 k (omega (arith, near, within, few, wide.room, wide.tiles)) in
-    rw same (told column row near within)
+marks_kept g columns P part rest few wide told column row near within = grind (arith, same, get_or_append_left)
 
 -- ---- the words of a part of the tiles
 

@@ -9,7 +9,6 @@ use Rattle.cam_rows.specs.Runs.{IsInRun}
 use Rattle.cam_rows.proofs.SetBits.{none_set, set_is_one}
 use Rattle.cam_apertures.proofs.Painting.{round, through}
 use Rattle.cam_tiles.specs.declared.masks.join.Join.{Join}
-use Rattle.cam_tiles.specs.declared.masks.join.Join.TheVariants.{Add, Clear}
 use Rattle.cam_tiles.specs.declared.masks.runs.Runs.{Runs}
 use Rattle.cam_tiles.specs.Machinery.Masks.{joined}
 use Rattle.cam_tiles.specs.Machinery.Runs.{HasColumn}
@@ -21,41 +20,27 @@ use Rattle.cam_tiles.proofs.Joined.{joined_like, joined_none}
 -- joined with one after the other
 joined_twice : (how : Join) (New Now Was P Q R : Type 0) → R ↔ (P ⊎ Q) → Now ↔ joined how Was P → New ↔ joined how Now Q
     → New ↔ joined how Was R
-joined_twice Add New Now Was P Q R either first second = grind arith
-joined_twice Clear New Now Was P Q R either first second = grind arith
+joined_twice how New Now Was P Q R either first second = grind arith
 
 pub bit_told : (word i : ℕ) → IsTrue (is_set word i) ↔ IsBitSet word i
-bit_told word i = (
-  (λ told. (set_is_one word i).1 (eqb-true _ 1 told)),
-  (λ set. eq-eqb _ 1 ((set_is_one word i).0 set)),
-)
+bit_told word i = grind (arith, set_is_one, eqb-true, eq-eqb)
 
 -- no bit is set in words of 0
 pub none_marked : (words : List ℕ) → ((k : ℕ) → k < length words → slice_index words k ≡ 0) → (row column : ℕ)
     → IsTrue (is_marked words row column) → ⊥
-none_marked words none row column on =
-    let k = 64 * (column / 64) + row in
-    let zero : slice_index words k ≡ 0 =
-    elim (cases_lt k (length words)) [ inl inside ↦ none k inside | inr past ↦ get_or_past words k 0 past ] in
-    none_set (slice_index words k) (column % 64) zero ((bit_told (slice_index words k) (column % 64)).0 on)
+none_marked words none row column on = grind (arith, cases_lt, get_or_past, none_set, bit_told)
 
 -- ---- columns
 
 module _ (columns : ℕ) (how : Join) where
   pub joins_none : (P : ℕ → ℕ → Type 0) (words : List ℕ) → ((row column : ℕ) → P row column → ⊥)
       → JoinsColumns columns how P words words
-  joins_none P words none = record {
-    each = λ row column low near. joined_none how _ (P row column) (none row column);
-  }
+  joins_none P words none = grind (arith, joined_none)
 
   pub joins_more : (P Q R : ℕ → ℕ → Type 0) (old now new : List ℕ)
       → ((row column : ℕ) → row < 64 → column < columns → R row column ↔ (P row column ⊎ Q row column))
       → JoinsColumns columns how P old now → JoinsColumns columns how Q now new → JoinsColumns columns how R old new
-  joins_more P Q R old now new either first second = record {
-    each = λ row column low near.
-        joined_twice how _ _ _ (P row column) (Q row column) (R row column) (either row column low near)
-        (first.each row column low near) (second.each row column low near);
-  }
+  joins_more P Q R old now new either first second = grind (arith, joined_twice)
 
   -- one word more: bit i of it is column i of its tile
   pub word_joined : (words : List ℕ) (tile row place word bits : ℕ) → place ≡ 64 * tile + row → row < 64
@@ -84,9 +69,7 @@ module _ (columns : ℕ) (how : Join) where
 
 pub joins_fewer : (columns more : ℕ) (how : Join) (P : ℕ → ℕ → Type 0) (old new : List ℕ) → columns ≤ more
     → JoinsColumns more how P old new → JoinsColumns columns how P old new
-joins_fewer columns more how P old new few h = record {
-  each = λ row column low near. h.each row column low (omega (arith, few, near));
-}
+joins_fewer columns more how P old new few h = grind arith
 
 -- ---- what one word more holds
 
@@ -95,22 +78,7 @@ pub next_word : (others : List ℕ) (k r column : ℕ) → r < 64
     → ((64 * (column / 64) + r < k + 1) × IsTrue (is_marked others r column))
     ↔ (((64 * (column / 64) + r < k) × IsTrue (is_marked others r column))
     ⊎ ((r ≡ k % 64) × (column / 64 ≡ k / 64) × IsBitSet (slice_index others k) (column % 64)))
-next_word others k r column small =
-    let i = column % 64 in
-    let at = 64 * (column / 64) + r in (
-      (λ held. elim (cases_lt at k) [
-        | inl before ↦ inl (before, held.1)
-        | inr after ↦
-            let e : at ≡ k = omega (arith, held.0, after) in
-            inr (omega (arith, e), omega (arith, e), (bit_told (slice_index others k) i).0 (rw e at held.1))
-      ]),
-      (λ either. elim either [
-        | inl before ↦ (omega (arith, before.0), before.1)
-        | inr own ↦
-            let e : at ≡ k = omega (arith, own.0, own.1) in
-            (omega (arith, e), rw e ((bit_told (slice_index others k) i).1 own.2))
-      ]),
-    )
+next_word others k r column small = grind (arith, cases_lt, bit_told)
 
 -- the part of a run in the next tile
 pub next_part : (row first end tile from to bits r column : ℕ) → first / 64 ≤ tile → from ≡ first - 64 * tile
@@ -118,43 +86,11 @@ pub next_part : (row first end tile from to bits r column : ℕ) → first / 64 
     → ((r ≡ row) × IsInRun first (min end (64 * (tile + 1))) column)
     ↔ (((r ≡ row) × IsInRun first (min end (64 * tile)) column)
     ⊎ ((r ≡ row) × (column / 64 ≡ tile) × IsBitSet bits (column % 64)))
-next_part row first end tile from to bits r column after is_from is_to set =
-    let here = set (column % 64) (omega arith) in (
-      (λ held. elim (cases_lt column (64 * tile)) [
-        | inl before ↦ inl (held.0, (held.1.0, omega (arith, held.1.1, before)))
-        | inr past ↦
-            let there : column / 64 ≡ tile = omega (arith, held.1.1, past) in
-            inr (
-              held.0,
-              there,
-              here.1 (omega (arith, is_from, held.1.0, there), omega (arith, is_to, held.1.1, there)),
-            )
-      ]),
-      (λ either. elim either [
-        | inl before ↦ (before.0, (before.1.0, omega (arith, before.1.1)))
-        | inr own ↦
-            let on = here.0 own.2 in
-            (own.0, (omega (arith, is_from, on.0, own.1), omega (arith, is_to, on.1, own.1)))
-      ]),
-    )
+next_part row first end tile from to bits r column after is_from is_to set = grind (arith, cases_lt)
 
 -- the run of the next row
 pub next_run : (runs : Runs) (columns k end r column : ℕ) → runs.band.first ≤ k → k < runs.band.end
     → end ≡ min (slice_index runs.ends k) columns → column < columns
     → ((r < k + 1) × HasColumn runs r column)
     ↔ (((r < k) × HasColumn runs r column) ⊎ ((r ≡ k) × IsInRun (slice_index runs.firsts k) end column))
-next_run runs columns k end r column after until is near = (
-  (λ held. elim (cases_eq r k) [
-    | inl e ↦
-        let on : IsInRun (slice_index runs.firsts k) (slice_index runs.ends k) column = rw e at held.1.2 in
-        inr (e, (on.0, omega (arith, is, on.1, near)))
-    | inr apart ↦ inl (omega (arith, held.0, apart), held.1)
-  ]),
-  (λ either. elim either [
-    | inl before ↦ (omega (arith, before.0), before.1)
-    | inr own ↦
-        let on : IsInRun (slice_index runs.firsts k) (slice_index runs.ends k) column =
-        (own.1.0, omega (arith, is, own.1.1)) in
-        (omega (arith, own.0), rw own.0 (after, until, on))
-  ]),
-)
+next_run runs columns k end r column after until is near = grind (arith, cases_eq)

@@ -1,6 +1,6 @@
 -- Places at equal distances: how many of them lie up to a place, and the columns of a grid.
-use Rattle.std.proofs.Common.{◌≡◌, ◌↔◌, ℕ, ◌+◌, ◌*◌, ◌/◌, ◌^◌, ◌<◌, ◌≤◌, ◌-◌, ℤ, pos, ◌+ℤ◌, ◌-ℤ◌, ◌*ℤ◌, ◌≤ℤ◌, ◌<ℤ◌, negsuc, inl, inr}
-use Rattle.std.proofs.Common.{ap, subst, ◌∙◌, FitsSigned, w64, arith}
+use Rattle.std.proofs.Common.{◌≡◌, ◌↔◌, ℕ, ◌+◌, ◌*◌, ◌/◌, ◌^◌, ◌<◌, ◌≤◌, ◌-◌, ℤ, pos, ◌+ℤ◌, ◌-ℤ◌, ◌*ℤ◌, ◌≤ℤ◌, ◌<ℤ◌}
+use Rattle.std.proofs.Common.{ap, ◌∙◌, FitsSigned, w64, arith}
 use Rattle.std.specs.Int.{int_max}
 use Rattle.std.specs.Int.RustNames.{unsigned_abs}
 use Rattle.std.proofs.Math.Nat.{le-div_iff_mul-le}
@@ -18,13 +18,10 @@ use Rattle.cam_tiles.proofs.StepLemmas.{no_step, way_kept}
 
 -- so many steps lead on, and no fewer do further
 pub some_steps : (step : ℤ) (n : ℕ) → pos 1 ≤ℤ step → pos 0 ≤ℤ (pos n *ℤ step)
-some_steps (pos _) n some = omega (arith, ints)
-some_steps (negsuc _) n some = absurd (omega (arith, ints, some))
+some_steps step n some = grind (arith, ints)
 
 pub further : (step : ℤ) (pitch n last : ℕ) → step ≡ pos pitch → n ≤ last → (pos n *ℤ step) ≤ℤ (pos last *ℤ step)
-further step pitch n last is_step within =
-    let steps = mul-le n pitch last pitch within (omega arith) in
-    rw is_step (omega (arith, ints, steps))
+further step pitch n last is_step within = grind (arith, mul-le, ints)
 
 -- ---- so many steps on and back, as code of 64 bits computes them
 
@@ -69,47 +66,23 @@ module _ (x s n : ℤ) (k : ℕ) (is_n : n ≡ pos k) (few : k < 2 ^ 32) (fits :
     back_kept = to_z-of_z w64 _ back_fits ∙ back_is x _ _ way_is here (short_back x (pos k *ℤ s) here there)
 
 pub first_short : (l : Lattice) → IsLattice l → 0 < l.count → unsigned_abs l.first < 8000000000
-first_short l lattice some =
-    let IsShort : ℤ → Type 0 = λ x. unsigned_abs x < 8000000000 in
-    subst IsShort (no_step l.first l.step) (lattice.places 0 some)
+first_short l lattice some = grind (arith, no_step)
 
 module _ (l : Lattice) (pitch distance : ℕ) (place : ℤ) (some : pos 1 ≤ℤ l.step) (is_step : l.step ≡ pos pitch)
     (is_place : place ≡ l.first +ℤ pos distance) where
   -- how many lie up to a place, by division
   pub counted : (n : ℕ) → (n < distance / pitch + 1) ↔ (place_at l n ≤ℤ place)
-  counted n =
-      let rate = le-div_iff_mul-le {k = pitch} {x = n} {y = distance} (omega (arith, ints, some, is_step)) in
-      rw is_step (
-        (λ h. let far = rate.0 (omega (arith, h)) in omega (arith, ints, far, is_place)),
-        (λ h. let near : n * pitch ≤ distance = omega (arith, ints, h, is_place) in omega (arith, rate.1 near)),
-      )
+  counted n = grind (arith, le-div_iff_mul-le, ints)
 
   -- and not all of them, if it lies before the last
   pub few_counted : (count : ℕ) → 0 < count → place <ℤ place_at l (count - 1) → distance / pitch + 1 < count
-  few_counted count there before =
-      elim (cases_lt (count - 1) (distance / pitch + 1)) [
-        | inl far ↦ let past = (counted (count - 1)).0 far in absurd (omega (arith, ints, past, before))
-        | inr few ↦ omega (arith, few, there)
-      ]
+  few_counted count there before = grind (arith, cases_lt, counted, ints)
 
 -- from those before the one place on, up to the other
 pub between_counts : (n first end : ℕ) (x start low high before : ℤ) → start ≤ℤ x → before ≡ int_max low start -ℤ pos 1
     → (n < first) ↔ (x ≤ℤ before) → (n < end) ↔ (x ≤ℤ high)
     → ((first ≤ n) × (n < end)) ↔ ((low ≤ℤ x) × (x ≤ℤ high))
-between_counts n first end x start low high before after is_before early until =
-    elim (cases_lt n first) [
-      | inl h ↦
-          let left = early.0 h in (
-            (λ on. absurd (omega (arith, h, on.0))),
-            (λ within. absurd (omega (arith, ints, clamps, left, within.0, after, is_before))),
-          )
-      | inr h ↦
-          let right : low ≤ℤ x =
-          by_lt_z before x (λ past. omega (arith, ints, clamps, past, is_before)) (λ near. absurd (omega (arith, h, early.1 near))) in (
-            (λ on. (right, until.0 on.1)),
-            (λ within. (h, until.1 within.1)),
-          )
-    ]
+between_counts n first end x start low high before after is_before early until = grind (arith, cases_lt, ints, clamps, by_lt_z)
 
 -- the columns and the rows that a box reaches
 pub reached : (low high : Spot) (g : Grid) (count : ℕ) (columns rows : Span) → columns.end ≤ count → rows.end ≤ g.rows
@@ -118,14 +91,4 @@ pub reached : (low high : Spot) (g : Grid) (count : ℕ) (columns rows : Span) �
     → ((row : ℕ) → row < g.rows → ((rows.first ≤ row) × (row < rows.end))
     ↔ ((low.y ≤ℤ (centre_in g 0 row).y) × ((centre_in g 0 row).y ≤ℤ high.y)))
     → AreReachedBy low high g count columns rows
-reached low high g count columns rows few low_rows across down = record {
-  left_of = few;
-  above = low_rows;
-  each = λ column row near below. (
-    (λ held. ((across column near).1 (held.left, held.right), (down row below).1 (held.below, held.above))),
-    (λ on.
-        let x = (across column near).0 on.0 in
-        let y = (down row below).0 on.1 in
-        record { left = x.0; right = x.1; below = y.0; above = y.1 }),
-  );
-}
+reached low high g count columns rows few low_rows across down = grind arith

@@ -1,6 +1,5 @@
 -- Rows of centres by their heights, as code of 64 bits computes them, and those that lie between two heights.
-use Rattle.std.proofs.Common.{◌≡◌, ◌↔◌, ℕ, ◌-◌, ◌<◌, ℤ, pos, ◌+ℤ◌, ◌-ℤ◌, ◌*ℤ◌, ◌≤ℤ◌}
-use Rattle.std.proofs.Common.{subst, arith}
+use Rattle.std.proofs.Common.{rules, ◌≡◌, ◌↔◌, ℕ, ◌-◌, ◌<◌, ℤ, pos, ◌+ℤ◌, ◌-ℤ◌, ◌*ℤ◌, ◌≤ℤ◌, arith}
 use Rattle.std.specs.Int.RustNames.{unsigned_abs}
 use Rattle.std.proofs.lemmas.Int.{ints}
 use Rattle.cam_refusals.specs.Limits.{board_limit}
@@ -23,29 +22,20 @@ use Rattle.cam_tiles.proofs.StepLemmas.{no_step_down}
 
 module _ (l : Levels) (levels : AreLevels l) where
   pub top_short : unsigned_abs l.top < 4000000000
-  top_short =
-      let IsShort : ℤ → Type 0 = λ y. unsigned_abs y < 4000000000 in
-      subst IsShort (no_step_down l.top l.step) (levels.heights 0 levels.some)
+  top_short = grind (arith, no_step_down)
 
   module _ (row : ℕ) (within : row < l.rows) where
     pub below_top : height l row ≤ℤ l.top
-    below_top =
-        let some = some_steps l.step row levels.step in omega (arith, ints, some)
+    below_top = grind (arith, some_steps, ints)
 
     pub over_bottom : height l (l.rows - 1) ≤ℤ height l row
-    over_bottom =
-        let most = further l.step (unsigned_abs l.step) row (l.rows - 1) (omega (arith, ints, levels.step)) (omega arith) in
-        omega (arith, ints, most)
+    over_bottom = grind (arith, further, ints)
 
 -- ---- the rows of a grid
 
 -- its heights are on the board
 pub of_grid : (g : Grid) → IsGrid g → AreLevels (levels_of g)
-of_grid g grid = record {
-  step = grid.step;
-  some = grid.rows.0;
-  heights = λ row within. let near = (grid.centres 0 row grid.columns.0 within).y in omega (arith, near);
-}
+of_grid g grid = grind arith
 
 way_near : (y at d : ℤ) → unsigned_abs (y -ℤ d) < place_limit → unsigned_abs at < board_limit
     → unsigned_abs (y -ℤ pos 2 *ℤ at -ℤ d) < 4000000000
@@ -60,13 +50,7 @@ module _ (g : Grid) (at : Point) (top step : ℤ) (is_top : top ≡ g.y -ℤ pos
   seen = record { top = top; step = step; rows = g.rows }
 
   pub are_seen : IsGrid g → IsOnBoard at → AreLevels seen
-  are_seen grid board =
-      rw (is_top, is_step) (record {
-        step = grid.step;
-        some = grid.rows.0;
-        heights = λ row within.
-            way_near g.y at.y (pos row *ℤ g.step) (grid.centres 0 row grid.columns.0 within).y board.y;
-      })
+  are_seen grid board = grind (arith, way_near)
 
   pub on_seen_row : (row : ℕ) → row < g.rows → IsOnRow seen row (relative at (centre_in g 0 row))
   on_seen_row row within = (within, rw (is_top, is_step) (seen_first g.y at.y (pos row *ℤ g.step)))
@@ -79,10 +63,7 @@ mirrored_near y d near = omega (arith, ints)
 mirrored_between : (y top d low high : ℤ) → y ≡ top -ℤ d
     → (((pos 0 -ℤ pos 1 -ℤ high) ≤ℤ (pos 0 -ℤ pos 1 -ℤ top +ℤ d)) × ((pos 0 -ℤ pos 1 -ℤ top +ℤ d) ≤ℤ (pos 0 -ℤ pos 1 -ℤ low)))
     ↔ ((low ≤ℤ y) × (y ≤ℤ high))
-mirrored_between y top d low high e = (
-  (λ h. (omega (arith, ints, h.1), omega (arith, ints, h.0))),
-  (λ h. (omega (arith, ints, h.1), omega (arith, ints, h.0))),
-)
+mirrored_between y top d low high e = search (rules, ints)
 
 module _ (l : Levels) (levels : AreLevels l) (first step : ℤ) (is_first : first ≡ pos 0 -ℤ pos 1 -ℤ l.top)
     (is_step : step ≡ l.step) where
@@ -90,11 +71,7 @@ module _ (l : Levels) (levels : AreLevels l) (first step : ℤ) (is_first : firs
   mirrored = record { first = first; step = step; count = l.rows }
 
   pub are_places : IsLattice mirrored
-  are_places =
-      rw (is_first, is_step) (record {
-        step = levels.step;
-        places = λ row within. mirrored_near l.top (pos row *ℤ l.step) (levels.heights row within);
-      })
+  are_places = grind (arith, mirrored_near)
 
   pub between_heights : (h : Heights) (low high : ℤ) (row : ℕ) (s : Spot) → low ≡ pos 0 -ℤ pos 1 -ℤ h.high
       → high ≡ pos 0 -ℤ pos 1 -ℤ h.low → IsOnRow l row s

@@ -1,5 +1,5 @@
 -- Boxes of a mask in which all centres are marked, by words of bits for the columns of a box.
-use Rattle.std.proofs.Common.{◌≡◌, ◌↔◌, ℕ, ◌+◌, ◌^◌, ◌<◌, ◌≤◌, min, zero, suc, inl, inr, slice_index, true, ◌∙◌, bit_and, arith}
+use Rattle.std.proofs.Common.{◌≡◌, ◌↔◌, ℕ, ◌+◌, ◌^◌, ◌<◌, ◌≤◌, min, inl, inr, slice_index, true, ◌∙◌, bit_and, arith}
 use Rattle.std.specs.Int.{IsBitSet, bit_at}
 use Rattle.std.proofs.lemmas.Bool.{cases_lt}
 use Rattle.std.proofs.lemmas.Nat.Bits.{bit_at-lt, bit_at_above, bit_at_and, same_from_bits}
@@ -18,8 +18,7 @@ AllMarked low high m =
     (column row : ℕ) → IsIn m.grid column row → IsInBox low high (centre_in m.grid column row) → ink_of m column row ≡ true
 
 least_one : (x y : ℕ) → x < 2 → y < 2 → (y ≡ 1 → x ≡ 1) → min x y ≡ y
-least_one x zero few small one = omega arith
-least_one x (suc y) few small one = let both = one (omega arith) in omega arith
+least_one x y few small one = grind arith
 
 -- a word that has all bits of another
 contained : (a b : ℕ) → ((i : ℕ) → IsBitSet b i → IsBitSet a i) → bit_and a b ≡ b
@@ -35,10 +34,7 @@ module _ (m : Marking) (low high : Spot) (columns rows : Span) (run : ℕ) (narr
   -- from row to row
   pub all_marked : ((column row : ℕ) → rows.first ≤ row → row < rows.end → IsBitSet run column → IsMarked m column row)
       → AllMarked low high m
-  all_marked each column row there between =
-      let on = (reached.each column row there.0 there.1).0 between in
-      let set = (is_run column (omega (arith, there.0, narrow))).1 (there.0, (omega (arith, on.0.0), omega (arith, on.0.1))) in
-      dark_if_marked m column row (each column row on.1.0 on.1.1 set)
+  all_marked each column row there between = grind (arith, dark_if_marked)
 
   pub row_marked : AllMarked low high m → (row : ℕ) → rows.first ≤ row → row < rows.end
       → bit_and (slice_index m.rows row) run ≡ run

@@ -15,15 +15,10 @@ use Rattle.cam_tiles.specs.Machinery.Marks.{AreSpread, TurnsRow, is_marked, is_o
 -- ---- exactly one of two
 
 differ_apart : (a b c : Bool) → differ (differ a b) c ≡ differ a (differ b c)
-differ_apart true true true = refl
-differ_apart true true false = refl
-differ_apart true false true = refl
-differ_apart true false false = refl
-differ_apart false b c = refl
+differ_apart a b c = grind arith
 
 differ_none : (a : Bool) → differ a false ≡ a
-differ_none true = refl
-differ_none false = refl
+differ_none a = grind arith
 
 -- ---- columns side by side
 
@@ -50,13 +45,7 @@ none_odd f (suc n) c none =
 -- ---- the bits of a word
 
 one_of : {x : ℕ} (m n : ℕ) → x ≡ (m + n) % 2 → m < 2 → n < 2 → (x == 1) ≡ differ (m == 1) (n == 1)
-one_of zero zero e h k = rw e refl
-one_of zero (suc zero) e h k = rw e refl
-one_of (suc zero) zero e h k = rw e refl
-one_of (suc zero) (suc zero) e h k = rw e refl
-one_of (suc (suc m)) n e h k = absurd (omega (arith, h))
-one_of zero (suc (suc n)) e h k = absurd (omega (arith, k))
-one_of (suc zero) (suc (suc n)) e h k = absurd (omega (arith, k))
+one_of m n e h k = grind arith
 
 set_in_xor : (a b i : ℕ) → is_set (bit_xor a b) i ≡ differ (is_set a i) (is_set b i)
 set_in_xor a b i = one_of (bit_at a i) (bit_at b i) (bit_at_xor a b i) (bit_at-lt a i) (bit_at-lt b i)
@@ -67,10 +56,7 @@ set_in_shr n places i = ap (λ m. m % 2 == 1) (shr-shr n places i ∙ ap (λ k. 
 -- ---- one mark more
 
 swapped : (a b : Bool) → differ (differ a true) b ≡ differ (differ a b) true
-swapped true true = refl
-swapped true false = refl
-swapped false true = refl
-swapped false false = refl
+swapped a b = grind arith
 
 pub odd_flipped : (f g : ℕ → Bool) (p n c : ℕ) → ((j : ℕ) → j ≢ p → g j ≡ f j) → g p ≡ differ (f p) true → c ≤ p
     → p < c + n → is_odd g n c ≡ differ (is_odd f n c) true
@@ -102,13 +88,11 @@ no_low_bit b i short behind =
 
 held_turned : (new was : Bool) (Held : Type 0) → Held → new ≡ differ was true
     → IsTrue new ↔ ((IsTrue was × (Held → ⊥)) ⊎ ((IsTrue was → ⊥) × Held))
-held_turned new true Held held e = grind arith
-held_turned new false Held held e = grind arith
+held_turned new was Held held e = grind arith
 
 other_kept : (new was : Bool) (Held : Type 0) → (Held → ⊥) → new ≡ was
     → IsTrue new ↔ ((IsTrue was × (Held → ⊥)) ⊎ ((IsTrue was → ⊥) × Held))
-other_kept new true Held none e = grind arith
-other_kept new false Held none e = grind arith
+other_kept new was Held none e = grind arith
 
 module _ (marks : List ℕ) (row p : ℕ) (low : row < 64) (whole : length marks % 64 ≡ 0) (within : p < length marks) where
   abbrev word : ℕ
@@ -145,29 +129,13 @@ module _ (marks : List ℕ) (row p : ℕ) (low : row < 64) (whole : length marks
 
   turned_kept : (r c : ℕ) → is_marked marked r c ≡ is_marked marks r c
       → ((j : ℕ) → 64 * (c / 64 + 1 + j) + r ≢ word) → is_turned marked r c ≡ is_turned marks r c
-  turned_kept r c same apart =
-      rw size (ap (λ b. differ b (past marked r c)) same
-      ∙ ap (differ (is_marked marks r c)) (tiles_kept r (length marks / 64 - (c / 64 + 1)) (c / 64 + 1) apart))
+  turned_kept r c same apart = grind (arith, size, tiles_kept)
 
   turned_elsewhere : (r c : ℕ) → r < 64 → r ≢ row → is_turned marked r c ≡ is_turned marks r c
-  turned_elsewhere r c small apart =
-      turned_kept r c
-      (ap (λ w. is_set w (c % 64)) (elsewhere (64 * (c / 64) + r) (λ e. apart (omega (arith, e, small, low)))))
-      (λ j e. apart (omega (arith, e, small, low)))
+  turned_elsewhere r c small apart = grind (arith, turned_kept, elsewhere)
 
   turned_right : (c : ℕ) → p < c → is_turned marked row c ≡ is_turned marks row c
-  turned_right c after =
-      turned_kept row c (elim (cases_eq (c / 64) (p / 64)) [
-        | inl same ↦
-            let which : 64 * (c / 64) + row ≡ word = omega (arith, same) in
-            rw which (here (c % 64)
-            ∙ ap (differ (is_set (slice_index marks word) (c % 64)))
-            (no_low_bit (p % 64) (c % 64) (omega arith) (omega (arith, same, after)))
-            ∙ differ_none (is_set (slice_index marks word) (c % 64)))
-        | inr apart ↦
-            ap (λ w. is_set w (c % 64)) (elsewhere (64 * (c / 64) + row) (λ e. apart (omega (arith, e))))
-      ])
-      (λ j e. omega (arith, e, after))
+  turned_right c after = grind (arith, turned_kept, cases_eq, here, no_low_bit, differ_none, elsewhere)
 
   turned_here : (c : ℕ) → c ≤ p → is_turned marked row c ≡ differ (is_turned marks row c) true
   turned_here c before = elim (cases_eq (c / 64) (p / 64)) [
@@ -216,41 +184,14 @@ turns_none row marks r c small inside = other_kept _ _ _ (λ held. omega (arith,
 
 -- no row of a tile is spread yet
 pub no_row : (tile : ℕ) (marks : List ℕ) → AreRowsSpread tile 0 marks marks
-no_row tile marks = record {
-  done = λ row i early _. absurd (omega (arith, early));
-  others = λ _ _. refl;
-}
+no_row tile marks = grind arith
 
 pub next_row : (tile row word right carry : ℕ) (old new : List ℕ) → word ≡ 64 * tile + row
     → right ≡ 64 * (tile + 1) + row → word < length new → row < 64 → AreRowsSpread tile row old new
     → ((i : ℕ) → i < 64 → is_set carry i ≡ is_set (slice_index new right) 0)
     → AreRowsSpread tile (row + 1) old (slice_set new word (bit_xor (slice_index new word) carry))
 next_row tile row word right carry old new is is_right within low so_far carried =
-    let own : slice_index new word ≡ slice_index old word = so_far.others word (inr (omega (arith, is))) in
-    let past : slice_index new right ≡ slice_index old (64 * (tile + 1) + row) =
-    so_far.others right (inr (omega (arith, is_right, low))) ∙ ap (slice_index old) is_right in
-    record {
-      done = λ r i early small. elim (cases_eq r row) [
-        | inl same ↦
-            let which : 64 * tile + r ≡ word = omega (arith, is, same) in
-            rw (which, get_or-set_same) (set_in_xor (slice_index new word) carry i
-            ∙ ap (λ w. differ (is_set w i) (is_set carry i)) own
-            ∙ ap (differ (is_set (slice_index old word) i))
-            (carried i small ∙ ap (λ w. is_set w 0) past ∙ rw same refl))
-        | inr apart ↦
-            let other : 64 * tile + r ≢ word = λ e. apart (omega (arith, e, is)) in
-            rw get_or-set_other (so_far.done r i (omega (arith, early, apart)) small)
-      ];
-      others = λ k either.
-          let other : k ≢ word = λ e. elim either [
-            | inl before ↦ omega (arith, e, is, before)
-            | inr behind ↦ omega (arith, e, is, behind)
-          ] in
-          rw get_or-set_other (so_far.others k (elim either [
-            | inl before ↦ inl before
-            | inr behind ↦ inr (omega (arith, behind))
-          ]));
-    }
+    grind (arith, cases_eq, get_or-set_same, set_in_xor, get_or-set_other)
 
 -- tiles that are spread, from one on to the last
 pub record AreTilesSpread (first : ℕ) (old new : List ℕ) : Type 0 where
@@ -261,13 +202,7 @@ pub record AreTilesSpread (first : ℕ) (old new : List ℕ) : Type 0 where
 -- the last one has none right of it
 pub last_tile : (first : ℕ) (marks : List ℕ) → first ≡ length marks / 64 - 1 → length marks % 64 ≡ 0
     → AreTilesSpread first marks marks
-last_tile first marks is whole = record {
-  size = refl;
-  done = λ row c low late within.
-      let none : length marks / 64 - (c / 64 + 1) ≡ 0 = omega (arith, is, whole, late, within) in
-      rw none (sym (differ_none (is_marked marks row c)));
-  kept = λ _ _. refl;
-}
+last_tile first marks is whole = grind (arith, differ_none)
 
 pub next_tile : (tile first : ℕ) (old between new : List ℕ) → first ≡ tile + 1 → 64 * first + 64 ≤ length old
     → length new ≡ length between → AreTilesSpread first old between → AreRowsSpread tile 64 between new
@@ -305,6 +240,4 @@ lowest_carried word carry i small one e =
     ∙ sym (ap (λ x. x == 1) (bit_at_lowest word ∙ one))
 
 pub nothing_carried : (word carry i : ℕ) → (word % 2 ≡ 1 → ⊥) → carry ≡ 0 → is_set carry i ≡ is_set word 0
-nothing_carried word carry i none e =
-    let even : word % 2 ≡ 0 = omega (arith, none) in
-    rw e (ap (λ x. x == 1) (bit_at-zero i)) ∙ sym (ap (λ x. x == 1) (bit_at_lowest word ∙ even))
+nothing_carried word carry i none e = grind (arith, bit_at-zero, bit_at_lowest)

@@ -1,6 +1,5 @@
 -- Masks as words: a mask that marks what an image blackens has the rows of its tile.
-use Rattle.std.proofs.Common.{◌≡◌, ◌↔◌, ℕ, ◌^◌, ◌<◌, Bool, true, false, IsTrue, nat_lt, ◌&&◌}
-use Rattle.std.proofs.Common.{get_or, subst, sym, ap, ◌∙◌, inl, inr, arith}
+use Rattle.std.proofs.Common.{rules, ◌≡◌, ◌↔◌, ℕ, ◌^◌, ◌<◌, Bool, false, IsTrue, get_or, sym, ◌∙◌, arith}
 use Rattle.std.specs.Int.{IsBitSet, bit_at}
 use Rattle.std.proofs.lemmas.Bool.{cases_lt, false≢true, le-ltb}
 use Rattle.std.proofs.lemmas.Grind.{same_number_lists}
@@ -16,8 +15,7 @@ use Rattle.cam_tiles.proofs.WordLemmas.{bit_at-word, word-lt}
 
 -- a bit by what tells whether it is set
 pub bit_told : (b : Bool) (n i : ℕ) → IsBitSet n i ↔ IsTrue b → bit_at n i ≡ bit_of b
-bit_told true n i told = grind (arith, set_is_one, told)
-bit_told false n i told = grind (arith, set_is_one, bit_at-lt, told)
+bit_told b n i told = grind (arith, set_is_one, bit_at-lt)
 
 -- what is not marked is not black
 neither : (P : Type 0) (b : Bool) → (P → ⊥) → b ≡ false → P ↔ IsTrue b
@@ -27,24 +25,12 @@ neither P b unmarked clear = (λ h. absurd (unmarked h), λ black. absurd (false
 place_told : (image : Spot → Bool) (g : Grid) (m : Marking) (row i : ℕ) → (IsMarked m i row → IsIn g i row)
     → (IsIn g i row → IsMarked m i row ↔ IsTrue (image (centre_in g i row)))
     → IsMarked m i row ↔ IsTrue (is_black_in image g row i)
-place_told image g m row i within marks =
-    let b = is_black_in image g row i in
-    elim (cases_lt row g.rows) [
-      | inl below ↦ elim (cases_lt i g.cols) [
-        | inl inside ↦ subst (λ shown. IsMarked m i row ↔ IsTrue shown) (shown_within image g row i below inside)
-            (marks (inside, below))
-        | inr past ↦ neither (IsMarked m i row) b (λ marked. omega (arith, past, (within marked).0)) (clear_past image g row i past)
-      ]
-      | inr past ↦ neither (IsMarked m i row) b (λ marked. omega (arith, past, (within marked).1))
-          (ap (λ shown. shown && (nat_lt i g.cols && image (centre_in g i row))) (le-ltb row g.rows past))
-    ]
+place_told image g m row i within marks = grind (arith, cases_lt, shown_within, neither, clear_past, le-ltb)
 
 -- a row is the word of its bits
 row_told : (bit : ℕ → Bool) (row : ℕ) → row < 2 ^ 64 → ((i : ℕ) → i < 64 → IsBitSet row i ↔ IsTrue (bit i))
     → row ≡ word bit 64
-row_told bit row fits set =
-    same_from_bits_below 64 row (word bit 64) fits (word-lt bit 64) (λ i near.
-    bit_told (bit i) row i (set i near) ∙ sym (bit_at-word bit 64 i near))
+row_told bit row fits set = search (rules, same_from_bits_below, word-lt, bit_told, bit_at-word)
 
 -- the rows of a mask that marks the centres where an image is black
 pub rows_of_marks : (image : Spot → Bool) (g : Grid) (m : Marking) → IsMask m

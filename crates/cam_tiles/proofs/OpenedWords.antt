@@ -29,8 +29,7 @@ none_opened tile columns words = record {
 }
 
 false_by : (b : Bool) → (b ≡ true → ⊥) → b ≡ false
-false_by true none = absurd (none refl)
-false_by false none = refl
+false_by b none = grind arith
 
 run_set : (bits column columns i : ℕ) → (IsBitSet bits i ↔ ((i < 64) × IsInRun 0 columns (column + i))) → i < 64
     → is_set bits i ≡ nat_lt (column + i) columns
@@ -43,10 +42,7 @@ run_set bits column columns i run small = elim (cases_lt (column + i) columns) [
 ]
 
 cleared : (was opens : Bool) → (was && not opens) ≡ (if opens then false else was)
-cleared true true = refl
-cleared true false = refl
-cleared false true = refl
-cleared false false = refl
+cleared was opens = grind arith
 
 pub next_opened : (tile columns row bits column k : ℕ) (old new : List ℕ) → AreOpened tile columns row old new → row < 64
     → column ≡ 64 * tile → k ≡ 64 * tile + row → bits < 2 ^ 64 → 64 * tile + 64 ≤ length old
@@ -85,18 +81,13 @@ next_opened tile columns row bits column k old new before low left is fits room 
 -- ---- tiles
 
 told : (opens : Bool) → (if not opens then Some false else None) ≡ (if opens then None else Some false)
-told true = refl
-told false = refl
+told opens = grind arith
 
 none_open : (a b c : Bool) → c ≡ false → true ≡ not (a && (b && c))
-none_open true true c none = rw none refl
-none_open true false c none = refl
-none_open false b c none = refl
+none_open a b c none = grind arith
 
 some_open : (a b c : Bool) → c ≡ true → (if a && b then false else true) ≡ not (a && (b && c))
-some_open true true c all = rw all refl
-some_open true false c all = refl
-some_open false b c all = refl
+some_open a b c all = grind arith
 
 -- those before one are open where they are dirty, and the others as they were
 pub record AreOpenBefore (tile columns rows : ℕ) (tiles : List Tile) (old new : List ℕ) : Type 0 where

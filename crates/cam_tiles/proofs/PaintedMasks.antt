@@ -1,6 +1,5 @@
 -- Marks as inks, also of masks that are merged.
-use Rattle.std.proofs.Common.{◌≡◌, ◌↔◌, ◌⊎◌, ℕ, Bool, true, false, not, ◌&&◌, ◌||◌, IsTrue, inl, inr, slice_index}
-use Rattle.std.proofs.Common.{refl, sym}
+use Rattle.std.proofs.Common.{arith, ◌≡◌, ◌↔◌, ◌⊎◌, ℕ, Bool, true, false, not, ◌&&◌, ◌||◌, IsTrue, slice_index}
 use Rattle.std.proofs.lemmas.Bool.{eq-eqb, eqb-true, false_from_ne_true, false≢true}
 use Rattle.cam_rows.proofs.SetBits.{set_is_one}
 use Rattle.cam_apertures.proofs.Painting.{through}
@@ -21,18 +20,13 @@ clear_if_unmarked m column row h = false_from_ne_true _ (λ dark. h (marked_if_d
 -- ---- tests that say the same
 
 pub same_test : (a b : Bool) → IsTrue a ↔ IsTrue b → a ≡ b
-same_test true b h = sym (h.0 refl)
-same_test false b h = sym (false_from_ne_true b (λ t. false≢true (h.1 t)))
+same_test a b h = grind (arith, false_from_ne_true, false≢true)
 
 added : (a b c : Bool) → IsTrue c ↔ (IsTrue a ⊎ IsTrue b) → c ≡ (a || b)
-added true b c h = h.1 (inl refl)
-added false b c h =
-    same_test c b ((λ t. elim (h.0 t) [ inl f ↦ absurd (false≢true f) | inr on ↦ on ]), (λ on. h.1 (inr on)))
+added a b c h = grind (arith, same_test, false≢true)
 
 cleared : (a b c : Bool) → IsTrue c ↔ (IsTrue a × (IsTrue b → ⊥)) → c ≡ (a && not b)
-cleared true true c h = false_from_ne_true c (λ t. (h.0 t).1 refl)
-cleared true false c h = h.1 (refl, λ f. false≢true f)
-cleared false b c h = false_from_ne_true c (λ t. false≢true (h.0 t).0)
+cleared a b c h = grind (arith, false_from_ne_true, false≢true)
 
 -- ---- inks that are merged
 
@@ -45,9 +39,7 @@ marked_is_dark m column row = (dark_if_marked m column row, marked_if_dark m col
 module _ (other old new : Marking) (column row : ℕ) (there : IsIn old.grid column row) where
   merged : (how : Join) → Merges how other old new
       → IsTrue (ink_of new column row) ↔ joined how (IsTrue (ink_of old column row)) (IsTrue (ink_of other column row))
-  merged how h =
-      joined_like how _ _ _ _ _ (marked_is_dark old column row) (marked_is_dark other column row)
-      (through (dark_is_marked new column row) (h.marks column row there))
+  merged how h = grind (arith, joined_like, marked_is_dark, through, dark_is_marked)
 
   pub added_ink : Merges Add other old new → ink_of new column row ≡ (ink_of old column row || ink_of other column row)
   added_ink h = added (ink_of old column row) (ink_of other column row) (ink_of new column row) (merged Add h)

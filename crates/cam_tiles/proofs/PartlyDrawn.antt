@@ -13,19 +13,14 @@ abbrev drawn : List ℕ → Tile → Tile
 drawn rows tile = Some (unwrap_or tile rows)
 
 kept_or_drawn : (rows : List ℕ) (old new : Tile) → new ≡ drawn rows old → IsKeptOrDrawn rows old new
-kept_or_drawn rows None new is = inr (refl, is)
-kept_or_drawn rows (Some kept) new is = inl is
+kept_or_drawn rows old new is = grind arith
 
 drawn_alike : (rows : List ℕ) (old new : Tile) → IsKeptOrDrawn rows old new → drawn rows new ≡ drawn rows old
-drawn_alike rows old new (inl same) = ap (drawn rows) same
-drawn_alike rows old new (inr was) = ap (drawn rows) was.1 ∙ sym (ap (drawn rows) was.0)
+drawn_alike rows old new it = grind arith
 
 kept_or_drawn_again : (rows : List ℕ) (old now new : Tile) → IsKeptOrDrawn rows old now → IsKeptOrDrawn rows now new
     → IsKeptOrDrawn rows old new
-kept_or_drawn_again rows old now new (inl same) (inl same') = inl (same' ∙ same)
-kept_or_drawn_again rows old now new (inl same) (inr was) = inr (sym same ∙ was.0, was.1)
-kept_or_drawn_again rows old now new (inr was) (inl same) = inr (was.0, same ∙ was.1)
-kept_or_drawn_again rows old now new (inr was) (inr was') = inr (was.0, was'.1)
+kept_or_drawn_again rows old now new it it' = grind arith
 
 module _ (draw : ℕ → List ℕ) where
   get_or-all_drawn_from : (first : ℕ) (tiles : List Tile) (k : ℕ) → k < length tiles

@@ -1,8 +1,7 @@
 -- PBM files: the bits of a byte, the bytes of a row, the rows of a file.
-use Rattle.std.proofs.Common.{◌≡◌, ℕ, zero, suc, ◌+◌, ◌*◌, ◌-◌, ◌/◌, ◌%◌, ◌^◌, ◌<◌, ◌≤◌, Bool, true, false, ◌&&◌}
-use Rattle.std.proofs.Common.{List, [], ◌∷◌, ◌++◌, length, get_or, set, take, map, All}
-use Rattle.std.proofs.Common.{refl, sym, ap, ◌∙◌, length-append, length-take-le}
-use Rattle.std.proofs.Common.{add-one, inl, inr, arith}
+use Rattle.std.proofs.Common.{rules, ◌≡◌, ℕ, zero, suc, ◌+◌, ◌*◌, ◌-◌, ◌/◌, ◌%◌, ◌^◌, ◌<◌, ◌≤◌, Bool, true, List, [], ◌∷◌, ◌++◌}
+use Rattle.std.proofs.Common.{length, get_or, set, take, map, All, refl, sym, ap, ◌∙◌, length-append, length-take-le, add-one}
+use Rattle.std.proofs.Common.{inl, inr, arith}
 use Rattle.std.specs.Fmt.{decimal}
 use Rattle.std.specs.Int.{bit_at}
 use Rattle.std.specs.List.{range_with_len, flat_map}
@@ -16,8 +15,7 @@ use Rattle.std.proofs.lemmas.List.FromFn.{length-map-range_with_len, get_or-map-
 use Rattle.cam_tiles.specs.Pbm.{header, bit_of, byte_of, bytes_across, padded, row_of, pbm, byte_at, IsPixelSet}
 
 pub bit_of-lt : (b : Bool) → bit_of b < 2
-bit_of-lt true = omega arith
-bit_of-lt false = omega arith
+bit_of-lt b = grind arith
 
 abbrev weighed : (ℕ → ℕ) → ℕ
 weighed b = 128 * b 0 + 64 * b 1 + 32 * b 2 + 16 * b 3 + 8 * b 4 + 4 * b 5 + 2 * b 6 + b 7
@@ -60,8 +58,7 @@ length-row_of black width = length-map-range_with_len (byte_in black width) 0 (b
 get_or-row_of : (black : ℕ → Bool) (width k : ℕ) → k < bytes_across width
     → get_or (row_of black width) k 0 ≡ byte_in black width k
 unfolding row_of
-get_or-row_of black width k h =
-    get_or-map-range_with_len (byte_in black width) 0 (bytes_across width) k k 0 h (omega arith)
+get_or-row_of black width k h = grind (arith, get_or-map-range_with_len)
 
 -- pieces of one length, one after another
 length-pieces : (f : ℕ → List ℕ) (m : ℕ) → ((k : ℕ) → length (f k) ≡ m) → (a n : ℕ)
@@ -73,12 +70,7 @@ length-pieces f m h a (suc n) =
 get_or-pieces : (f : ℕ → List ℕ) (m : ℕ) → ((k : ℕ) → length (f k) ≡ m) → (a n r j : ℕ) → r < n → j < m
     → get_or (flat_map f (range_with_len a n)) (r * m + j) 0 ≡ get_or (f (a + r)) j 0
 get_or-pieces f m h a zero r j inside within = absurd (omega arith)
-get_or-pieces f m h a (suc n) zero j inside within =
-    let at : 0 * m + j ≡ j = omega arith in
-    let piece : a ≡ a + 0 = omega arith in
-    ap (λ i. get_or (f a ++ flat_map f (range_with_len (a + 1) n)) i 0) at
-    ∙ get_or_append_left (f a) (flat_map f (range_with_len (a + 1) n)) 0 j (omega (arith, h a))
-    ∙ ap (λ i. get_or (f i) j 0) piece
+get_or-pieces f m h a (suc n) zero j inside within = grind (arith, get_or_append_left)
 get_or-pieces f m h a (suc n) (suc r) j inside within =
     let at : suc r * m + j ≡ length (f a) + (r * m + j) = omega (arith, h a) in
     let piece : a + 1 + r ≡ a + suc r = omega arith in
@@ -99,15 +91,12 @@ length-row_in black width row = length-row_of (λ column. black column row) widt
 
 length-rows_of : (black : ℕ → ℕ → Bool) (width height : ℕ)
     → length (rows_of black width height) ≡ height * bytes_across width
-length-rows_of black width height =
-    length-pieces (row_in black width) (bytes_across width) (length-row_in black width) 0 height
+length-rows_of black width height = grind (arith, length-pieces, length-row_in)
 
 pub length-pbm : (black : ℕ → ℕ → Bool) (width height : ℕ)
     → length (pbm black width height) ≡ length (header width height) + height * bytes_across width
 unfolding pbm
-length-pbm black width height =
-    length-append (header width height) (rows_of black width height)
-    ∙ ap (λ n. length (header width height) + n) (length-rows_of black width height)
+length-pbm black width height = grind (arith, length-append, length-rows_of)
 
 pub take-pbm : (black : ℕ → ℕ → Bool) (width height : ℕ)
     → take (length (header width height)) (pbm black width height) ≡ header width height
@@ -136,37 +125,22 @@ byte_at-pbm black width height column row inside below =
 pub bit_at-pbm : (black : ℕ → ℕ → Bool) (width height column row : ℕ) → column < 8 * bytes_across width → row < height
     → bit_at (byte_at (pbm black width height) width height column row) (7 - column % 8)
     ≡ bit_of (padded (λ column. black column row) width column)
-bit_at-pbm black width height column row inside below =
-    let here : 8 * (column / 8) + column % 8 ≡ column = omega arith in
-    ap (λ n. bit_at n (7 - column % 8)) (byte_at-pbm black width height column row (omega arith) below)
-    ∙ bit_at-byte_of (λ i. padded (λ column. black column row) width (8 * (column / 8) + i)) (column % 8) (omega arith)
-    ∙ ap (λ i. bit_of (padded (λ column. black column row) width i)) here
+bit_at-pbm black width height column row inside below = grind (arith, byte_at-pbm, bit_at-byte_of)
 
 is_set : (b : Bool) → bit_of b ≡ 1 → b ≡ true
-is_set true h = refl
-is_set false h = absurd (omega arith)
+is_set b h = grind arith
 
 -- a pixel's bit is set where the picture is black
 pub pixel_set : (black : ℕ → ℕ → Bool) (width height column row : ℕ) → column < width → row < height
     → (IsPixelSet (pbm black width height) width height column row → black column row ≡ true)
     × (black column row ≡ true → IsPixelSet (pbm black width height) width height column row)
-pixel_set black width height column row inside below =
-    let bit = bit_at-pbm black width height column row (omega arith) below in
-    let shown : bit_of (padded (λ column. black column row) width column) ≡ bit_of (black column row)
-    = ap (λ b. bit_of (b && black column row)) (lt-ltb column width inside) in (
-      (λ h. is_set (black column row) (sym (bit ∙ shown) ∙ h)),
-      (λ h. bit ∙ shown ∙ ap bit_of h),
-    )
+pixel_set black width height column row inside below = grind (arith, bit_at-pbm, lt-ltb, is_set)
 
 -- no bit behind the end of a row is set
 pub padding_clear : (black : ℕ → ℕ → Bool) (width height column row : ℕ)
     → width ≤ column → column < 8 * bytes_across width → row < height
     → IsPixelSet (pbm black width height) width height column row → ⊥
-padding_clear black width height column row outside inside below h =
-    let bit = bit_at-pbm black width height column row inside below in
-    let clear : bit_of (padded (λ column. black column row) width column) ≡ 0
-    = ap (λ b. bit_of (b && black column row)) (le-ltb column width outside) in
-    absurd (omega (arith, sym h ∙ bit ∙ clear))
+padding_clear black width height column row outside inside below h = grind (arith, bit_at-pbm, le-ltb)
 
 abbrev pub AreBytes : List ℕ → Type 0
 AreBytes file = All (λ byte. byte < 256) file
@@ -183,8 +157,7 @@ joined a b = All-append (λ byte. byte < 256) a b
 all_bytes_pieces : (f : ℕ → List ℕ) → ((k : ℕ) → AreBytes (f k)) → (a n : ℕ)
     → AreBytes (flat_map f (range_with_len a n))
 all_bytes_pieces f h a zero = All-nil (λ byte. byte < 256)
-all_bytes_pieces f h a (suc n) =
-    joined (f a) (flat_map f (range_with_len (a + 1) n)) (h a) (all_bytes_pieces f h (a + 1) n)
+all_bytes_pieces f h a (suc n) = grind (arith, joined, all_bytes_pieces f h (a + 1) n)
 
 all_bytes_decimal : (n : ℕ) → n < 2 ^ 64 → AreBytes (decimal n)
 all_bytes_decimal n h =
@@ -207,9 +180,7 @@ all_bytes_header width height w h =
 pub all_bytes_pbm : (black : ℕ → ℕ → Bool) (width height : ℕ) → width < 2 ^ 64 → height < 2 ^ 64
     → AreBytes (pbm black width height)
 unfolding pbm
-all_bytes_pbm black width height w h =
-    joined (header width height) (rows_of black width height) (all_bytes_header width height w h)
-    (all_bytes_pieces (row_in black width) (λ row. all_bytes_row (λ column. black column row) width) 0 height)
+all_bytes_pbm black width height w h = search (rules, joined, all_bytes_header, all_bytes_pieces, all_bytes_row)
 
 -- one more row, and one more byte of a row
 range_more : (a n : ℕ) → range_with_len a (suc n) ≡ range_with_len a n ++ (a + n) ∷ []
@@ -250,14 +221,7 @@ AreEights f from count eights =
 pub more_eights : (f : ℕ → ℕ) (n : ℕ) (eights : List (List ℕ)) (bytes : List ℕ) → n < length eights → length bytes ≡ 8
     → ((i : ℕ) → i < 8 → get_or bytes i 0 ≡ f (8 * n + i)) → AreEights f 0 n eights
     → AreEights f 0 (n + 1) (set eights n bytes)
-more_eights f n eights bytes inside eight told so_far k below =
-    elim (cases_lt k n) [
-      | inl before ↦ rw (get_or-set_other eights n k bytes [] (omega arith)) (so_far k before)
-      | inr last ↦
-          (let this : k ≡ n = omega arith in
-          rw (get_or-set_at eights n k bytes [] this inside)
-          (eight, λ i low. told i low ∙ ap f (omega arith)))
-    ]
+more_eights f n eights bytes inside eight told so_far k below = grind (arith, cases_lt, get_or-set_other, get_or-set_at)
 
 eights_at : (f : ℕ → ℕ) (from count j : ℕ) (eights : List (List ℕ)) → count ≤ length eights → j < 8 * count
     → AreEights f from count eights → get_or (flat_map (λ bytes. bytes) eights) j 0 ≡ f (from + j)

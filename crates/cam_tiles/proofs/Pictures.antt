@@ -1,8 +1,6 @@
 -- Clean tiles show the image: from the beginning on, where tiles are drawn, and where boxes touch what changes.
-use Rattle.std.proofs.Common.{◌≡◌, ℕ, zero, suc, ◌+◌, ◌/◌, ◌%◌, ◌<◌, Bool, true, false, cond, ◌&&◌}
-use Rattle.std.proofs.Common.{List, [], ◌∷◌, nat_eq, nat_lt, All}
-use Rattle.std.proofs.Common.{Some, None, option_map}
-use Rattle.std.proofs.Common.{refl, sym, ap, ap₂, subst, ◌∙◌, inl, inr, arith}
+use Rattle.std.proofs.Common.{rules, ◌≡◌, ℕ, zero, suc, ◌+◌, ◌/◌, ◌%◌, ◌<◌, Bool, true, false, cond, ◌&&◌, List, [], ◌∷◌, nat_eq}
+use Rattle.std.proofs.Common.{nat_lt, All, Some, None, option_map, sym, ap, ap₂, subst, ◌∙◌, inl, inr, arith}
 use Rattle.std.specs.Int.{bit_at}
 use Rattle.std.specs.List.{list_any, range_with_len}
 use Rattle.std.proofs.lemmas.Bool.{and_from, and_parts, or_parts, ltb-true, lt-ltb, both_ways}
@@ -11,21 +9,18 @@ use Rattle.std.proofs.lemmas.List.FromFn.{get_or-map-range_with_len}
 use Rattle.std.proofs.lemmas.Nat.{div-mul-add, mod-mul-add, mul-add-lt}
 use Rattle.cam_units.specs.Boxes.{Holds}
 use Rattle.cam_units.specs.declared.bounds.Bounds.{Bounds}
-use Rattle.cam_units.specs.declared.bounds.Bounds.TheVariants.{Empty, Closed}
 use Rattle.cam_units.specs.declared.point.Spot.{Spot}
 use Rattle.cam_tiles.specs.declared.grid.Grid.{Grid}
 use Rattle.cam_tiles.specs.declared.window.Window.{Window}
 use Rattle.cam_tiles.specs.Picture.{centre_of, pixels_of, plot_of}
-use Rattle.cam_tiles.specs.Tables.{IsTable, Table, Tile, blank, dirty_count, is_pixel_black}
-use Rattle.cam_tiles.specs.Tables.{pbm_of, pixel_of, redrawn, tile_in}
+use Rattle.cam_tiles.specs.Tables.{IsTable, Table, Tile, blank, dirty_count, is_pixel_black, pbm_of, pixel_of, redrawn, tile_in}
 use Rattle.cam_tiles.specs.TileLaws.{AgreeOutside, IsPictured, PictureLaw}
 use Rattle.cam_tiles.specs.Tiles.{across, centre_in, columns, tiles_down, grid_of, is_black_in, first_column, rows}
 use Rattle.cam_tiles.specs.Tiles.{tile_of, tile_rows, tiles_of, top, word}
 use Rattle.cam_tiles.specs.Touched.{holds, box_touched, touched_by, touches}
 use Rattle.cam_tiles.proofs.GridLemmas.{centre_in_grid}
 use Rattle.cam_tiles.proofs.SameFiles.{same_map, same_pbm, same_under}
-use Rattle.cam_tiles.proofs.TableFacts.{black_in_tile, clean_tile, no_tile_in_blank}
-use Rattle.cam_tiles.proofs.TableFacts.{tile_at_drawn, touched_window, untouched}
+use Rattle.cam_tiles.proofs.TableFacts.{black_in_tile, clean_tile, no_tile_in_blank, tile_at_drawn, touched_window, untouched}
 use Rattle.cam_tiles.proofs.WindowLemmas.{from_le}
 use Rattle.cam_tiles.proofs.TablePixels.{bit_in}
 use Rattle.cam_tiles.proofs.WordLemmas.{same_word, word_bit}
@@ -45,9 +40,7 @@ pictured_redrawn image n t shown k lines is =
 none_in_range : (test : ℕ → Bool) (a n i : ℕ) → list_any test (range_with_len a n) ≡ false → i < n
     → test (a + i) ≡ false
 none_in_range test a zero i none within = absurd (omega arith)
-none_in_range test a (suc n) zero none within =
-    let here : a + 0 ≡ a = omega arith in
-    ap test here ∙ (or_parts _ _ none).0
+none_in_range test a (suc n) zero none within = grind (arith, or_parts)
 none_in_range test a (suc n) (suc i) none within =
     let next : a + suc i ≡ a + 1 + i = omega arith in
     ap test next ∙ none_in_range test (a + 1) n i (or_parts _ _ none).1 (omega arith)
@@ -64,10 +57,7 @@ centre_outside w box k column row none within below =
 
 -- a place of the box passes its test
 held : (box : Bounds) (s : Spot) → Holds box s → holds box s ≡ true
-held Empty s inside = elim inside [ ]
-held (Closed low high) s inside =
-    and_from _ _ (and_from _ _ (from_le _ _ inside.left) (from_le _ _ inside.right))
-    (and_from _ _ (from_le _ _ inside.below) (from_le _ _ inside.above))
+held box s inside = grind (arith, and_from, from_le)
 
 -- images that are the same at the centres of a grid have one tile there
 same_tile : (image other : Spot → Bool) (g : Grid)
@@ -106,18 +96,10 @@ pictured_touched image other boxes t agree shown k lines is =
 
 -- the place of a pixel in its tile
 left_of_tile : (w : Window) (column row : ℕ) → column < w.width → first_column w (tile_of w column row) + column % 64 ≡ column
-left_of_tile w column row within =
-    let inside : column / 64 < across w = omega arith in
-    let place : tile_of w column row % across w ≡ column / 64 =
-    mod-mul-add (row / 64) (across w) (column / 64) inside in
-    omega arith
+left_of_tile w column row within = grind (arith, mod-mul-add)
 
 top_of_tile : (w : Window) (column row : ℕ) → column < w.width → top w (tile_of w column row) + row % 64 ≡ row
-top_of_tile w column row within =
-    let inside : column / 64 < across w = omega arith in
-    let place : tile_of w column row / across w ≡ row / 64 =
-    div-mul-add (row / 64) (across w) (column / 64) inside in
-    omega arith
+top_of_tile w column row within = grind (arith, div-mul-add)
 
 -- a bit of a tile that shows the image
 bit_shown : (image : Spot → Bool) (w : Window) (column row : ℕ) → column < w.width → row < w.height
@@ -149,21 +131,12 @@ record IsRead (b : Bool) (tile : Tile) (test : List ℕ → Bool) (black : Bool)
 
 known : (b : Bool) (tile : Tile) (test : List ℕ → Bool) (black : Bool)
     → cond b (option_map test tile) None ≡ Some black → IsRead b tile test black
-known true None test black is = absurd (cc)
-known true (Some lines) test black is = record { inside = refl; lines = lines; clean = refl; tested = (cc) }
-known false tile test black is = absurd (cc)
+known b tile test black is = grind arith
 
 -- a pixel that is known is black where the image is
 pixel_shown : (image : Spot → Bool) (t : Table) (column row : ℕ) (black : Bool) → IsTable t → IsPictured image t
     → pixel_of t column row ≡ Some black → black ≡ image (centre_of t.window column row)
-pixel_shown image t column row black table shown is =
-    let w = t.window in
-    let k = tile_of w column row in
-    let test = bit_in column row in
-    let read = known (nat_lt column w.width && nat_lt row w.height) (tile_in t k) test black is in
-    let inside = and_parts (nat_lt column w.width) (nat_lt row w.height) read.inside in
-    sym read.tested ∙ ap test (shown k read.lines read.clean)
-    ∙ bit_shown image w column row (ltb-true _ _ inside.0) (ltb-true _ _ inside.1)
+pixel_shown image t column row black table shown is = grind (arith, bit_in, known, and_parts, bit_shown, ltb-true)
 
 -- and each is known where all tiles are clean
 black_shown : (image : Spot → Bool) (t : Table) (column row : ℕ) → IsTable t → IsPictured image t → dirty_count t ≡ 0
@@ -186,11 +159,4 @@ clean_file image t table shown clean =
     (λ column row within below. black_shown image t column row table shown clean within below)
 
 pub picture_law : PictureLaw
-picture_law =
-    record {
-      begin = pictured_blank;
-      draw = pictured_redrawn;
-      change = pictured_touched;
-      pixels = pixel_shown;
-      plot = clean_file;
-    }
+picture_law = search (rules, pictured_blank, pictured_redrawn, pictured_touched, pixel_shown, clean_file)

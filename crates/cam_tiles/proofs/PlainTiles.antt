@@ -1,6 +1,6 @@
 -- The plain tile: what it gains of a leaf, and the rows that are dark once all leaves are painted.
-use Rattle.std.proofs.Common.{◌≡◌, ℕ, Bool, true, false, not, ◌&&◌, ◌||◌, cond, IsTrue, List, [], ◌∷◌}
-use Rattle.std.proofs.Common.{Option, None, Some, refl, sym, ap, subst, ◌∙◌}
+use Rattle.std.proofs.Common.{arith, ◌≡◌, ℕ, Bool, true, false, not, ◌&&◌, ◌||◌, cond, IsTrue, List, [], ◌∷◌, Option, None, Some}
+use Rattle.std.proofs.Common.{sym, ap, subst, ◌∙◌}
 use Rattle.std.specs.Option.{option_or, unwrap_or}
 use Rattle.std.proofs.lemmas.Bool.{false≢true}
 use Rattle.cam_apertures.proofs.Painting.{through}
@@ -39,19 +39,11 @@ kept p dark column row there h = dark_if_marked p.0 column row (dark column row 
 -- on a pixel that is decided or not, and dark or not: what a leaf covers is new where nothing was decided
 dark_leaf : (d k on : Bool) → (IsTrue k → IsTrue d)
     → cond (d || (on && not d)) (Some (k || (on && not d))) None ≡ option_or (cond d (Some k) None) (cond on (Some true) None)
-dark_leaf true true on within = refl
-dark_leaf true false true within = refl
-dark_leaf true false false within = refl
-dark_leaf false true on within = absurd (false≢true (within refl))
-dark_leaf false false true within = refl
-dark_leaf false false false within = refl
+dark_leaf d k on within = grind (arith, false≢true)
 
 clear_leaf : (d k on : Bool) → (IsTrue k → IsTrue d)
     → cond (d || (on && not d)) (Some k) None ≡ option_or (cond d (Some k) None) (cond on (Some false) None)
-clear_leaf true k on within = refl
-clear_leaf false true on within = absurd (false≢true (within refl))
-clear_leaf false false true within = refl
-clear_leaf false false false within = refl
+clear_leaf d k on within = grind (arith, false≢true)
 
 -- the marks of a leaf, and those of them that are new
 module _ (p : Tile) (shape : Shape) (marks new decided : Marking) (dark : IsKept p)
@@ -59,13 +51,7 @@ module _ (p : Tile) (shape : Shape) (marks new decided : Marking) (dark : IsKept
     (more : Merges Add new p.0 decided) where
   new_ink : (column row : ℕ) → IsIn p.0.grid column row
       → ink_of new column row ≡ (covers shape (centre_in p.0.grid column row) && not (ink_of p.0 column row))
-  new_ink column row there =
-      let s = centre_in p.0.grid column row in
-      let law = cover_law shape s in
-      cleared_ink p.0 marks new column row (subst (λ (g : Grid). IsIn g column row) (sym covered.grid) there) rest
-      ∙ ap (λ on. on && not (ink_of p.0 column row))
-      (same_test (ink_of marks column row) (covers shape s)
-      (through (dark_is_marked marks column row) (through (covered.marks column row there) (law.1, law.0))))
+  new_ink column row there = grind (arith, cover_law, cleared_ink, same_test, through, dark_is_marked)
 
   decided_ink : (column row : ℕ) → IsIn p.0.grid column row → ink_of decided column row
       ≡ (ink_of p.0 column row || (covers shape (centre_in p.0.grid column row) && not (ink_of p.0 column row)))
@@ -77,14 +63,7 @@ module _ (p : Tile) (shape : Shape) (marks new decided : Marking) (dark : IsKept
       → tile_ink (decided, after) column row ≡ option_or (tile_ink p column row)
       (cond (covers shape (centre_in p.0.grid column row)) (Some is_dark) None)) where
     painted : PaintsTile p (leaf shape is_dark ∷ []) (decided, after)
-    painted = record {
-      pixels = λ column row. (
-        (λ there. subst (λ (g : Grid). IsIn g column row) more.grid there),
-        (λ there. subst (λ (g : Grid). IsIn g column row) (sym more.grid) there),
-      );
-      places = ap (λ (g : Grid). centre_in g) more.grid;
-      inks = inks;
-    }
+    painted = grind arith
 
   pub dark_painted : (after : Marking) → p.1.grid ≡ p.0.grid → Merges Add new p.1 after
       → PaintsTile p (leaf shape true ∷ []) (decided, after)
@@ -100,19 +79,13 @@ module _ (p : Tile) (shape : Shape) (marks new decided : Marking) (dark : IsKept
       ∙ dark_leaf d k on (kept p dark column row there))
 
   pub clear_painted : PaintsTile p (leaf shape false ∷ []) (decided, p.1)
-  clear_painted =
-      painted false p.1 (λ column row there.
-      ap (λ b. cond b (Some (ink_of p.1 column row)) None) (decided_ink column row there)
-      ∙ clear_leaf (ink_of p.0 column row) (ink_of p.1 column row) (covers shape (centre_in p.0.grid column row))
-      (kept p dark column row there))
+  clear_painted = grind (arith, decided_ink, clear_leaf, kept)
 
 -- ---- all leaves
 
 dark_told : (d k black : Bool) (ink : Option Bool) → (IsTrue k → IsTrue d) → cond d (Some k) None ≡ ink
     → black ≡ unwrap_or ink false → k ≡ black
-dark_told true k black ink within is law = ap (λ o. unwrap_or o false) is ∙ sym law
-dark_told false true black ink within is law = absurd (false≢true (within refl))
-dark_told false false black ink within is law = ap (λ o. unwrap_or o false) is ∙ sym law
+dark_told d k black ink within is law = grind (arith, false≢true)
 
 -- the dark marks of a tile that was blank are the rows of the leaves' image
 pub dark_rows : (leaves : List Leaf) (g : Grid) (p q : Tile) → p.0.grid ≡ g → IsBlank p.0 → PaintsTile p leaves q

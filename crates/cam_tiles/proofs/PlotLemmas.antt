@@ -1,6 +1,5 @@
 -- Two files that show one image are one file.
-use Rattle.std.proofs.Common.{◌≡◌, ℕ, zero, suc, ◌+◌, ◌*◌, ◌-◌, ◌/◌, ◌%◌, ◌<◌, Bool, List, length, get_or}
-use Rattle.std.proofs.Common.{refl, sym, ap, ◌∙◌, inl, inr, arith}
+use Rattle.std.proofs.Common.{◌≡◌, ℕ, ◌+◌, ◌*◌, ◌-◌, ◌/◌, ◌%◌, ◌<◌, Bool, List, length, get_or, sym, ap, ◌∙◌, inl, inr, arith}
 use Rattle.std.specs.Int.{bit_at}
 use Rattle.std.proofs.Math.Nat.{mod-lt, div-lt_iff_lt-mul}
 use Rattle.std.proofs.lemmas.Bool.{cases_lt}
@@ -16,10 +15,7 @@ use Rattle.cam_tiles.proofs.PictureLemmas.{plot_law}
 use Rattle.cam_tiles.proofs.WindowLemmas.{accepted}
 
 same_bit : (a b : ℕ) → a < 2 → b < 2 → (a ≡ 1 → b ≡ 1) → (b ≡ 1 → a ≡ 1) → a ≡ b
-same_bit zero zero p q to from = refl
-same_bit zero (suc b) p q to from = absurd (omega (arith, from (omega arith)))
-same_bit (suc a) zero p q to from = absurd (omega (arith, to (omega arith)))
-same_bit (suc a) (suc b) p q to from = omega arith
+same_bit a b p q to from = grind arith
 
 module _ (w : Window) (image : Spot → Bool) (f g : List ℕ)
     (of_f : Shows f w image) (of_g : Shows g w image) (wide : 0 < w.width) where
@@ -34,14 +30,7 @@ module _ (w : Window) (image : Spot → Bool) (f g : List ℕ)
   bit file column row = bit_at (byte_at file w.width w.height column row) (7 - column % 8)
 
   same_pixel : (column row : ℕ) → column < 8 * across → row < w.height → bit f column row ≡ bit g column row
-  same_pixel column row inside below = elim (cases_lt column w.width) [
-    | inl shown ↦ same_bit (bit f column row) (bit g column row) (bit_at-lt _ _) (bit_at-lt _ _)
-        (λ set. (of_g.pixels column row shown below).1 ((of_f.pixels column row shown below).0 set))
-        (λ set. (of_f.pixels column row shown below).1 ((of_g.pixels column row shown below).0 set))
-    | inr past ↦ same_bit (bit f column row) (bit g column row) (bit_at-lt _ _) (bit_at-lt _ _)
-        (λ set. absurd (of_f.padding column row past inside below set))
-        (λ set. absurd (of_g.padding column row past inside below set))
-  ]
+  same_pixel column row inside below = grind (arith, cases_lt, same_bit, bit_at-lt)
 
   -- the bytes of the rows
   same_byte : (row k : ℕ) → k < across → row < w.height → start + row * across + k < length f

@@ -16,23 +16,11 @@ pub record AreTakenOut (old other new : Runs) (end : ℕ) : Type 0 where
 -- what is left of a run without another that begins no later, or ends no earlier
 pub cut_first : (first end out until new : ℕ) → out ≤ first → new ≡ max first until → (k : ℕ)
     → IsInRun new end k ↔ (IsInRun first end k × (IsInRun out until k → ⊥))
-cut_first first end out until new early is k = (
-  (λ on. ((omega (arith, is, on.0), on.1), λ there. absurd (omega (arith, is, on.0, there.1)))),
-  (λ both. elim (cases_lt k until) [
-    | inl less ↦ absurd (both.1 (omega (arith, early, both.0.0), less))
-    | inr most ↦ (omega (arith, is, both.0.0, most), both.0.1)
-  ]),
-)
+cut_first first end out until new early is k = grind (arith, cases_lt)
 
 pub cut_end : (first end out until new : ℕ) → end ≤ until → new ≡ min end out → (k : ℕ)
     → IsInRun first new k ↔ (IsInRun first end k × (IsInRun out until k → ⊥))
-cut_end first end out until new late is k = (
-  (λ on. ((on.0, omega (arith, is, on.1)), λ there. absurd (omega (arith, is, on.1, there.0)))),
-  (λ both. elim (cases_lt k out) [
-    | inl less ↦ (both.0.0, omega (arith, is, both.0.1, less))
-    | inr most ↦ absurd (both.1 (most, omega (arith, late, both.0.1)))
-  ]),
-)
+cut_end first end out until new late is k = grind (arith, cases_lt)
 
 module _ (old other now next : Runs) (row : ℕ) (before : AreTakenOut old other now row) (band : next.band ≡ now.band)
     (within : (other.band.first ≤ row) × (row < other.band.end))

@@ -1,7 +1,6 @@
 -- Columns of runs, by the bits of masks.
-use Rattle.std.proofs.Common.{ap, sym, subst, ◌∙◌}
-use Rattle.std.proofs.Common.{◌≡◌, ◌↔◌, ℕ, ◌+◌, ◌-◌, ◌<◌, ◌≤◌, ℤ, pos, ◌+ℤ◌, ◌-ℤ◌, ◌*ℤ◌, ◌≤ℤ◌}
-use Rattle.std.proofs.Common.{List, length, slice_index, arith}
+use Rattle.std.proofs.Common.{ap, sym, subst, ◌∙◌, ◌≡◌, ◌↔◌, ℕ, ◌+◌, ◌-◌, ◌<◌, ◌≤◌, ℤ, pos, ◌+ℤ◌, ◌-ℤ◌, ◌*ℤ◌, ◌≤ℤ◌, List, length}
+use Rattle.std.proofs.Common.{slice_index, arith}
 use borrow.Rule.Slice.PartMut.{mid_of, put_mid}
 use Rattle.cam_units.specs.Board.{IsOnBoard}
 use Rattle.cam_units.specs.declared.point.Point.{Point}
@@ -30,10 +29,7 @@ without_rows rows r clear = omega (arith, clear.low)
 
 -- runs that hold nothing
 pub tells_nothing : (g : Grid) (columns : ℕ) (r : Runs) → IsClear r → Tells g columns (λ s. ⊥) r
-tells_nothing g columns r clear = record {
-  fits = without_rows g.rows r clear;
-  each = λ column row _ _. ((λ on. clear.none row column on), (λ held. absurd held));
-}
+tells_nothing g columns r clear = grind (arith, without_rows)
 
 -- rows of a grid at some heights, as they are seen from a point
 abbrev pub IsBand : Grid → Point → Heights → ℕ → ℕ → Type 0
@@ -44,13 +40,7 @@ IsBand g at h first end =
 pub tells_none : (g : Grid) (columns first end : ℕ) (at : Point) (h : Heights) (IsHeld : Spot → Type 0) (r : Runs)
     → end ≤ first → IsBand g at h first end → IsClear r
     → Tells g columns (λ s. IsHeld (relative at s) × IsWithin h (relative at s)) r
-tells_none g columns first end at h IsHeld r empty rows clear = record {
-  fits = without_rows g.rows r clear;
-  each = λ column row _ within. (
-    (λ on. absurd (clear.none row column on)),
-    (λ held. let inside = (rows row within).1 held.1 in absurd (omega (arith, empty, inside.0, inside.1))),
-  );
-}
+tells_none g columns first end at h IsHeld r empty rows clear = grind (arith, without_rows)
 
 -- the rows below one of a grid that goes on to the right
 pub wide_below : (g : Grid) (columns n : ℕ) (at : Point) (top : Centres) (first : ℕ)
@@ -159,14 +149,7 @@ no_columns : (others : Runs) (firsts ends : List ℕ) (row column : ℕ) → oth
     → length firsts ≡ others.band.end - others.band.first → length ends ≡ others.band.end - others.band.first
     → ((k : ℕ) → k < length firsts → slice_index ends k ≤ slice_index firsts k)
     → HasColumn (in_band_of others firsts ends) row column → ⊥
-no_columns others firsts ends row column some long long_ends firsts_size ends_size none on =
-    let first = others.band.first in
-    let end = others.band.end in
-    let here = rw (
-      part_at first end others.firsts firsts some long firsts_size row on.0 on.1,
-      part_at first end others.ends ends some long_ends ends_size row on.0 on.1,
-    ) at on.2 in
-    omega (arith, none (row - first) (omega (arith, firsts_size, on.0, on.1)), here.0, here.1)
+no_columns others firsts ends row column some long long_ends firsts_size ends_size none on = grind (arith, part_at)
 
 pub finds_none : (g : Grid) (columns : ℕ) (IsHeld : Spot → Type 0) (others : Runs) (firsts ends : List ℕ)
     → others.band.first < others.band.end → others.band.end ≤ length others.firsts → others.band.end ≤ length others.ends
@@ -187,14 +170,7 @@ pub tells_whole : (g : Grid) (columns : ℕ) (at : Point) (h : Heights) (IsHeld 
     → ((s : Spot) → IsHeld s → IsWithin h s)
     → Tells g columns (λ s. IsHeld (relative at s) × IsWithin h (relative at s)) r
     → Tells g columns (λ s. IsHeld (relative at s)) r
-tells_whole g columns at h IsHeld r heights told = record {
-  fits = told.fits;
-  each = λ column row near within.
-      let here = told.each column row near within in (
-        (λ on. (here.0 on).0),
-        (λ held. here.1 (held, heights (relative at (centre_in g column row)) held)),
-      );
-}
+tells_whole g columns at h IsHeld r heights told = grind arith
 
 -- ---- rows that go on to the right
 

@@ -1,6 +1,6 @@
 -- Inks that are taken by runs.
-use Rattle.std.proofs.Common.{◌≡◌, ◌↔◌, ◌⊎◌, ℕ, ◌+◌, ◌*◌, ◌/◌, ◌%◌, ◌<◌, ◌≤◌, Bool, true, false, ◌&&◌, ◌||◌, not, nat_le, nat_lt}
-use Rattle.std.proofs.Common.{List, length, slice_index, slice_set, Option, Some, None, IsSome, IsTrue, refl, sym, ap, subst, ◌∙◌, inl, inr, arith}
+use Rattle.std.proofs.Common.{◌≡◌, ◌↔◌, ◌⊎◌, ℕ, ◌+◌, ◌*◌, ◌/◌, ◌%◌, ◌<◌, ◌≤◌, Bool, ◌&&◌, ◌||◌, not, nat_le, nat_lt}
+use Rattle.std.proofs.Common.{List, length, slice_index, slice_set, Option, IsSome, IsTrue, refl, sym, subst, inl, inr, arith}
 use Rattle.std.proofs.Common.{get_or-set_other, get_or-set_same}
 use Rattle.std.specs.Int.{IsBitSet}
 use Rattle.std.specs.Option.{option_or}
@@ -21,43 +21,25 @@ use Rattle.cam_tiles.proofs.TakenInks.{kept_set}
 -- ---- tests
 
 pub span_told : (first end k : ℕ) → IsTrue (nat_le first k && nat_lt k end) ↔ IsInRun first end k
-span_told first end k = (
-  (λ on. let h = and_parts _ _ on in (leb-true _ _ h.0, ltb-true _ _ h.1)),
-  (λ h. and_from _ _ (le-leb _ _ h.0) (lt-ltb _ _ h.1)),
-)
+span_told first end k = grind (arith, and_parts, leb-true, ltb-true, and_from, le-leb, lt-ltb)
 
 pub row_told : (of first end row column : ℕ) → IsTrue (in_row of first end row column) ↔ ((row ≡ of) × IsInRun first end column)
-row_told of first end row column = (
-  (λ on. let h = and_parts _ _ on in (eqb-true _ _ h.0, (span_told first end column).0 h.1)),
-  (λ h. and_from _ _ (eq-eqb _ _ h.0) ((span_told first end column).1 h.1)),
-)
+row_told of first end row column = grind (arith, and_parts, eqb-true, span_told, and_from, eq-eqb)
 
 pub runs_told : (r : Runs) (row column : ℕ) → IsTrue (in_runs r row column) ↔ HasColumn r row column
-runs_told r row column = (
-  (λ on.
-      let h = and_parts _ _ on in
-      let band = (span_told _ _ _).0 h.0 in
-      (band.0, band.1, (span_told _ _ _).0 h.1)),
-  (λ h. and_from _ _ ((span_told _ _ _).1 (h.0, h.1)) ((span_told _ _ _).1 h.2)),
-)
+runs_told r row column = grind (arith, and_parts, span_told, and_from)
 
 pub or_told : (a b : Bool) → IsTrue (a || b) ↔ (IsTrue a ⊎ IsTrue b)
-or_told true b = ((λ on. inl refl), (λ either. refl))
-or_told false b = ((λ on. inr on), (λ either. elim either [ inl off ↦ absurd (false≢true off) | inr on ↦ on ]))
+or_told a b = grind (arith, false≢true)
 
 rest_told : (a b c : Bool) → IsTrue (a && not (b || c)) ↔ (IsTrue a × (IsTrue b → ⊥) × (IsTrue c → ⊥))
-rest_told true false false = ((λ on. (refl, (λ h. false≢true h), (λ h. false≢true h))), (λ h. refl))
-rest_told true true c = ((λ off. absurd (false≢true off)), (λ h. absurd (h.1 refl)))
-rest_told true false true = ((λ off. absurd (false≢true off)), (λ h. absurd (h.2 refl)))
-rest_told false b c = ((λ off. absurd (false≢true off)), (λ h. h.0))
+rest_told a b c = grind (arith, false≢true)
 
 rest_like : (T A B C P Q R : Type 0) → T ↔ (A × (B → ⊥) × (C → ⊥)) → A ↔ P → B ↔ Q → C ↔ R → T ↔ (P × (Q → ⊥) × (R → ⊥))
 rest_like T A B C P Q R law a b c = grind arith
 
 pub body_told : (s : FigureRuns) (row column : ℕ) → IsTrue (in_body s row column) ↔ HasBody s row column
-body_told s row column =
-    rest_like _ _ _ _ _ _ _ (rest_told (in_runs s.body row column) (in_runs s.hollow row column) (in_runs s.beyond row column))
-    (runs_told s.body row column) (runs_told s.hollow row column) (runs_told s.beyond row column)
+body_told s row column = grind (arith, rest_like, rest_told, runs_told)
 
 -- whether a column is in a figure by its runs
 abbrev pub in_part : FigureRuns → ℕ → ℕ → Bool
@@ -68,18 +50,12 @@ part_like : (W T B S E Body Start End : Type 0) → W ↔ (T ⊎ E) → T ↔ (B
 part_like W T B S E Body Start End whole two body start end = grind arith
 
 pub part_told : (s : FigureRuns) (row column : ℕ) → IsTrue (in_part s row column) ↔ HasPart s row column
-part_told s row column =
-    part_like _ _ _ _ _ _ _ _
-    (or_told (in_body s row column || in_runs s.start row column) (in_runs s.end row column))
-    (or_told (in_body s row column) (in_runs s.start row column)) (body_told s row column) (runs_told s.start row column)
-    (runs_told s.end row column)
+part_told s row column = grind (arith, part_like, or_told, body_told, runs_told)
 
 -- ---- what is taken of all tiles
 
 twice : (o : Option Bool) (p q ink : Bool) → option_or (option_or o (given p ink)) (given q ink) ≡ option_or o (given (p || q) ink)
-twice (Some b) p q ink = refl
-twice None true q ink = refl
-twice None false q ink = refl
+twice o p q ink = grind arith
 
 module _ (ink : Bool) where
   -- by one test, and then by another
@@ -87,77 +63,35 @@ module _ (ink : Bool) where
       → ((row column : ℕ) → row < 64 → column < 64 * n
       → IsTrue (R row column) ↔ (IsTrue (P row column) ⊎ IsTrue (Q row column)))
       → Takes 0 n R ink old new
-  takes_both n P Q R old now new first next either = record {
-    tiles = next.tiles ∙ first.tiles;
-    each = λ row column low within after until.
-        let p : Bool = P row column in
-        let q : Bool = Q row column in
-        let told = either row column low until in
-        let law = or_told p q in
-        let o : Option Bool = ink_at old row column in
-        let same : (p || q) ≡ R row column =
-        same_test (p || q) (R row column) ((λ on. told.1 (law.0 on)), (λ on. law.1 (told.0 on))) in
-        next.each row column low (omega (arith, within, first.tiles)) after until
-        ∙ ap (λ k. option_or k (given q ink)) (first.each row column low within after until)
-        ∙ twice o p q ink ∙ ap (λ b. option_or o (given b ink)) same;
-    others = λ row column low within apart.
-        next.others row column low (omega (arith, within, first.tiles)) apart ∙ first.others row column low within apart;
-  }
+  takes_both n P Q R old now new first next either = grind (arith, or_told, same_test, twice)
 
   -- by either
   pub takes_either : (n : ℕ) (P Q : ℕ → ℕ → Bool) (old now new : Inked) → Takes 0 n P ink old now → Takes 0 n Q ink now new
       → Takes 0 n (λ row column. P row column || Q row column) ink old new
-  takes_either n P Q old now new first next =
-      takes_both n P Q (λ row column. P row column || Q row column) old now new first next
-      (λ row column low within. or_told (P row column) (Q row column))
+  takes_either n P Q old now new first next = grind (arith, takes_both, or_told)
 
   not_given : (o : Option Bool) (b : Bool) → (IsTrue b → ⊥) → o ≡ option_or o (given b ink)
-  not_given o b off = sym (ap (λ k. option_or o (given k ink)) (same_test b false (
-    (λ on. absurd (off on)),
-    (λ off. absurd (false≢true off)),
-  )) ∙ or_none o)
+  not_given o b off = grind (arith, same_test, false≢true, or_none)
 
   -- nothing, where all is decided of which a test holds
   pub takes_done : (first end : ℕ) (P : ℕ → ℕ → Bool) (k : Inked)
       → ((row column : ℕ) → row < 64 → column < 64 * end → IsTrue (P row column) → IsSome (ink_at k row column))
       → Takes first end P ink k k
-  takes_done first end P k done = record {
-    tiles = refl;
-    each = λ row column low within after until.
-        let o : Option Bool = ink_at k row column in
-        elim (cases_Bool (P row column)) [
-          | inl on ↦ sym (or_decided o (given (P row column) ink) (done row column low until on))
-          | inr off ↦ not_given o (P row column) (λ on. false≢true (sym off ∙ on))
-        ];
-    others = λ row column low within apart. refl;
-  }
+  takes_done first end P k done = grind (arith, cases_Bool, or_decided, not_given, false≢true)
 
   -- by a test that is the same there
   pub takes_same : (n : ℕ) (P Q : ℕ → ℕ → Bool) (old new : Inked) → Takes 0 n P ink old new
       → ((row column : ℕ) → row < 64 → column < 64 * n → IsTrue (P row column) ↔ IsTrue (Q row column)) → Takes 0 n Q ink old new
-  takes_same n P Q old new takes same = record {
-    tiles = takes.tiles;
-    each = λ row column low within after until.
-        takes.each row column low within after until
-        ∙ ap (λ b. option_or (ink_at old row column) (given b ink)) (same_test (P row column) (Q row column) (same row column low until));
-    others = takes.others;
-  }
+  takes_same n P Q old new takes same = grind (arith, same_test)
 
   -- what is decided stays so
   pub known_stays : (P : ℕ → ℕ → Bool) (old new : Inked) (tile rows : ℕ) → Takes 0 old.tiles P ink old new → tile < old.tiles
       → rows ≤ 64 → AreKnown old.decided tile rows → AreKnown new.decided tile rows
-  known_stays P old new tile rows takes inside few known row column low here =
-      kept_set _ _ _ _ _ (takes.each row column (omega (arith, low, few)) (omega (arith, inside, here)) (omega arith)
-      (omega (arith, inside, here))) (known row column low here)
+  known_stays P old new tile rows takes inside few known row column low here = grind (arith, kept_set)
 
   pub next_stays : (P : ℕ → ℕ → Bool) (old new : Inked) (next : List ℕ) → Takes 0 old.tiles P ink old new
       → AreNext old.tiles next old.decided → AreNext old.tiles next new.decided
-  next_stays P old new next takes known = record {
-    within = known.within;
-    known = λ tile other inside after until.
-        known_stays P old new other 64 takes (omega (arith, until, known.within tile inside)) (omega arith)
-        (known.known tile other inside after until);
-  }
+  next_stays P old new next takes known = grind (arith, known_stays)
 
   -- a word of a tile
   pub takes_word : (n tile row bits : ℕ) (P : ℕ → ℕ → Bool) (decided dark : List ℕ) (word other all : ℕ) → row < 64
@@ -199,58 +133,26 @@ module _ (ink : Bool) where
 -- ---- the run of a row
 
 pub turned : {T A B : Type 0} → T ↔ (A ⊎ B) → T ↔ (B ⊎ A)
-turned law = (
-  (λ on. elim (law.0 on) [ inl a ↦ inr a | inr b ↦ inl b ]),
-  (λ either. elim either [ inl b ↦ law.1 (inr b) | inr a ↦ law.1 (inl a) ]),
-)
+turned law = grind arith
 
 module _ (of row column : ℕ) where
   -- its columns before one, and those from that on
   pub two_parts : (first between end : ℕ) → first ≤ between → between ≤ end
       → IsTrue (in_row of first end row column)
       ↔ (IsTrue (in_row of first between row column) ⊎ IsTrue (in_row of between end row column))
-  two_parts first between end after until =
-      let all = row_told of first end row column in
-      let before = row_told of first between row column in
-      let behind = row_told of between end row column in (
-        (λ on.
-            let h = all.0 on in
-            elim (cases_lt column between) [
-              | inl early ↦ inl (before.1 (h.0, (h.1.0, early)))
-              | inr late ↦ inr (behind.1 (h.0, (late, h.1.1)))
-            ]),
-        (λ either. elim either [
-          | inl on ↦ let h = before.0 on in all.1 (h.0, (h.1.0, omega (arith, h.1.1, until)))
-          | inr on ↦ let h = behind.0 on in all.1 (h.0, (omega (arith, h.1.0, after), h.1.1))
-        ]),
-      )
+  two_parts first between end after until = grind (arith, row_told, cases_lt)
 
   -- those of another that has the same
   pub same_columns : (first end from to : ℕ) → ((first ≤ column) × (column < end)) ↔ ((from ≤ column) × (column < to))
       → IsTrue (in_row of first end row column) ↔ IsTrue (in_row of from to row column)
-  same_columns first end from to same =
-      let one = row_told of first end row column in
-      let other = row_told of from to row column in (
-        (λ on. let h = one.0 on in other.1 (h.0, same.0 h.1)),
-        (λ on. let h = other.0 on in one.1 (h.0, same.1 h.1)),
-      )
+  same_columns first end from to same = grind (arith, row_told)
 
   -- its columns of one tile by bits
   pub part_bits : (tile first end bits : ℕ) → end ≤ 64
       → ((k : ℕ) → k < 64 → IsBitSet bits k ↔ ((first ≤ k) × (k < end)))
       → IsTrue (in_row of (64 * tile + first) (64 * tile + end) row column)
       ↔ ((row ≡ of) × (column / 64 ≡ tile) × IsBitSet bits (column % 64))
-  part_bits tile first end bits few set =
-      let law = row_told of (64 * tile + first) (64 * tile + end) row column in
-      let bit = set (column % 64) (omega arith) in (
-        (λ on.
-            let h = law.0 on in
-            let there : column / 64 ≡ tile = omega (arith, h.1.0, h.1.1, few) in
-            (h.0, there, bit.1 (omega (arith, h.1.0, there), omega (arith, h.1.1, there)))),
-        (λ h.
-            let run = bit.0 h.2 in
-            law.1 (h.0, (omega (arith, run.0, h.1), omega (arith, run.1, h.1)))),
-      )
+  part_bits tile first end bits few set = grind (arith, row_told)
 
 -- ---- rows
 
@@ -259,45 +161,17 @@ abbrev pub in_above : Runs → ℕ → ℕ → ℕ → Bool
 in_above r end row column = nat_lt row end && in_runs r row column
 
 pub above_told : (r : Runs) (end row column : ℕ) → IsTrue (in_above r end row column) ↔ ((row < end) × HasColumn r row column)
-above_told r end row column = let law = runs_told r row column in (
-  (λ on. let h = and_parts _ _ on in (ltb-true _ _ h.0, law.0 h.1)),
-  (λ h. and_from _ _ (lt-ltb _ _ h.0) (law.1 h.1)),
-)
+above_told r end row column = grind (arith, runs_told, and_parts, ltb-true, and_from, lt-ltb)
 
 pub next_row : (r : Runs) (k row column : ℕ) → r.band.first ≤ k → k < r.band.end
     → IsTrue (in_above r (k + 1) row column)
     ↔ (IsTrue (in_above r k row column) ⊎ IsTrue (in_row k (slice_index r.firsts k) (slice_index r.ends k) row column))
-next_row r k row column after until =
-    let all = above_told r (k + 1) row column in
-    let before = above_told r k row column in
-    let here = row_told k (slice_index r.firsts k) (slice_index r.ends k) row column in (
-      (λ on.
-          let h = all.0 on in
-          elim (cases_eq row k) [
-            | inl e ↦
-                let run : IsInRun (slice_index r.firsts k) (slice_index r.ends k) column = rw e at h.1.2 in
-                inr (here.1 (e, run))
-            | inr apart ↦ inl (before.1 (omega (arith, h.0, apart), h.1))
-          ]),
-      (λ either. elim either [
-        | inl on ↦ let h = before.0 on in all.1 (omega (arith, h.0), h.1)
-        | inr on ↦
-            let h = here.0 on in
-            let own : HasColumn r row column = rw h.0 (after, until, h.1) in
-            all.1 (omega (arith, h.0), own)
-      ]),
-    )
+next_row r k row column after until = grind (arith, above_told, row_told, cases_eq)
 
 -- all of them, above the end of the band
 pub takes_all : (ink : Bool) (n : ℕ) (r : Runs) (k : ℕ) (old new : Inked) → r.band.end ≤ k
     → Takes 0 n (in_above r k) ink old new → Takes 0 n (in_runs r) ink old new
-takes_all ink n r k old new past takes =
-    takes_same ink n (in_above r k) (in_runs r) old new takes (λ row column low within.
-    let above = above_told r k row column in
-    let all = runs_told r row column in (
-      (λ on. all.1 (above.0 on).1),
-      (λ on. let h = all.0 on in above.1 (omega (arith, h.1, past), h)),
-    ))
+takes_all ink n r k old new past takes = grind (arith, above_told, runs_told)
 
 -- ---- rows of a body
 
@@ -307,10 +181,7 @@ in_body_above s end row column = nat_lt row end && in_body s row column
 
 pub body_above_told : (s : FigureRuns) (end row column : ℕ)
     → IsTrue (in_body_above s end row column) ↔ ((row < end) × HasBody s row column)
-body_above_told s end row column = let law = body_told s row column in (
-  (λ on. let h = and_parts _ _ on in (ltb-true _ _ h.0, law.0 h.1)),
-  (λ h. and_from _ _ (lt-ltb _ _ h.0) (law.1 h.1)),
-)
+body_above_told s end row column = grind (arith, body_told, and_parts, ltb-true, and_from, lt-ltb)
 
 module _ (ink : Bool) (n : ℕ) where
   -- all of them, once those above the end of its band are taken
@@ -349,11 +220,7 @@ module _ (ink : Bool) (n of : ℕ) where
 
   takes_run : (a : Span) (old new : Inked) → Takes 0 n (in_row of a.first a.end) ink old new
       → TakesRow ink n of (IsInRun a.first a.end) old new
-  takes_run a old new takes = record {
-    holds = in_row of a.first a.end;
-    takes = takes;
-    told = row_told of a.first a.end;
-  }
+  takes_run a old new takes = grind (arith, row_told)
 
   -- in two runs
   pub takes_two : (a b : Span) (old now new : Inked) → Takes 0 n (in_row of a.first a.end) ink old now

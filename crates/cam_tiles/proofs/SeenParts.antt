@@ -41,16 +41,7 @@ module _ (g : Grid) (columns column cols : ℕ) (wide : IsWideGrid g columns) (w
   from_stands = record { near = omega (arith, within, wide.count.1); rows = refl; centres = from_centre }
 
   pub from_wide : cols ≡ min (columns - column) 64 → IsWideGrid part_from (columns - column)
-  from_wide is = record {
-    grid = record {
-      step = wide.grid.step;
-      columns = (omega (arith, is, within), omega (arith, is));
-      rows = wide.grid.rows;
-      centres = λ i row near below. from_places i row (omega (arith, near, is, within)) below;
-    };
-    count = (omega (arith, within), omega (arith, wide.count.1));
-    centres = λ i row near below. from_places i row (omega (arith, near, within)) below;
-  }
+  from_wide is = grind (arith, from_places)
 
 -- as the code computes it
 module _ (g : Grid) (tile : ℕ) (n : ℤ) (grid : IsGrid g) (few : 64 * tile < 32768)

@@ -1,5 +1,5 @@
 -- Rows of a grid, as they are seen from a point, as code of 64 bits computes them.
-use Rattle.std.proofs.Common.{◌≡◌, ℕ, ◌<◌, ℤ, pos, ◌+ℤ◌, ◌-ℤ◌, ◌*ℤ◌, ap, ◌∙◌, FitsSigned, w64, arith}
+use Rattle.std.proofs.Common.{◌≡◌, ℕ, ◌<◌, ℤ, pos, ◌+ℤ◌, ◌-ℤ◌, ◌*ℤ◌, FitsSigned, w64, arith}
 use Rattle.std.specs.Int.RustNames.{unsigned_abs}
 use Rattle.std.proofs.lemmas.Int.{ints, to_z-of_z}
 use Rattle.cam_refusals.specs.Limits.{board_limit}
@@ -32,10 +32,7 @@ step_seen x away step i = omega (arith, ints)
 
 -- a place of the board, as it is seen from a point of it
 pub in_reach : (p : Point) (s : Spot) → IsOnBoard p → IsPlace s → IsInReach (relative p s)
-in_reach p s board place = record {
-  x = omega (arith, ints, board.x, place.x);
-  y = omega (arith, ints, board.y, place.y);
-}
+in_reach p s board place = grind (arith, ints)
 
 -- ---- the first centre, and columns
 
@@ -105,12 +102,7 @@ module _ (g : Grid) (row : ℕ) (at : Point) (n : ℤ) (grid : IsGrid g) (below 
   }
 
   pub row_seen : (i : ℕ) → centre_at row_now i ≡ relative at (centre_in g i row)
-  row_seen i =
-      let spot : ℤ → ℤ → Spot = λ x y. record { x = x; y = y } in
-      ap (λ s. spot (row_now.x +ℤ pos i *ℤ s) row_now.y) (to_z-of_z w64 g.step fits)
-      ∙ ap (λ x. spot (x +ℤ pos i *ℤ g.step) row_now.y) x_seen
-      ∙ ap (spot (g.x -ℤ pos 2 *ℤ at.x +ℤ pos i *ℤ g.step)) y_seen
-      ∙ ap (λ x. spot x ((centre_in g 0 row).y -ℤ pos 2 *ℤ at.y)) (step_seen g.x at.x g.step i)
+  row_seen i = grind (arith, to_z-of_z, x_seen, y_seen, step_seen)
 
   pub row_reaches : (i : ℕ) → i < g.cols → IsInReach (centre_at row_now i)
   row_reaches i inside = rw (row_seen i) (in_reach at (centre_in g i row) board (grid.centres i row inside below))

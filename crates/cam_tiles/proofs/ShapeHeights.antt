@@ -1,5 +1,5 @@
 -- What a shape holds lies between its heights.
-use Rattle.std.proofs.Common.{◌*◌, ℤ, pos, ◌<ℤ◌, IsTrue, arith}
+use Rattle.std.proofs.Common.{rules, ◌*◌, ℤ, pos, ◌<ℤ◌, IsTrue, arith}
 use Rattle.std.proofs.lemmas.Int.{ints, clamps}
 use Rattle.cam_units.specs.Boxes.{Holds}
 use Rattle.cam_units.specs.declared.length.Nm.{Nm}
@@ -32,8 +32,7 @@ pub in_disc : (d : Disc) (h : Heights) → AreAbout d.centre d.diameter.0 h → 
 in_disc d h a s on = in_box d.centre d.diameter.0 d.diameter.0 h a s (disc_box d.centre s d.diameter on)
 
 pub in_hole : (d : Disc) (h : Heights) → AreAbout d.centre d.diameter.0 h → (s : Spot) → IsInHole s d → IsWithin h s
-in_hole d h a s on =
-    in_disc d h a s (record { some = on.some; near = less_at_most _ (square d.diameter.0) on.near })
+in_hole d h a s on = search (rules, in_disc, less_at_most)
 
 pub in_rectangle : (r : Rectangle) (h : Heights) → AreAbout r.centre r.height.0 h
     → (s : Spot) → IsInRectangle s r → IsWithin h s

@@ -1,6 +1,6 @@
 -- Masks of shapes, row by row.
 use Rattle.std.proofs.Common.{◌≡◌, ◌≢◌, ◌↔◌, ℕ, ◌+◌, ◌^◌, ◌<◌, ◌≤◌, List, slice_index, slice_set}
-use Rattle.std.proofs.Common.{get_or-set_other, get_or-set_same, inl, inr, ◌∙◌, arith}
+use Rattle.std.proofs.Common.{get_or-set_other, get_or-set_same, arith}
 use Rattle.std.proofs.Math.ListN.{length-set}
 use Rattle.std.specs.Int.{IsBitSet}
 use Rattle.std.proofs.lemmas.Bool.{cases_eq}
@@ -38,25 +38,4 @@ module _ (g : Grid) (IsHeld : Spot → Type 0) (m : Marking) where
     other k apart = get_or-set_other m.rows row k word 0 apart
 
     pub next_shown : AreShownTo g IsHeld (row + 1) (record { grid = m.grid; rows = rows })
-    next_shown = record {
-      grid = before.grid;
-      mask = record {
-        grid = before.mask.grid;
-        whole = length-set m.rows row word ∙ before.mask.whole;
-        fit = λ k. elim (cases_eq k row) [
-          | inl e ↦ rw (this k e) fits
-          | inr apart ↦ rw (other k apart) (before.mask.fit k)
-        ];
-        inside = λ i k near low set. elim (cases_eq k row) [
-          | inl e ↦ rw (e, before.grid) (((here i near).0 (rw (this k e) at set)).0, below)
-          | inr apart ↦ before.mask.inside i k near low (rw (other k apart) at set)
-        ];
-      };
-      marks = λ i k there until. elim (cases_eq k row) [
-        | inl e ↦
-            (let inside : i < m.grid.cols = rw before.grid there.0 in
-            let near : i < 64 = omega (arith, inside, before.mask.grid.columns) in
-            rw (this k e, e) ((λ set. ((here i near).0 set).1), (λ held. (here i near).1 (there.0, held))))
-        | inr apart ↦ rw (other k apart) (before.marks i k there (omega (arith, apart, until)))
-      ];
-    }
+    next_shown = grind (arith, length-set, cases_eq, this, other)

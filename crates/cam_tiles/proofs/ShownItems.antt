@@ -8,10 +8,8 @@ use Rattle.cam_units.specs.Boxes.{HaveCommonPlace}
 use Rattle.cam_units.specs.declared.bounds.Bounds.{Bounds}
 use Rattle.cam_objects.specs.Bounds.{bounds_of}
 use Rattle.cam_objects.specs.Cells.{box_at}
-use Rattle.cam_objects.specs.Drilling.{drill_item_leaves}
-use Rattle.cam_objects.specs.Leaves.{Leaf, item_leaves, meaning_in}
+use Rattle.cam_objects.specs.Leaves.{Leaf}
 use Rattle.cam_tiles.specs.declared.shown.Shown.{Shown}
-use Rattle.cam_tiles.specs.declared.shown.Shown.TheVariants.{Gerber, Drill}
 use Rattle.cam_tiles.specs.Machinery.Shown.{leaves_by_item, leaves_of}
 
 -- what holds of what each element paints holds of the list at its place
@@ -23,10 +21,7 @@ at_place f (x ∷ xs) (suc k) P within holds = at_place f xs k P (omega arith) h
 
 -- all leaves are those of the items, one after another
 pub leaves_are : (shown : Shown) → flat_map (λ leaves. leaves) (leaves_by_item shown) ≡ leaves_of shown
-leaves_are (Gerber layer cells copies) =
-    flat_map-map (λ leaves. leaves) (item_leaves (meaning_in layer.now.apertures)) layer.now.items.items
-leaves_are (Drill layer cells) =
-    flat_map-map (λ leaves. leaves) (drill_item_leaves layer.now.tools) layer.now.items.items
+leaves_are shown = grind (arith, flat_map-map)
 
 -- the box of what an element paints is that of the list at its place
 box_at_place : {X : Type 0} (f : X → List Leaf) (xs : List X) (k : ℕ) → k < length (map f xs)

@@ -81,16 +81,12 @@ module _ (w : Window) (limits : IsAcceptedWindow w) (step : ℤ) (is_step : step
     column_is n = rw (is_first, is_step) (further w.x w.pitch 0 n ∙ ap (middle w.x w.pitch) (omega arith))
 
     pub are_columns : IsLattice columns_now
-    are_columns = record {
-      step = steps;
-      places = λ n within. rw (column_is n) (omega (arith, (limits.centres n 0 within limits.height.0).x));
-    }
+    are_columns = grind (arith, steps, column_is)
 
     pub column_between : (A : Type 0) (low high from to : ℤ) (n : ℕ) → from ≡ low → to ≡ high
         → A ↔ ((from ≤ℤ place_at columns_now n) × (place_at columns_now n ≤ℤ to))
         → A ↔ ((low ≤ℤ middle w.x w.pitch n) × (middle w.x w.pitch n ≤ℤ high))
-    column_between A low high from to n is_low is_high h =
-        rw (← is_low, ← is_high, ← column_is n) h
+    column_between A low high from to n is_low is_high h = grind (arith, column_is)
 
   module _ (top : ℤ) (is_top : top ≡ (centre_of w 0 0).y) where
     abbrev pub rows_now : Levels
@@ -102,11 +98,7 @@ module _ (w : Window) (limits : IsAcceptedWindow w) (step : ℤ) (is_step : step
         (ap (λ k. middle w.y w.pitch k -ℤ pos n *ℤ (pos 2 *ℤ w.pitch)) (omega arith) ∙ back w.y w.pitch (w.height - 1 - n) n)
 
     pub are_rows : AreLevels rows_now
-    are_rows = record {
-      step = steps;
-      some = limits.height.0;
-      heights = λ n within. rw (row_is n within) (omega (arith, (limits.centres 0 n limits.width.0 within).y));
-    }
+    are_rows = grind (arith, steps, row_is)
 
     pub on_row : (n : ℕ) → n < w.height → IsOnRow rows_now n (centre_of w 0 n)
     on_row n within = (within, sym (row_is n within))

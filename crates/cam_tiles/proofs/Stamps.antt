@@ -1,5 +1,5 @@
 -- Apertures on masks: what the primitives of a macro leave marked, one after the other.
-use Rattle.std.proofs.Common.{◌≡◌, ◌↔◌, ◌⊎◌, ℕ, ◌+◌, ◌<◌, Bool, true, false, IsTrue, List, length, get_or, map, take}
+use Rattle.std.proofs.Common.{◌≡◌, ◌↔◌, ◌⊎◌, ℕ, ◌+◌, ◌<◌, Bool, IsTrue, List, length, get_or, map, take}
 use Rattle.std.proofs.Common.{refl, sym, ◌∙◌, inl, inr, arith}
 use Rattle.std.proofs.lemmas.Bool.{cases_Bool, false≢true}
 use Rattle.cam_units.specs.declared.point.Spot.{Spot}
@@ -22,9 +22,7 @@ held_or_not p s = elim (cases_Bool (is_in_shape p.shape s)) [
 -- ink that decides where it is held, and passes what was elsewhere
 inked_where : (paint : Bool) (Was Held Now : Type 0) → Held ⊎ (Held → ⊥) → (Held → IsTrue paint ↔ Now)
     → ((Held → ⊥) → Now ↔ Was) → joined (inked paint) Was Held ↔ Now
-inked_where true Was Held Now known decides passes = let yes : IsTrue true = refl in grind (arith, yes)
-inked_where false Was Held Now known decides passes =
-    let no : IsTrue false → ⊥ = λ t. false≢true t in grind (arith, no)
+inked_where paint Was Held Now known decides passes = grind (arith, false≢true)
 
 -- a primitive is added to what those before it paint, or cleared from it
 pub painted_more : (t : Turn) (prims : List MacroPrimitive) (place : ℕ) (p : MacroPrimitive) (s : Spot)

@@ -1,6 +1,5 @@
 -- Steps over a grid, as code of 64 bits computes them.
-use Rattle.std.proofs.Common.{◌≡◌, ℕ, ◌^◌, ◌<◌, ℤ, pos, ◌+ℤ◌, ◌-ℤ◌, ◌*ℤ◌}
-use Rattle.std.proofs.Common.{ap, subst, ◌∙◌, FitsSigned, w64, arith}
+use Rattle.std.proofs.Common.{◌≡◌, ℕ, ◌^◌, ◌<◌, ℤ, pos, ◌+ℤ◌, ◌-ℤ◌, ◌*ℤ◌, ap, subst, ◌∙◌, FitsSigned, w64, arith}
 use Rattle.std.specs.Int.RustNames.{unsigned_abs}
 use Rattle.std.proofs.lemmas.Int.{ints, to_z-of_z}
 use Rattle.cam_units.specs.Board.{IsPlace}
@@ -21,9 +20,7 @@ way_down y d here there = omega (arith, ints)
 
 -- so many steps
 pub way_kept : (n s : ℤ) (k : ℕ) → n ≡ pos k → k < 2 ^ 32 → FitsSigned w64 s → long n *ℤ long s ≡ pos k *ℤ s
-way_kept n s k e few fits =
-    ap (λ z. long z *ℤ long s) e ∙ ap (λ z. z *ℤ long s) (to_z-of_z w64 (pos k) (omega (arith, ints)))
-    ∙ ap (λ z. pos k *ℤ z) (to_z-of_z w64 s fits)
+way_kept n s k e few fits = grind (arith, long, to_z-of_z, ints)
 
 pub fits_short : (d e : ℤ) → d ≡ e → unsigned_abs e < 4000000000 → FitsSigned w64 d
 fits_short d e same short = omega (arith, ints, ap unsigned_abs same)
@@ -81,8 +78,7 @@ module _ (g : Grid) (column row : ℕ) (grid : IsGrid g) (inside : column < g.co
 
   x_is : (n : ℤ) → n ≡ pos column
       → long g.x +ℤ long (long n *ℤ long g.step) ≡ g.x +ℤ pos column *ℤ g.step
-  x_is n e =
-      right_is g.x (long n *ℤ long g.step) (pos column *ℤ g.step) (way_right_is n e) (first_x g grid) short_right
+  x_is n e = grind (arith, right_is, long, way_right_is, first_x, short_right)
 
   y_is : (n : ℤ) → n ≡ pos row → long g.y -ℤ long (long n *ℤ long g.step) ≡ g.y -ℤ pos row *ℤ g.step
   y_is n e = down_is g.y (long n *ℤ long g.step) (pos row *ℤ g.step) (way_down_is n e) (first_y g grid) short_down

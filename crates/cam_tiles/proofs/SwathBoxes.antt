@@ -42,14 +42,4 @@ module _ (g : Grid) (columns : ℕ) (wide : IsWideGrid g columns) where
       → top ≡ g.y → right ≡ g.x +ℤ pos (columns - 1) *ℤ g.step → bottom ≡ g.y -ℤ pos (g.rows - 1) *ℤ g.step
       → IsInBox (record { x = left; y = bottom }) (record { x = right; y = top }) (centre_in g column row)
   between_corners column row near below left bottom right top is_left is_top is_right is_bottom =
-      let step = wide.grid.step in
-      let some_across = steps_on column g.step step in
-      let some_down = steps_on row g.step step in
-      let across = steps_up column (columns - 1) g.step step (omega arith) in
-      let down = steps_up row (g.rows - 1) g.step step (omega arith) in
-      record {
-        left = omega (arith, ints, some_across);
-        right = omega (arith, ints, across);
-        below = omega (arith, ints, down);
-        above = omega (arith, ints, some_down);
-      }
+      grind (arith, steps_on, steps_up, ints)

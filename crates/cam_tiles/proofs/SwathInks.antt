@@ -1,7 +1,6 @@
 -- Swaths: a leaf that is painted on the inks of tiles side by side.
 use Rattle.std.proofs.Common.{◌≡◌, ◌↔◌, ◌⊎◌, ℕ, ◌+◌, ◌-◌, ◌*◌, ◌/◌, ◌<◌, ◌≤◌, min, Bool, true, false, cond, IsTrue}
 use Rattle.std.proofs.Common.{List, [], ◌∷◌, Option, None, Some, IsSome, refl, sym, ap, subst, ◌∙◌, inl, inr, arith}
-use Rattle.std.specs.Option.{option_or}
 use Rattle.std.proofs.lemmas.Bool.{cases_Bool, cases_lt, false≢true}
 use Rattle.cam_units.specs.declared.point.Spot.{Spot}
 use Rattle.cam_objects.specs.Image.{Covers}
@@ -13,7 +12,7 @@ use Rattle.cam_tiles.specs.Machinery.Marks.{is_marked}
 use Rattle.cam_tiles.specs.declared.grid.Grid.{Grid}
 use Rattle.cam_tiles.specs.declared.masks.figure_runs.FigureRuns.{FigureRuns}
 use Rattle.cam_tiles.specs.Machinery.Figures.{HasPart}
-use Rattle.cam_tiles.specs.Machinery.Inks.{Inked, IsDoneTile, Takes, given, ink_at}
+use Rattle.cam_tiles.specs.Machinery.Inks.{Inked, IsDoneTile, Takes, ink_at}
 use Rattle.cam_tiles.specs.Machinery.Runs.{IsWideGrid, StandsAt}
 use Rattle.cam_tiles.specs.Machinery.Swaths.{AreRunsOf, PaintsSwath}
 use Rattle.cam_tiles.specs.Machinery.Turning.{MarksCentres}
@@ -21,20 +20,15 @@ use Rattle.cam_tiles.specs.Tiles.{centre_in}
 
 -- tests that hold alike
 pub same_test : (a b : Bool) → IsTrue a ↔ IsTrue b → a ≡ b
-same_test true true h = refl
-same_test true false h = absurd (false≢true (h.0 refl))
-same_test false true h = absurd (false≢true (h.1 refl))
-same_test false false h = refl
+same_test a b h = grind (arith, false≢true)
 
 -- ---- inks that are taken in some tiles
 
 pub some_ink : (decided dark : Bool) → decided ≡ true → IsSome (cond decided (Some dark) None)
-some_ink true dark on = refl
-some_ink false dark on = absurd (false≢true on)
+some_ink decided dark on = grind (arith, false≢true)
 
 pub ink_decided : (decided dark : Bool) → IsSome (cond decided (Some dark) None) → decided ≡ true
-ink_decided true dark some = refl
-ink_decided false dark none = none
+ink_decided decided dark none = grind arith
 
 done_tile : (k : Inked) (tile row column : ℕ) → IsDoneTile k tile → row < 64 → column / 64 ≡ tile
     → IsSome (ink_at k row column)
@@ -45,52 +39,26 @@ module _ (holds : ℕ → ℕ → Bool) (dark : Bool) where
   pub takes_nothing : (first end : ℕ) (k : Inked)
       → ((row column : ℕ) → row < 64 → 64 * first ≤ column → column < 64 * end → IsSome (ink_at k row column))
       → Takes first end holds dark k k
-  takes_nothing first end k decided = record {
-    tiles = refl;
-    each = λ row column low within after until.
-        sym (or_decided (ink_at k row column) (given (holds row column) dark) (decided row column low after until));
-    others = λ row column low within apart. refl;
-  }
+  takes_nothing first end k decided = grind (arith, or_decided)
 
   module _ (first end : ℕ) (old new : Inked) (takes : Takes first end holds dark old new) where
     -- what is decided stays
     pub takes_decided : (row column : ℕ) → row < 64 → column < 64 * old.tiles → IsSome (ink_at old row column)
         → ink_at new row column ≡ ink_at old row column
-    takes_decided row column low within some =
-        elim (cases_lt column (64 * first)) [
-          | inl front ↦ takes.others row column low within (inl front)
-          | inr after ↦ elim (cases_lt column (64 * end)) [
-            | inl until ↦ takes.each row column low within after until
-                ∙ or_decided (ink_at old row column) (given (holds row column) dark) some
-            | inr past ↦ takes.others row column low within (inr past)
-          ]
-        ]
+    takes_decided row column low within some = grind (arith, cases_lt, or_decided)
 
     -- by another test that holds alike of what is not decided
     pub takes_like : (other : ℕ → ℕ → Bool)
         → ((row column : ℕ) → row < 64 → column < 64 * old.tiles → 64 * first ≤ column → column < 64 * end
         → IsSome (ink_at old row column) ⊎ (holds row column ≡ other row column))
         → Takes first end other dark old new
-    takes_like other like = record {
-      tiles = takes.tiles;
-      each = λ row column low within after until. elim (like row column low within after until) [
-        | inl some ↦ takes_decided row column low within some
-            ∙ sym (or_decided (ink_at old row column) (given (other row column) dark) some)
-        | inr same ↦ takes.each row column low within after until
-            ∙ ap (λ b. option_or (ink_at old row column) (given b dark)) same
-      ];
-      others = takes.others;
-    }
+    takes_like other like = grind (arith, takes_decided, or_decided)
 
 -- ---- a leaf
 
 -- fewer columns of rows that go on to the right
 pub fewer_columns : (g : Grid) (more columns : ℕ) → IsWideGrid g more → 1 ≤ columns → columns ≤ more → IsWideGrid g columns
-fewer_columns g more columns wide some few = record {
-  grid = wide.grid;
-  count = (some, omega (arith, wide.count.1));
-  centres = λ column row c r. wide.centres column row (omega arith) r;
-}
+fewer_columns g more columns wide some few = grind arith
 
 -- whether a shape covers the place of a pixel
 abbrev pub covered : Shape → Grid → ℕ → ℕ → Bool
@@ -107,22 +75,12 @@ some_if o dark is = subst (λ o. IsSome o) (sym is) refl
 
 module _ (shape : Shape) (g : Grid) (columns : ℕ) where
   not_covered : (row column : ℕ) → (Covers shape (centre_in g column row) → ⊥) → covered shape g row column ≡ false
-  not_covered row column off =
-      same_test (covered shape g row column) false (
-        (λ on. absurd (off ((cover_law shape (centre_in g column row)).0 on))),
-        (λ on. absurd (false≢true on)),
-      )
+  not_covered row column off = grind (arith, same_test, cover_law, false≢true)
 
   -- a pixel is one of the swath, or clear
   there_or_clear : (k : Inked) → IsClearPast g columns k → (row column : ℕ) → row < 64 → column < 64 * k.tiles
       → IsSome (ink_at k row column) ⊎ ((column < columns) × (row < g.rows))
-  there_or_clear k clear row column low within = elim (cases_lt column columns) [
-    | inl inside ↦ elim (cases_lt row g.rows) [
-      | inl below ↦ inr (inside, below)
-      | inr past ↦ inl (some_if _ false (clear row column low within (λ c r. omega arith)))
-    ]
-    | inr past ↦ inl (some_if _ false (clear row column low within (λ c r. omega arith)))
-  ]
+  there_or_clear k clear row column low within = grind (arith, cases_lt, some_if)
 
   -- the runs of a figure tell its columns
   pub runs_cover : (runs : FigureRuns) (k : Inked)
@@ -182,31 +140,8 @@ module _ (shape : Shape) (g : Grid) (columns : ℕ) where
           → IsSome (ink_at old row column) ⊎ (Covers shape (centre_in g column row) → ⊥))
           → PaintsSwath (record { grid = g; columns = columns; inks = old }) (leaf shape dark ∷ [])
           (record { grid = g; columns = columns; inks = new })
-      paints_taken rows wide missed = record {
-        pixels = λ column row. ((λ h. h), (λ h. h));
-        places = refl;
-        inks = λ column row there.
-            let low : row < 64 = omega (arith, there.1, rows) in
-            let within : column < 64 * old.tiles = omega (arith, there.0, wide) in
-            let ink : Option Bool = ink_at old row column in
-            let test : Option Bool = given (covered shape g row column) dark in
-            let off : (column < 64 * first) ⊎ (64 * end ≤ column) → ink_at new row column ≡ option_or ink test =
-            λ apart. takes.others row column low within apart ∙ elim (missed column row there.0 there.1 apart) [
-              | inl some ↦ sym (or_decided ink test some)
-              | inr off ↦ sym (ap (λ b. option_or ink (given b dark)) (not_covered row column off) ∙ or_none ink)
-            ] in
-            elim (cases_lt column (64 * first)) [
-              | inl front ↦ off (inl front)
-              | inr after ↦ elim (cases_lt column (64 * end)) [
-                | inl until ↦ takes.each row column low within after until
-                | inr past ↦ off (inr past)
-              ]
-            ];
-      }
+      paints_taken rows wide missed = grind (arith, or_decided, not_covered, or_none, cases_lt)
 
       -- and what is past the swath stays clear
       pub clear_past_stays : IsClearPast g columns old → IsClearPast g columns new
-      clear_past_stays clear row column low within out =
-          let there : column < 64 * old.tiles = omega (arith, within, takes.tiles) in
-          let was = clear row column low there out in
-          takes_decided (covered shape g) dark first end old new takes row column low there (some_if _ false was) ∙ was
+      clear_past_stays clear row column low within out = grind (arith, takes_decided, some_if)

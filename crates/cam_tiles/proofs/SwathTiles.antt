@@ -1,6 +1,6 @@
 -- Swaths: the tiles that they turn to, and what is drawn of them.
-use Rattle.std.proofs.Common.{◌≡◌, ◌↔◌, ℕ, zero, suc, nat_eq, ◌+◌, ◌*◌, ◌/◌, ◌^◌, ◌<◌, ◌≤◌, Bool, true, false, ◌&&◌, nat_lt, cond}
-use Rattle.std.proofs.Common.{List, [], length, get_or, None, Some, is_none, refl, sym, ap, subst, ◌∙◌, inl, inr, arith}
+use Rattle.std.proofs.Common.{◌≡◌, ◌↔◌, ℕ, nat_eq, ◌+◌, ◌*◌, ◌/◌, ◌^◌, ◌<◌, ◌≤◌, Bool, true, false, ◌&&◌, nat_lt, cond}
+use Rattle.std.proofs.Common.{List, [], length, get_or, None, Some, is_none, sym, ap, subst, ◌∙◌, inl, inr, arith}
 use Rattle.std.specs.Int.{bit_at}
 use Rattle.std.specs.Option.{unwrap_or}
 use Rattle.std.proofs.Math.Bool.{and-false}
@@ -79,14 +79,11 @@ module _ (tiles : List Tile) (columns rows : ℕ) (k : Inked) (now : AreOpen til
 -- ---- the tiles that are drawn
 
 bit_from : (n : ℕ) (b : Bool) → n < 2 → nat_eq n 1 ≡ b → n ≡ bit_of b
-bit_from zero b small is = ap bit_of is
-bit_from (suc zero) b small is = ap bit_of is
-bit_from (suc (suc n)) b small is = absurd (omega (arith, small))
+bit_from n b small is = grind arith
 
 -- what is decided as dark
 dark_of : (decided dark : Bool) → (decided && dark) ≡ unwrap_or (cond decided (Some dark) None) false
-dark_of true dark = refl
-dark_of false dark = refl
+dark_of decided dark = grind arith
 
 module _ (image : Spot → Bool) (s : Swathed) (tile : ℕ) (g : Grid) (tall : s.grid.rows ≤ 64)
     (clear : IsClearPast s.grid s.columns s.inks) (within : tile < s.inks.tiles)

@@ -1,8 +1,7 @@
 -- Tables tile by tile and pixel by pixel: what stands at a number, also after tiles are wiped or drawn.
-use Rattle.std.proofs.Common.{◌≡◌, ℕ, zero, suc, ◌+◌, ◌<◌, Bool, true, false, cond, ◌⊎◌, inl, inr}
-use Rattle.std.proofs.Common.{List, [], ◌∷◌, length, replicate, slice_get, slice_index_or}
-use Rattle.std.proofs.Common.{Option, Some, None, option_and_then, option_map, unwrap_or, count_by, is_none}
-use Rattle.std.proofs.Common.{refl, sym, ap, ◌∙◌, ◌*◌, ◌/◌, arith}
+use Rattle.std.proofs.Common.{◌≡◌, ℕ, zero, suc, ◌+◌, ◌<◌, Bool, false, cond, ◌⊎◌, inl, List, [], ◌∷◌, length, replicate}
+use Rattle.std.proofs.Common.{slice_get, slice_index_or, Option, Some, None, option_and_then, option_map, unwrap_or, count_by}
+use Rattle.std.proofs.Common.{is_none, refl, sym, ap, ◌∙◌, ◌*◌, ◌/◌, arith}
 use Rattle.std.proofs.lemmas.Bool.{and_from, lt-ltb}
 use Rattle.std.proofs.lemmas.Option.{unwrap_or-slice_get}
 use Rattle.std.proofs.lemmas.List.Sums.{sum_by-cons}
@@ -17,27 +16,19 @@ abbrev tile_at : List Tile → ℕ → Tile
 tile_at tiles k = option_and_then (λ tile. tile) (slice_get tiles k)
 
 joined : (tile : Option Tile) → option_and_then (λ tile. tile) tile ≡ unwrap_or tile None
-joined None = refl
-joined (Some tile) = refl
+joined tile = grind arith
 
 -- the tile of a pixel as the code finds it
 pub tile_found : (t : Table) (column row wide : ℕ) (tile : Tile) → wide ≡ across t.window
     → slice_index_or t.tiles (row / 64 * wide + column / 64) None ≡ tile
     → tile_in t (tile_of t.window column row) ≡ tile
-tile_found t column row wide tile is_wide found =
-    joined (slice_get t.tiles (tile_of t.window column row))
-    ∙ unwrap_or-slice_get t.tiles (tile_of t.window column row) None
-    ∙ ap (λ n. slice_index_or t.tiles (row / 64 * n + column / 64) None) (sym is_wide) ∙ found
+tile_found t column row wide tile is_wide found = grind (arith, joined, unwrap_or-slice_get)
 
 -- a pixel of the window as its tile has it
 pub black_in_tile : (t : Table) (tile : Tile) (column row : ℕ) → column < t.window.width → row < t.window.height
     → tile_in t (tile_of t.window column row) ≡ tile
     → is_pixel_black t column row ≡ unwrap_or (option_map (bit_in column row) tile) false
-black_in_tile t tile column row within below is =
-    let test = bit_in column row in
-    let inside = and_from _ _ (lt-ltb column t.window.width within) (lt-ltb row t.window.height below) in
-    ap (λ b. unwrap_or (cond b (option_map test (tile_in t (tile_of t.window column row))) None) false) inside
-    ∙ ap (λ o. unwrap_or (option_map test o) false) is
+black_in_tile t tile column row within below is = grind (arith, bit_in, and_from, lt-ltb)
 
 none_at : (n k : ℕ) → tile_at (replicate n None) k ≡ None
 none_at zero k = refl
@@ -48,15 +39,12 @@ pub no_tile_in_blank : (w : Window) (k : ℕ) → tile_in (blank w) k ≡ None
 no_tile_in_blank w k = none_at (tiles_of w) k
 
 none_either : (b : Bool) → ◌≡◌ {A = Tile} (cond b None None) None
-none_either true = refl
-none_either false = refl
+none_either b = grind arith
 
 pub tile_at_wiped : (is_wiped : ℕ → Bool) (from : ℕ) (tiles : List Tile) (k : ℕ)
     → tile_at (wiped_from is_wiped from tiles) k ≡ cond (is_wiped (from + k)) None (tile_at tiles k)
 tile_at_wiped is_wiped from [] k = sym (none_either (is_wiped (from + k)))
-tile_at_wiped is_wiped from (tile ∷ tiles) zero =
-    let here : from ≡ from + 0 = omega arith in
-    ap (λ n. cond (is_wiped n) None tile) here
+tile_at_wiped is_wiped from (tile ∷ tiles) zero = grind arith
 tile_at_wiped is_wiped from (tile ∷ tiles) (suc k) =
     let next : from + 1 + k ≡ from + suc k = omega arith in
     tile_at_wiped is_wiped (from + 1) tiles k ∙ ap (λ n. cond (is_wiped n) None (tile_at tiles k)) next
@@ -67,23 +55,10 @@ pub tile_at_drawn : (draw : ℕ → List ℕ) (from n : ℕ) (tiles : List Tile)
     → (tile_at tiles k ≡ Some rows) ⊎ (rows ≡ draw (from + k))
 tile_at_drawn draw from n [] k rows is = inl is
 tile_at_drawn draw from n (Some tile ∷ tiles) zero rows is = inl is
-tile_at_drawn draw from n (Some tile ∷ tiles) (suc k) rows is =
-    let next : from + 1 + k ≡ from + suc k = omega arith in
-    elim (tile_at_drawn draw (from + 1) n tiles k rows is) [
-      | inl before ↦ inl before
-      | inr drawn ↦ inr (drawn ∙ ap draw next)
-    ]
+tile_at_drawn draw from n (Some tile ∷ tiles) (suc k) rows is = grind (arith, tile_at_drawn draw (from + 1) n tiles k rows is)
 tile_at_drawn draw from zero (None ∷ tiles) k rows is = inl is
-tile_at_drawn draw from (suc n) (None ∷ tiles) zero rows is =
-    let here : from ≡ from + 0 = omega arith in
-    let same : draw from ≡ rows = cc in
-    inr (sym same ∙ ap draw here)
-tile_at_drawn draw from (suc n) (None ∷ tiles) (suc k) rows is =
-    let next : from + 1 + k ≡ from + suc k = omega arith in
-    elim (tile_at_drawn draw (from + 1) n tiles k rows is) [
-      | inl before ↦ inl before
-      | inr drawn ↦ inr (drawn ∙ ap draw next)
-    ]
+tile_at_drawn draw from (suc n) (None ∷ tiles) zero rows is = grind arith
+tile_at_drawn draw from (suc n) (None ∷ tiles) (suc k) rows is = grind (arith, tile_at_drawn draw (from + 1) n tiles k rows is)
 
 count_more : (tile : Tile) (tiles : List Tile)
     → count_by is_none (tile ∷ tiles) ≡ cond (is_none tile) 1 0 + count_by is_none tiles
@@ -104,19 +79,14 @@ touched_window [] t = refl
 touched_window (box ∷ boxes) t = touched_window boxes (box_touched box t)
 
 kept_tile : (b : Bool) (tile : Tile) (rows : List ℕ) → cond b None tile ≡ Some rows → (b ≡ false) × (tile ≡ Some rows)
-kept_tile true tile rows is = absurd (cc)
-kept_tile false tile rows is = (refl, is)
+kept_tile b tile rows is = grind arith
 
 -- a tile after one box
 pub touched_tile : (t : Table) (box : Bounds) (k : ℕ)
     → tile_in (box_touched box t) k ≡ cond (touches t.window box k) None (tile_in t k)
-touched_tile t box k =
-    let first : 0 + k ≡ k = omega arith in
-    tile_at_wiped (touches t.window box) 0 t.tiles k
-    ∙ ap (λ n. cond (touches t.window box n) None (tile_in t k)) first
+touched_tile t box k = grind (arith, tile_at_wiped)
 
 -- one that is clean after a box was not touched, and is as before
 pub untouched : (box : Bounds) (t : Table) (k : ℕ) (rows : List ℕ) → tile_in (box_touched box t) k ≡ Some rows
     → (touches t.window box k ≡ false) × (tile_in t k ≡ Some rows)
-untouched box t k rows is =
-    kept_tile (touches t.window box k) (tile_in t k) rows (sym (touched_tile t box k) ∙ is)
+untouched box t k rows is = grind (arith, kept_tile, touched_tile)

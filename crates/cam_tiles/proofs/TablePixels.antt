@@ -1,13 +1,12 @@
 -- The pixels of a table, read from its tiles.
-use Rattle.std.proofs.Common.{◌≡◌, ℕ, ◌+◌, ◌*◌, ◌/◌, ◌%◌, ◌^◌, ◌<◌, Bool, ◌==◌, List, get_or, bit_and, nat_eq}
-use Rattle.std.proofs.Common.{refl, sym, ap, ◌∙◌, arith}
+use Rattle.std.proofs.Common.{◌≡◌, ℕ, ◌+◌, ◌*◌, ◌/◌, ◌%◌, ◌^◌, ◌<◌, Bool, ◌==◌, List, get_or, bit_and, nat_eq, ap, arith}
 use Rattle.std.specs.Int.{bit_at}
-use Rattle.std.specs.Prelude.{Some, option_map, slice_get, slice_index}
+use Rattle.std.specs.Prelude.{option_map, slice_index}
 use Rattle.std.proofs.lemmas.Bool.{lt-ltb}
 use Rattle.std.proofs.lemmas.Nat.Bits.{shr_and_one}
 use Rattle.std.proofs.lemmas.Option.{slice_get_read}
 use Rattle.cam_tiles.specs.Tables.{IsTable, Table, Tile, pixel_of}
-use Rattle.cam_tiles.specs.Tiles.{across, tile_of}
+use Rattle.cam_tiles.specs.Tiles.{across}
 use Rattle.cam_tiles.proofs.TileCounts.{few_tiles, tile_of-lt}
 
 -- whether the pixel of a tile is black
@@ -17,20 +16,12 @@ bit_in column row rows = bit_at (slice_index rows (row % 64)) (column % 64) == 1
 -- the tile of a pixel by the number of tiles side by side
 pub tile_number-lt : (t : Table) (wide column row : ℕ) → IsTable t → wide ≡ across t.window
     → column < t.window.width → row < t.window.height → row / 64 * wide + column / 64 < 262144
-tile_number-lt t wide column row sound same inside below =
-    let number = tile_of-lt t.window column row inside below in
-    omega (arith, ap (λ n. row / 64 * n) same, number, few_tiles t.window sound.accepted)
+tile_number-lt t wide column row sound same inside below = grind (arith, tile_of-lt, few_tiles)
 
 pub pixel_in : (t : Table) (wide column row : ℕ) (tile : Tile) → IsTable t → wide ≡ across t.window
     → column < t.window.width → row < t.window.height → tile ≡ get_or t.tiles (row / 64 * wide + column / 64) tile
     → pixel_of t column row ≡ option_map (bit_in column row) tile
-pixel_in t wide column row tile sound same inside below read =
-    let number : row / 64 * wide + column / 64 ≡ tile_of t.window column row
-    = ap (λ n. row / 64 * n + column / 64) same in
-    let found : slice_get t.tiles (tile_of t.window column row) ≡ Some tile =
-    slice_get_read t.tiles _ _ tile (sym sound.full) (tile_of-lt t.window column row inside below)
-    (read ∙ ap (λ k. get_or t.tiles k tile) number) in
-    rw (lt-ltb column t.window.width inside, lt-ltb row t.window.height below, found) refl
+pixel_in t wide column row tile sound same inside below read = grind (arith, slice_get_read, tile_of-lt, lt-ltb)
 
 -- the bit as it is shifted down
 pub bit_shifted : (rows : List ℕ) (column row : ℕ)

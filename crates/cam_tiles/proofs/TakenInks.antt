@@ -1,15 +1,15 @@
 -- Inks of which some words take a polarity.
-use Rattle.std.proofs.Common.{◌≡◌, ◌⊎◌, ℕ, ◌+◌, ◌-◌, ◌*◌, ◌/◌, ◌%◌, ◌<◌, ◌≤◌, Bool, true, false, Option, Some, None, if◌then◌else◌}
-use Rattle.std.proofs.Common.{List, length, slice_index, take, refl, ap, sym, subst, ◌∙◌, inl, inr, arith, rules}
+use Rattle.std.proofs.Common.{◌≡◌, ◌⊎◌, ℕ, ◌-◌, ◌*◌, ◌<◌, ◌≤◌, Bool, true, Option, Some, None, if◌then◌else◌}
+use Rattle.std.proofs.Common.{List, length, slice_index, take, refl, ap, ◌∙◌, inl, inr, arith, rules}
 use Rattle.std.specs.Option.{option_or}
 use Rattle.std.proofs.lemmas.List.{get_or-take, places, with_items_is}
 use Rattle.std.specs.Vec.{with_items}
 use borrow.Rule.Slice.PartMut.{mid_of, put_mid}
 use Rattle.cam_tiles.specs.Machinery.Marks.{is_marked, is_set}
 use Rattle.cam_tiles.specs.declared.masks.inks.Inks.TheInside.{Inside}
-use Rattle.cam_tiles.specs.Machinery.Inks.{AreKnown, Inked, IsInked, Takes, given, ink_of, inked_of}
+use Rattle.cam_tiles.specs.Machinery.Inks.{Inked, IsInked, Takes, given, ink_of, inked_of}
 use Rattle.cam_tiles.proofs.JoinedCentres.{before_part, behind_part, in_part, of_part}
-use Rattle.cam_tiles.proofs.TurnedBands.{by_band, part_length}
+use Rattle.cam_tiles.proofs.TurnedBands.{part_length}
 
 -- the words from one to another take a polarity where bits say so, and all else stays
 pub record TakesWords (from to : ℕ) (bits : ℕ → ℕ) (ink : Bool) (old new : Inked) : Type 0 where
@@ -23,67 +23,13 @@ pub record TakesWords (from to : ℕ) (bits : ℕ → ℕ) (ink : Bool) (old new
 -- what is decided stays so
 pub kept_set : (d k e n : Bool) (other : Option Bool)
     → (if e then Some n else None) ≡ option_or (if d then Some k else None) other → d ≡ true → e ≡ true
-kept_set d k true n other told is = refl
-kept_set true k false n other told is = cc
-kept_set false k false n other told is = is
-
-or_none : (known : Option Bool) → option_or known None ≡ known
-or_none None = refl
-or_none (Some b) = refl
-
-module _ (from to : ℕ) (bits : ℕ → ℕ) (ink : Bool) (old new : Inked) (taken : TakesWords from to bits ink old new) where
-  known_kept : (tile rows : ℕ) → AreKnown old.decided tile rows → AreKnown new.decided tile rows
-  known_kept tile rows known row column low here =
-      let k = 64 * (column / 64) + row in
-      let was = known row column low here in
-      let stays : (k < from) ⊎ (to ≤ k) → is_marked new.decided row column ≡ true = λ apart.
-      ap (λ w. is_set w (column % 64)) (taken.decided k apart) ∙ was in
-      by_band from to k (λ early. stays (inl early))
-      (λ after until. kept_set _ _ _ _ _ (taken.each k (column % 64) after until (omega arith)) was)
-      (λ late. stays (inr late))
-
-  takes_tiles : (first end : ℕ) (holds : ℕ → ℕ → Bool)
-      → ((row column : ℕ) → row < 64 → 64 * first ≤ column → column < 64 * end
-      → (let k = 64 * (column / 64) + row in
-      ((from ≤ k) × (k < to) × (holds row column ≡ is_set (bits k) (column % 64)))
-      ⊎ (((k < from) ⊎ (to ≤ k)) × (holds row column ≡ false))))
-      → 64 * first ≤ from → to ≤ 64 * end → Takes first end holds ink old new
-  takes_tiles first end holds within begins ends = record {
-    tiles = taken.tiles;
-    each = λ row column low inside after until. elim (within row column low after until) [
-      | inl h ↦ rw h.2 (taken.each (64 * (column / 64) + row) (column % 64) h.0 h.1 (omega arith))
-      | inr h ↦
-          rw (h.1, taken.decided (64 * (column / 64) + row) h.0, taken.dark (64 * (column / 64) + row) h.0)
-          (sym (or_none _))
-    ];
-    others = λ row column low inside apart.
-        let past : (64 * (column / 64) + row < from) ⊎ (to ≤ 64 * (column / 64) + row) = elim apart [
-          | inl early ↦ inl (omega (arith, early, low, begins))
-          | inr late ↦ inr (omega (arith, late, ends))
-        ] in
-        rw (taken.decided (64 * (column / 64) + row) past, taken.dark (64 * (column / 64) + row) past) refl;
-  }
+kept_set d k e n other told is = grind arith
 
 -- what is kept holds on
 inked_kept : (from to : ℕ) (bits : ℕ → ℕ) (ink : Bool) (s n : Inside) → IsInked s
     → TakesWords from to bits ink (inked_of s) (inked_of n) → n.known.items ≡ s.known.items → n.next ≡ s.next
     → length n.decided.items ≡ length s.decided.items → length n.dark.items ≡ length s.dark.items → IsInked n
-inked_kept from to bits ink s n was taken known next size size_dark = record {
-  few = rw taken.tiles was.few;
-  decided = rw (taken.tiles, size) was.decided;
-  dark = rw (taken.tiles, size_dark) was.dark;
-  each = rw (taken.tiles, known) was.each;
-  known = λ tile inside. rw known (
-    (was.known tile (rw taken.tiles at inside)).0,
-    known_kept from to bits ink (inked_of s) (inked_of n) taken tile _ (was.known tile (rw taken.tiles at inside)).1,
-  );
-  pointed = rw (taken.tiles, next) was.pointed;
-  next = rw (taken.tiles, next) (record {
-    within = was.next.within;
-    known = λ tile other inside after until.
-        known_kept from to bits ink (inked_of s) (inked_of n) taken other 64 (was.next.known tile other inside after until);
-  });
-}
+inked_kept from to bits ink s n was taken known next size size_dark = grind arith
 
 -- ---- a part of the words that was written
 
@@ -175,14 +121,4 @@ module _ (s : Inside) (from to : ℕ) (bits decided dark words others : List ℕ
 pub takes_marks : (first end : ℕ) (marks : List ℕ) (ink : Bool) (old new seen : Inked) → first ≤ end → old ≡ seen
     → TakesWords (64 * first) (64 * end) (λ k. slice_index (take (64 * (end - first)) marks) (k - 64 * first)) ink old new
     → Takes first end (λ row column. is_marked marks row (column - 64 * first)) ink seen new
-takes_marks first end marks ink old new seen some is taken =
-    subst (λ (k : Inked). Takes first end (λ row column. is_marked marks row (column - 64 * first)) ink k new) is
-    (takes_tiles (64 * first) (64 * end) _ ink old new taken first end _
-    (λ row column low after until.
-    let k = 64 * (column / 64) + row in
-    let place : 64 * ((column - 64 * first) / 64) + row ≡ k - 64 * first = omega (arith, after) in
-    let bit : (column - 64 * first) % 64 ≡ column % 64 = omega (arith, after) in
-    let part : slice_index (take (64 * (end - first)) marks) (k - 64 * first) ≡ slice_index marks (k - 64 * first) =
-    get_or-take (64 * (end - first)) marks (k - 64 * first) 0 (omega (arith, after, until, low)) in
-    inl (omega (arith, after), omega (arith, until, low), rw (place, bit, part) refl))
-    (omega arith) (omega arith))
+takes_marks first end marks ink old new seen some is taken = grind (arith, get_or-take)

@@ -1,5 +1,5 @@
 -- How many tiles an accepted window has, and which of them a pixel is in.
-use Rattle.std.proofs.Common.{◌≡◌, ℕ, ◌/◌, ◌<◌, ◌≤◌, true, arith}
+use Rattle.std.proofs.Common.{◌≡◌, ℕ, ◌<◌, ◌≤◌, true, arith}
 use Rattle.std.proofs.lemmas.Nat.{mul-le, mul-add-lt}
 use Rattle.cam_tiles.specs.declared.window.Window.{Window}
 use Rattle.cam_tiles.specs.Picture.{accepts}
@@ -20,5 +20,4 @@ few_tiles w h = mul-le (across w) (tiles_down w) 512 512 (few_across w h) (few_d
 
 -- the tile of a pixel is one of the window's
 pub tile_of-lt : (w : Window) (column row : ℕ) → column < w.width → row < w.height → tile_of w column row < tiles_of w
-tile_of-lt w column row inside below =
-    mul-add-lt (row / 64) (across w) (column / 64) (tiles_down w) (omega arith) (omega arith)
+tile_of-lt w column row inside below = grind (arith, mul-add-lt)

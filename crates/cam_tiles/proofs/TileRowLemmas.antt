@@ -1,6 +1,5 @@
 -- The rows of a tile over a grid.
-use Rattle.std.proofs.Common.{◌≡◌, ℕ, zero, suc, ◌<◌, ◌≤◌, Bool, false, ◌&&◌, nat_lt, length, get_or, replicate}
-use Rattle.std.proofs.Common.{refl, sym, ap, ◌∙◌, arith}
+use Rattle.std.proofs.Common.{◌≡◌, ℕ, zero, suc, ◌<◌, ◌≤◌, Bool, false, length, get_or, replicate, refl, arith}
 use Rattle.std.proofs.Math.Bool.{and-false}
 use Rattle.std.proofs.lemmas.Bool.{le-ltb, lt-ltb}
 use Rattle.std.proofs.lemmas.List.FromFn.{length-map-range_with_len, get_or-map-range_with_len}
@@ -10,16 +9,12 @@ use Rattle.cam_tiles.specs.Tiles.{centre_in, is_black_in, tile_rows, word}
 
 -- a row of a grid is clear past its columns
 pub clear_past : (image : Spot → Bool) (g : Grid) (row i : ℕ) → g.cols ≤ i → is_black_in image g row i ≡ false
-clear_past image g row i past =
-    ap (λ b. nat_lt row g.rows && (b && image (centre_in g i row))) (le-ltb i g.cols past)
-    ∙ and-false (nat_lt row g.rows)
+clear_past image g row i past = grind (arith, le-ltb, and-false)
 
 -- and the image within them
 pub shown_within : (image : Spot → Bool) (g : Grid) (row i : ℕ) → row < g.rows → i < g.cols
     → image (centre_in g i row) ≡ is_black_in image g row i
-shown_within image g row i below inside =
-    sym (ap (λ b. b && (nat_lt i g.cols && image (centre_in g i row))) (lt-ltb row g.rows below)
-    ∙ ap (λ b. b && image (centre_in g i row)) (lt-ltb i g.cols inside))
+shown_within image g row i below inside = grind (arith, lt-ltb)
 
 pub length-tile_rows : (image : Spot → Bool) (g : Grid) → length (tile_rows image g) ≡ 64
 unfolding tile_rows

@@ -1,6 +1,5 @@
 -- What boxes leave of the tiles and of the pixels.
-use Rattle.std.proofs.Common.{◌≡◌, ℕ, ◌%◌, Bool, true, false, ◌&&◌, ◌||◌, ◌==◌, cond, nat_lt}
-use Rattle.std.proofs.Common.{List, [], ◌∷◌, refl, ap, ◌∙◌}
+use Rattle.std.proofs.Common.{arith, ◌≡◌, ℕ, ◌%◌, Bool, ◌&&◌, ◌||◌, ◌==◌, cond, nat_lt, List, [], ◌∷◌, refl, ap, ◌∙◌}
 use Rattle.std.specs.Prelude.{None, option_map, slice_index}
 use Rattle.std.specs.Int.{bit_at}
 use Rattle.cam_units.specs.declared.bounds.Bounds.{Bounds}
@@ -12,10 +11,7 @@ use Rattle.cam_tiles.specs.Touched.{is_touched, box_touched, touched_by, touches
 use Rattle.cam_tiles.proofs.TableFacts.{touched_tile, touched_window}
 
 either : (a b : Bool) (tile : Tile) → cond b None (cond a None tile) ≡ cond (a || b) None tile
-either true true tile = refl
-either true false tile = refl
-either false true tile = refl
-either false false tile = refl
+either a b tile = grind arith
 
 pub touched_tiles : (t : Table) (boxes : List Bounds) (k : ℕ)
     → tile_in (touched_by boxes t) k ≡ cond (is_touched t.window boxes k) None (tile_in t k)
@@ -29,10 +25,7 @@ touched_tiles t (box ∷ boxes) k =
 known : (inside wiped : Bool) (tile : Tile) (read : List ℕ → Bool)
     → cond inside (option_map read (cond wiped None tile)) None
     ≡ cond wiped None (cond inside (option_map read tile) None)
-known true true tile read = refl
-known true false tile read = refl
-known false true tile read = refl
-known false false tile read = refl
+known inside wiped tile read = grind arith
 
 pub touched_pixels : (t : Table) (boxes : List Bounds) (column row : ℕ)
     → pixel_of (touched_by boxes t) column row

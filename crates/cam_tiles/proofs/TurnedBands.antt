@@ -1,6 +1,5 @@
 -- Rows of a band, one below another from its first, as they are seen from a point.
-use Rattle.std.proofs.Common.{◌≡◌, ℕ, ◌+◌, ◌-◌, ◌<◌, ◌≤◌, ℤ, pos, ◌+ℤ◌, ◌-ℤ◌, ◌*ℤ◌}
-use Rattle.std.proofs.Common.{List, length, slice_index, ap, ◌∙◌, inl, inr, rules, arith}
+use Rattle.std.proofs.Common.{◌≡◌, ℕ, ◌+◌, ◌-◌, ◌<◌, ◌≤◌, ℤ, pos, ◌+ℤ◌, ◌-ℤ◌, ◌*ℤ◌, List, length, slice_index, ap, rules, arith}
 use Rattle.std.proofs.lemmas.Bool.{cases_lt}
 use Rattle.std.proofs.lemmas.Int.{ints}
 use Rattle.std.proofs.lemmas.List.{places}
@@ -53,18 +52,11 @@ module _ (g : Grid) (at : Point) (top : Centres) (first : ℕ)
 
   height_below : (k : ℕ)
       → top.y -ℤ pos k *ℤ top.step ≡ g.y -ℤ pos (first + k) *ℤ g.step -ℤ pos 2 *ℤ at.y
-  height_below k =
-      ap (λ s. s.y -ℤ pos k *ℤ top.step) (centres 0)
-      ∙ ap (λ s. g.y -ℤ pos first *ℤ g.step -ℤ pos 2 *ℤ at.y -ℤ pos k *ℤ s) step_kept
-      ∙ further_down g.y g.step (pos 2 *ℤ at.y) first k
+  height_below k = grind (arith, step_kept, further_down)
 
   pub below_seen : (k i : ℕ) → centre_at (row_below top k) i ≡ relative at (centre_in g i (first + k))
   below_seen k i = λ j. record { x = (centres i j).x; y = height_below k j }
 
 -- a row lies above a band, in it or below it
 pub by_band : (first end row : ℕ) {Q : Type 0} → (row < first → Q) → (first ≤ row → row < end → Q) → (end ≤ row → Q) → Q
-by_band first end row above within below =
-    elim (cases_lt row first) [
-      | inl early ↦ above early
-      | inr after ↦ elim (cases_lt row end) [ inl until ↦ within after until | inr late ↦ below late ]
-    ]
+by_band first end row above within below = grind (arith, cases_lt)

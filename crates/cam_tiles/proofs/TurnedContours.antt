@@ -1,5 +1,5 @@
 -- What the segments of a contour turn over, one after the other: a mask, or marks in the rows of tiles.
-use Rattle.std.proofs.Common.{◌≡◌, ◌↔◌, ◌≤◌, ◌<◌, ℕ, ◌+◌, ◌-◌, ℤ, pos, Bool, true, false, if◌then◌else◌, IsTrue, List, [], ◌∷◌, length, map}
+use Rattle.std.proofs.Common.{◌≡◌, ◌↔◌, ◌≤◌, ◌<◌, ℕ, ◌+◌, ◌-◌, pos, Bool, false, if◌then◌else◌, IsTrue, List, [], ◌∷◌, length, map}
 use Rattle.std.proofs.Common.{take, drop, get_or, refl, sym, ap, subst, ◌∙◌, arith}
 use Rattle.std.proofs.lemmas.Bool.{false≢true}
 use Rattle.std.proofs.lemmas.Int.{ints}
@@ -10,9 +10,9 @@ use Rattle.cam_units.specs.declared.point.Spot.{Spot}
 use Rattle.cam_units.specs.declared.turn.Turn.{Turn}
 use Rattle.cam_units.specs.declared.turn.Turn.TheVariants.{R0}
 use Rattle.cam_shapes.specs.declared.segments.Seg.{Seg}
-use Rattle.cam_shapes.specs.declared.segments.Seg.TheVariants.{Curve, Line}
+use Rattle.cam_shapes.specs.declared.segments.Seg.TheVariants.{Line}
 use Rattle.cam_shapes.specs.declared.contour.Contour.{Contour}
-use Rattle.cam_shapes.specs.Edge.{crosses_ray, edge, is_above, is_left, is_right}
+use Rattle.cam_shapes.specs.Edge.{crosses_ray, edge}
 use Rattle.cam_shapes.specs.Contour.{IsInContour, IsSoundSeg, end_of}
 use Rattle.cam_shapes.specs.Outline.{lines_to, outline_of}
 use Rattle.cam_shapes.specs.Placing.{placed_contour, placed_point, placed_seg}
@@ -20,52 +20,35 @@ use Rattle.cam_shapes.specs.Sides.{change_side, changes_side, differ}
 use Rattle.cam_shapes.proofs.Parity.{sides_are_parity}
 
 pub differ_false : (b : Bool) → b ≡ differ b false
-differ_false true = refl
-differ_false false = refl
+differ_false b = grind arith
 
 cancelled : (change next all : Bool) → differ (differ (differ change next) all) change ≡ differ next all
-cancelled true true true = refl
-cancelled true true false = refl
-cancelled true false true = refl
-cancelled true false false = refl
-cancelled false next all = sym (differ_false (differ next all))
+cancelled change next all = grind (arith, differ_false)
 
 pub differ_same : (b : Bool) → differ b b ≡ false
-differ_same true = refl
-differ_same false = refl
+differ_same b = grind arith
 
 -- where a segment ends
 pub sound_end : (seg : Seg) → IsSoundSeg seg → IsOnBoard (end_of seg)
-sound_end (Line to) sound = sound
-sound_end (Curve to centre ccw) sound = sound.0
+sound_end seg sound = grind arith
 
 -- no turn, and an offset of (0, 0)
 module _ (o : Point) (no_x : o.x ≡ pos 0) (no_y : o.y ≡ pos 0) where
   kept_point : (p : Point) → placed_point R0 o p ≡ p
-  kept_point p =
-      let q = placed_point R0 o p in
-      let is_x : q.x ≡ p.x = omega (arith, ints, no_x) in
-      let is_y : q.y ≡ p.y = omega (arith, ints, no_y) in
-      let point : ℤ → ℤ → Point = λ x y. record { x = x; y = y } in
-      ap (λ x. point x q.y) is_x ∙ ap (point p.x) is_y
+  kept_point p = grind (arith, ints)
 
   pub kept_seg : (seg : Seg) → placed_seg R0 o seg ≡ seg
-  kept_seg (Line to) = ap Line (kept_point to)
-  kept_seg (Curve to centre ccw) =
-      ap (λ p. Curve p (placed_point R0 o centre) ccw) (kept_point to) ∙ ap (λ p. Curve to p ccw) (kept_point centre)
+  kept_seg seg = grind (arith, kept_point)
 
   abbrev placed_segs : List Seg → List Seg
   placed_segs segs = map (placed_seg R0 o) segs
 
   kept_segs : (segs : List Seg) → placed_segs segs ≡ segs
   kept_segs [] = refl
-  kept_segs (seg ∷ segs) =
-      ap (λ (x : Seg). x ∷ placed_segs segs) (kept_seg seg) ∙ ap (λ (xs : List Seg). seg ∷ xs) (kept_segs segs)
+  kept_segs (seg ∷ segs) = grind (arith, kept_seg, kept_segs segs)
 
   pub kept_contour : (c : Contour) → placed_contour R0 o c ≡ c
-  kept_contour c =
-      ap (λ (p : Point). record { start = p; segs = placed_segs c.segs }) (kept_point c.start)
-      ∙ ap (λ (segs : List Seg). record { start = c.start; segs = segs }) (kept_segs c.segs)
+  kept_contour c = grind (arith, kept_point, kept_segs)
 
 -- whether a contour's segments, all together, change the side of a place
 abbrev pub turns_side : Contour → Spot → Bool
@@ -76,20 +59,15 @@ inside_turned s c = sides_are_parity s c _ refl
 
 -- an outline of no point has no inside
 twice_above : (b left right : Bool) → (if b then (if b then false else right) else (if b then left else false)) ≡ false
-twice_above true left right = refl
-twice_above false left right = refl
+twice_above b left right = grind arith
 
 none_crossed : (t : Turn) (o : Point) (points : List Point) (s : Spot) → length points < 1
     → turns_side (placed_contour t o (outline_of points)) s ≡ false
-none_crossed t o [] s none =
-    let start = placed_point t o (record { x = pos 0; y = pos 0 }) in
-    twice_above (is_above start s) (is_left s (edge start start)) (is_right s (edge start start))
-none_crossed t o (p ∷ ps) s none = absurd (omega arith)
+none_crossed t o points s none = grind (arith, twice_above)
 
 pub no_outline : (t : Turn) (o : Point) (points : List Point) (s : Spot) → length points < 1
     → IsInContour s (placed_contour t o (outline_of points)) → ⊥
-no_outline t o points s none inside =
-    false≢true (sym (none_crossed t o points s none) ∙ (inside_turned s (placed_contour t o (outline_of points))).1 inside)
+no_outline t o points s none inside = grind (arith, false≢true, none_crossed, inside_turned)
 
 -- what is turned over where a test says so: twice where two tests differ
 pub record Turning {M : Type 0} (Turned : (Spot → Bool) → M → M → Type 0) : Type 0 where
@@ -152,8 +130,7 @@ module _ {M : Type 0} (Turned : (Spot → Bool) → M → M → Type 0) (law : T
 
     closed : {old new : M} (c : Contour) (segs : List Seg) → c ≡ record { start = start; segs = segs }
         → Turned (λ s. change_side s start start segs) old new → Turned (turns_side c) old new
-    closed {old = old} {new = new} c segs e h =
-        subst (λ (d : Contour). Turned (turns_side d) old new) (sym e) h
+    closed {old = old} {new = new} c segs e h = grind arith
 
   -- ---- placed segments, of which those from an index on are left
 
@@ -207,10 +184,4 @@ module _ {M : Type 0} (Turned : (Spot → Bool) → M → M → Type 0) (law : T
         → start ≡ placed_point t o (get_or points 0 d)
         → Turned (λ s. change_side s start start (lines t o (take (length points - 1) (drop 1 points)))) old new
         → Turned (turns_side (placed_contour t o (outline_of points))) old new
-    outline_turned [] d start some e = absurd (omega arith)
-    outline_turned (p ∷ ps) d start some e =
-        let whole = take_all (length (p ∷ ps) - 1) ps (omega arith) in
-        closed start (placed_contour t o (outline_of (p ∷ ps)))
-        (lines t o (take (length (p ∷ ps) - 1) ps))
-        (ap (λ q. record { start = q; segs = lines t o ps }) (sym e)
-        ∙ ap (λ qs. record { start = start; segs = lines t o qs }) (sym whole))
+    outline_turned points d start some e = grind (arith, take_all, closed)

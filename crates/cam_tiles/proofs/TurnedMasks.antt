@@ -1,5 +1,5 @@
 -- Masks that are turned over at the places of shapes.
-use Rattle.std.proofs.Common.{◌≡◌, ◌↔◌, ℕ, Bool, false, IsTrue, refl, subst, sym, ◌∙◌}
+use Rattle.std.proofs.Common.{arith, ◌≡◌, ◌↔◌, ℕ, Bool, IsTrue}
 use Rattle.std.proofs.lemmas.Bool.{false≢true}
 use Rattle.cam_units.specs.declared.point.Point.{Point}
 use Rattle.cam_units.specs.declared.point.Spot.{Spot}
@@ -9,7 +9,6 @@ use Rattle.cam_shapes.specs.Sides.{differ}
 use Rattle.cam_objects.specs.Image.{relative}
 use Rattle.cam_tiles.specs.declared.grid.Grid.{Grid}
 use Rattle.cam_tiles.specs.Machinery.Masks.{AreMarksOf, IsBlank, IsIn, IsMarked, Joins, Marking, Merges, Turns, TurnsBy}
-use Rattle.cam_tiles.specs.Machinery.Masks.{turned_over}
 use Rattle.cam_tiles.specs.declared.masks.join.Join.{Join}
 use Rattle.cam_tiles.specs.Tiles.{centre_in}
 use Rattle.cam_tiles.proofs.ChangedParities.{from_even, not_turned, turned_like, turned_twice}
@@ -18,30 +17,16 @@ use Rattle.cam_tiles.proofs.TurnedContours.{Turning, inside_turned, turns_side}
 
 pub turns_like : (P Q : Spot → Type 0) (old new : Marking) → ((s : Spot) → P s ↔ Q s) → Turns P old new
     → Turns Q old new
-turns_like P Q old new alike h = record {
-  grid = h.grid;
-  marks = λ column row there.
-      turned_like _ _ _ _ (alike (centre_in old.grid column row)) (h.marks column row there);
-}
+turns_like P Q old new alike h = grind (arith, turned_like)
 
 pub turns_nothing : (P : Spot → Type 0) (m : Marking)
     → ((column row : ℕ) → IsIn m.grid column row → P (centre_in m.grid column row) → ⊥) → Turns P m m
-turns_nothing P m none = record {
-  grid = refl;
-  marks = λ column row there. not_turned _ _ (none column row there);
-}
+turns_nothing P m none = grind (arith, not_turned)
 
 -- two more
 pub turns_twice : (f g : Spot → Bool) (old between new : Marking) → Turns (λ s. IsTrue (f s)) old between
     → Turns (λ s. IsTrue (g s)) between new → Turns (λ s. IsTrue (differ (f s) (g s))) old new
-turns_twice f g old between new h k = record {
-  grid = k.grid ∙ h.grid;
-  marks = λ column row there.
-      turned_twice (f (centre_in old.grid column row)) (g (centre_in old.grid column row)) _ _ _
-      (set_or_not _ column) (h.marks column row there)
-      (subst (λ (o : Grid). (i j : ℕ) → IsIn o i j
-      → IsMarked new i j ↔ turned_over (IsMarked between i j) (IsTrue (g (centre_in o i j)))) h.grid k.marks column row there);
-}
+turns_twice f g old between new h k = grind (arith, turned_twice, set_or_not)
 
 module _ (at : Point) where
   -- where a test of places says so, as they are seen from a point
@@ -49,10 +34,7 @@ module _ (at : Point) where
   TurnsSo test = Turns (λ s. IsTrue (test (relative at s)))
 
   pub turning : Turning TurnsSo
-  turning = record {
-    none = λ m. turns_nothing (λ s. IsTrue false) m (λ column row there held. false≢true held);
-    twice = λ f g. turns_twice (λ s. f (relative at s)) (λ s. g (relative at s));
-  }
+  turning = grind (arith, turns_nothing, false≢true, turns_twice)
 
   pub turned_inside : (c : Contour) (old new : Marking) → TurnsSo (turns_side c) old new
       → Turns (λ s. IsInContour (relative at s) c) old new
@@ -60,27 +42,16 @@ module _ (at : Point) where
 
 -- a blank mask that is turned shows the shape
 pub shows_turned : (P : Spot → Type 0) (blank new : Marking) → IsBlank blank → Turns P blank new → Shows P new
-shows_turned P blank new none h = record {
-  marks = subst (λ (o : Grid). (column row : ℕ) → IsIn o column row
-      → IsMarked new column row ↔ P (centre_in o column row)) (sym h.grid)
-      (λ column row there. from_even _ _ _ _ same (none column row there) (h.marks column row there));
-}
+shows_turned P blank new none h = grind (arith, from_even, same)
 
 -- ---- masks of shapes
 
 module _ (P : Spot → Type 0) (g : Grid) (own old new : Marking) (is : g ≡ old.grid) (marks : AreMarksOf g P own) where
   told : (column row : ℕ) → IsIn old.grid column row → IsMarked own column row ↔ P (centre_in old.grid column row)
-  told = subst (λ (o : Grid). (column row : ℕ) → IsIn o column row
-      → IsMarked own column row ↔ P (centre_in o column row)) is marks.marks
+  told = grind arith
 
   pub marks_joined : (how : Join) → Merges how own old new → Joins how P old new
-  marks_joined how h = record {
-    grid = h.grid;
-    marks = λ column row there. joined_like how _ _ _ _ _ same (told column row there) (h.marks column row there);
-  }
+  marks_joined how h = grind (arith, joined_like, same, told)
 
   pub marks_turned : TurnsBy own old new → Turns P old new
-  marks_turned h = record {
-    grid = h.grid;
-    marks = λ column row there. turned_like _ _ _ _ (told column row there) (h.marks column row there);
-  }
+  marks_turned h = grind (arith, turned_like, told)

@@ -1,6 +1,6 @@
 -- Windows: the centres between the first and the last, and the test of the limits.
-use Rattle.std.proofs.Common.{◌≡◌, ℕ, ◌+◌, ◌*◌, ◌-◌, ◌^◌, ◌<◌, ◌≤◌, ℤ, pos, negsuc, ◌+ℤ◌, ◌*ℤ◌, ◌≤ℤ◌, true}
-use Rattle.std.proofs.Common.{sym, ap, subst, ◌∙◌, FitsSigned, w64, arith}
+use Rattle.std.proofs.Common.{rules, ◌≡◌, ℕ, ◌+◌, ◌*◌, ◌-◌, ◌^◌, ◌<◌, ◌≤◌, ℤ, pos, ◌+ℤ◌, ◌*ℤ◌, ◌≤ℤ◌, true, ap, subst, FitsSigned}
+use Rattle.std.proofs.Common.{w64, arith}
 use Rattle.std.specs.Int.{w128, cast_signed, cast_unsigned}
 use Rattle.std.specs.Int.RustNames.{unsigned_abs, int_le}
 use Rattle.std.proofs.lemmas.Bool.{and_parts, and_from, ltb-true, lt-ltb, leb-true, le-leb}
@@ -23,11 +23,7 @@ between e a b c h k first last = omega (arith, ints)
 
 middle_between : (e p : ℤ) (n m : ℕ) → pos 1 ≤ℤ p → n ≤ m → IsNear (middle e p 0) → IsNear (middle e p m)
     → IsNear (middle e p n)
-middle_between e (pos q) n m h k first last =
-    let low : 1 * q ≤ (2 * n + 1) * q = mul-le 1 q (2 * n + 1) q (omega arith) (omega arith) in
-    let high : (2 * n + 1) * q ≤ (2 * m + 1) * q = mul-le (2 * n + 1) q (2 * m + 1) q (omega arith) (omega arith) in
-    between e (1 * q) ((2 * n + 1) * q) ((2 * m + 1) * q) low high first last
-middle_between e (negsuc q) n m h k first last = absurd (omega (arith, ints))
+middle_between e p n m h k first last = grind (arith, mul-le, between, ints)
 
 pub le_of : (a b : ℤ) → int_le a b ≡ true → a ≤ℤ b
 le_of a b h = grind (arith, ints)
@@ -42,9 +38,7 @@ from_side : (n : ℕ) → (1 ≤ n) × (n ≤ longest_side) → is_side n ≡ tr
 from_side n h = and_from _ _ (le-leb _ _ h.0) (le-leb _ _ h.1)
 
 near : (e p : ℤ) (n m : ℕ) → pos 1 ≤ℤ p → n < m → are_near e p m ≡ true → IsNear (middle e p n)
-near e p n m some within h =
-    let both = and_parts _ _ h in
-    middle_between e p n (m - 1) some (omega arith) (ltb-true _ _ both.0) (ltb-true _ _ both.1)
+near e p n m some within h = grind (arith, and_parts, middle_between, ltb-true)
 
 pub accepted : (w : Window) → accepts w ≡ true → IsAcceptedWindow w
 unfolding accepts
@@ -100,34 +94,18 @@ twice_bound : (e : ℤ) → unsigned_abs e ≤ 2 ^ 63 → unsigned_abs (pos 2 *�
 twice_bound e h = omega (arith, ints)
 
 product_bound : (n p : ℤ) → unsigned_abs n ≤ 2 ^ 34 → unsigned_abs p ≤ 2 ^ 63 → unsigned_abs (n *ℤ p) ≤ 2 ^ 97
-product_bound n p h k =
-    omega (arith, unsigned_abs-mul n p, mul-le (unsigned_abs n) (unsigned_abs p) (2 ^ 34) (2 ^ 63) h k)
+product_bound n p h k = grind (arith, unsigned_abs-mul, mul-le)
 
 -- the middle of a pixel as the code computes it
 pub middle_kept : (e n p edge pitch : ℤ) (pixel : ℕ) → e ≡ edge → n ≡ pos (2 * pixel + 1) → p ≡ pitch
     → FitsSigned w64 edge → pixel < 2 ^ 32 → FitsSigned w64 pitch
     → kept (pos 2 *ℤ kept e) +ℤ kept (kept n *ℤ kept p) ≡ middle edge pitch pixel
 middle_kept e n p edge pitch pixel is_edge is_count is_pitch edge_fits few pitch_fits =
-    let e_bound : unsigned_abs e ≤ 2 ^ 63 = omega (arith, ints, ap unsigned_abs is_edge) in
-    let n_bound : unsigned_abs n ≤ 2 ^ 34 = omega (arith, ints, ap unsigned_abs is_count) in
-    let p_bound : unsigned_abs p ≤ 2 ^ 63 = omega (arith, ints, ap unsigned_abs is_pitch) in
-    let product = product_bound n p n_bound p_bound in
-    ap (λ z. kept (pos 2 *ℤ z) +ℤ kept (kept n *ℤ kept p)) (kept-is e (omega arith))
-    ∙ ap (λ z. z +ℤ kept (kept n *ℤ kept p)) (kept-is (pos 2 *ℤ e) (twice_bound e e_bound))
-    ∙ ap (λ z. pos 2 *ℤ e +ℤ kept (z *ℤ kept p)) (kept-is n (omega arith))
-    ∙ ap (λ z. pos 2 *ℤ e +ℤ kept (n *ℤ z)) (kept-is p (omega arith))
-    ∙ ap (λ z. pos 2 *ℤ e +ℤ z) (kept-is (n *ℤ p) (omega (arith, product)))
-    ∙ ap (λ z. pos 2 *ℤ z +ℤ n *ℤ p) is_edge
-    ∙ ap (λ z. pos 2 *ℤ edge +ℤ z *ℤ p) is_count
-    ∙ ap (λ z. pos 2 *ℤ edge +ℤ pos (2 * pixel + 1) *ℤ z) is_pitch
+    grind (arith, ints, product_bound, kept-is, twice_bound)
 
 middle_bound : (edge pitch : ℤ) (pixel : ℕ) → FitsSigned w64 edge → pixel < 2 ^ 32 → FitsSigned w64 pitch
     → unsigned_abs (middle edge pitch pixel) < 2 ^ 127
-middle_bound edge pitch pixel edge_fits few pitch_fits =
-    let e_bound : unsigned_abs edge ≤ 2 ^ 63 = omega (arith, ints) in
-    let p_bound : unsigned_abs pitch ≤ 2 ^ 63 = omega (arith, ints) in
-    sum_bound edge (pos (2 * pixel + 1) *ℤ pitch) e_bound
-    (product_bound (pos (2 * pixel + 1)) pitch (omega arith) p_bound)
+middle_bound edge pitch pixel edge_fits few pitch_fits = search (rules, ints, sum_bound, product_bound)
 
 pub middle_fits : (z edge pitch : ℤ) (pixel : ℕ) → z ≡ middle edge pitch pixel
     → FitsSigned w64 edge → pixel < 2 ^ 32 → FitsSigned w64 pitch → FitsSigned w128 z
@@ -137,20 +115,14 @@ middle_fits z edge pitch pixel e edge_fits few pitch_fits =
 
 pub kept_middle : (z edge pitch : ℤ) (pixel : ℕ) → z ≡ middle edge pitch pixel
     → FitsSigned w64 edge → pixel < 2 ^ 32 → FitsSigned w64 pitch → kept z ≡ middle edge pitch pixel
-kept_middle z edge pitch pixel e edge_fits few pitch_fits =
-    to_z-of_z w128 z (middle_fits z edge pitch pixel e edge_fits few pitch_fits) ∙ e
+kept_middle z edge pitch pixel e edge_fits few pitch_fits = grind (arith, to_z-of_z, middle_fits)
 
 -- a centre of an accepted window, as the code casts it
 cast_near : (z m : ℤ) → z ≡ m → IsNear m → cast_signed w64 (cast_unsigned w64 (kept z)) ≡ m
-cast_near z m e h =
-    let bound : IsNear z = omega (arith, ap unsigned_abs e) in
-    ap (λ n. cast_signed w64 (cast_unsigned w64 n)) (kept-is z (omega arith))
-    ∙ to_z-of_z w64 z (fits_signed_from_abs w64 z (omega arith)) ∙ e
+cast_near z m e h = grind (arith, kept-is, to_z-of_z, fits_signed_from_abs)
 
 pub near_fits : (z m : ℤ) → z ≡ m → IsNear m → FitsSigned w64 (kept z)
-near_fits z m e h =
-    let bound : IsNear z = omega (arith, ap unsigned_abs e) in
-    subst (FitsSigned w64) (sym (kept-is z (omega arith))) (fits_signed_from_abs w64 z (omega arith))
+near_fits z m e h = grind (arith, kept-is, fits_signed_from_abs)
 
 -- a spot as the code casts it
 abbrev pub spot_cast : ℤ → ℤ → Spot
@@ -160,9 +132,4 @@ spot_cast x y =
 pub centre_cast : (w : Window) (column row : ℕ) (x y : ℤ)
     → x ≡ middle w.x w.pitch column → y ≡ middle w.y w.pitch (w.height - 1 - row)
     → IsPlace (centre_of w column row) → spot_cast x y ≡ centre_of w column row
-centre_cast w column row x y e e' h =
-    let across = cast_near x (middle w.x w.pitch column) e h.x in
-    let up = cast_near y (middle w.y w.pitch (w.height - 1 - row)) e' h.y in
-    let spot : ℤ → ℤ → Spot = λ a b. record { x = a; y = b } in
-    ap (λ a. spot a (cast_signed w64 (cast_unsigned w64 (kept y)))) across
-    ∙ ap (λ b. spot (middle w.x w.pitch column) b) up
+centre_cast w column row x y e e' h = grind (arith, cast_near)

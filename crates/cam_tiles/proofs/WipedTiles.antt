@@ -1,7 +1,6 @@
 -- Wiping: tiles run by run, and those of a box.
-use Rattle.std.proofs.Common.{◌≡◌, ℕ, zero, suc, ◌+◌, ◌-◌, ◌*◌, ◌/◌, ◌%◌, ◌<◌, ◌≤◌}
-use Rattle.std.proofs.Common.{Bool, true, false, ◌&&◌, ◌||◌, nat_le, nat_lt, cond}
-use Rattle.std.proofs.Common.{List, [], ◌∷◌, length, length-take, take, get_or, inl, inr, refl, sym, ap, ◌∙◌, arith}
+use Rattle.std.proofs.Common.{◌≡◌, ℕ, zero, suc, ◌+◌, ◌-◌, ◌*◌, ◌/◌, ◌%◌, ◌<◌, ◌≤◌, Bool, true, false, ◌&&◌, ◌||◌, nat_le, nat_lt}
+use Rattle.std.proofs.Common.{cond, List, [], ◌∷◌, length, length-take, take, get_or, inl, inr, refl, sym, ap, ◌∙◌, arith}
 use Rattle.std.specs.List.{list_any, range_with_len}
 use Rattle.std.specs.Prelude.{None}
 use Rattle.std.proofs.Math.Nat.{mul-le-mul_right, mod-lt}
@@ -47,21 +46,16 @@ pub next_row_wiped : (columns : Span) (start row wide k : ℕ) (wiped before til
     → before ≡ cond (is_in_rows columns start row (k % wide) (k / wide)) None tile
     → wiped ≡ cond (is_in_rows columns start (row + 1) (k % wide) (k / wide)) None tile
 next_row_wiped columns start row wide k wiped before tile some fits begun now so_far =
-    let rest : Tile = cond (is_in_rows columns start row (k % wide) (k / wide)) None tile in
-    now ∙ ap (λ t. cond (is_in_run columns (wide * row) k) None t) so_far
-    ∙ ap (λ n. cond (is_in_run columns (wide * row) n) None rest) (sym (tile_numbered k wide some))
-    ∙ row_more columns start row wide (k / wide) (k % wide) tile (mod-lt k some) fits begun
+    grind (arith, tile_numbered, row_more, mod-lt)
 
 -- the tiles that a test leaves
 still_none : (b : Bool) → ◌≡◌ {A = Tile} None (cond b None None)
-still_none true = refl
-still_none false = refl
+still_none b = grind arith
 
 pub get_or-wiped_from : (is_wiped : ℕ → Bool) (first : ℕ) (tiles : List Tile) (k : ℕ)
     → get_or (wiped_from is_wiped first tiles) k None ≡ cond (is_wiped (first + k)) None (get_or tiles k None)
 get_or-wiped_from is_wiped first [] k = still_none (is_wiped (first + k))
-get_or-wiped_from is_wiped first (tile ∷ tiles) zero =
-    let same : first ≡ first + 0 = omega arith in ap (λ n. cond (is_wiped n) None tile) same
+get_or-wiped_from is_wiped first (tile ∷ tiles) zero = grind arith
 get_or-wiped_from is_wiped first (tile ∷ tiles) (suc k) =
     let same : first + 1 + k ≡ first + suc k = omega arith in
     get_or-wiped_from is_wiped (first + 1) tiles k ∙ ap (λ n. cond (is_wiped n) None (get_or tiles k None)) same
@@ -78,41 +72,29 @@ none_passes p none (n ∷ numbers) = or_from (p n) (list_any p numbers) (none n)
 
 touches_none : (w : Window) (k : ℕ) → touches w Empty k ≡ false
 unfolding touches
-touches_none w k =
-    none_passes (λ row. list_any (λ column. false) (range_with_len (first_column w k) (columns w k)))
-    (λ row. none_passes (λ column. false) (λ column. refl) (range_with_len (first_column w k) (columns w k)))
-    (range_with_len (top w k) (rows w k))
+touches_none w k = grind (arith, none_passes)
 
 none_wiped : (is_wiped : ℕ → Bool) → ((k : ℕ) → is_wiped k ≡ false) → (first : ℕ) (tiles : List Tile)
     → wiped_from is_wiped first tiles ≡ tiles
 none_wiped is_wiped none first [] = refl
-none_wiped is_wiped none first (tile ∷ tiles) =
-    ap (λ b. cond b None tile ∷ wiped_from is_wiped (first + 1) tiles) (none first)
-    ∙ ap (λ rest. tile ∷ rest) (none_wiped is_wiped none (first + 1) tiles)
+none_wiped is_wiped none first (tile ∷ tiles) = grind (arith, none_wiped is_wiped none (first + 1) tiles)
 
 pub touched_empty : (t : Table) → box_touched Empty t ≡ t
-touched_empty t =
-    ap (λ tiles. record { window = t.window; tiles = tiles })
-    (none_wiped (touches t.window Empty) (touches_none t.window) 0 t.tiles)
+touched_empty t = grind (arith, none_wiped, touches_none)
 
 -- pixels that pass by their column and by their row
 spread : (a b c : Bool) → ((a && b) || (c && b)) ≡ ((a || c) && b)
-spread true true c = refl
-spread true false true = refl
-spread true false false = refl
-spread false b c = refl
+spread a b c = grind arith
 
 any_column : (p : ℕ → Bool) (b : Bool) (columns : List ℕ) → list_any (λ n. p n && b) columns ≡ (list_any p columns && b)
 any_column p b [] = refl
 any_column p b (n ∷ columns) = ap (λ r. (p n && b) || r) (any_column p b columns) ∙ spread (p n) b (list_any p columns)
 
 neither : (a : Bool) → false ≡ (a && false)
-neither true = refl
-neither false = refl
+neither a = grind arith
 
 gather : (a b c : Bool) → ((a && b) || (a && c)) ≡ (a && (b || c))
-gather true b c = refl
-gather false b c = refl
+gather a b c = grind arith
 
 any_column_and_row : (p q : ℕ → Bool) (columns rows : List ℕ)
     → list_any (λ row. list_any (λ column. p column && q row) columns) rows ≡ (list_any p columns && list_any q rows)

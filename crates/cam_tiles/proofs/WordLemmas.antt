@@ -1,5 +1,5 @@
 -- Words: numbers whose bits a test says.
-use Rattle.std.proofs.Common.{◌≡◌, ℕ, zero, suc, ◌+◌, ◌-◌, ◌*◌, ◌^◌, ◌<◌, Bool, true, false, cond, if◌then◌else◌}
+use Rattle.std.proofs.Common.{◌≡◌, ℕ, zero, suc, ◌+◌, ◌-◌, ◌*◌, ◌^◌, ◌<◌, Bool, cond, if◌then◌else◌}
 use Rattle.std.proofs.Common.{refl, ap, ◌∙◌, inl, inr, nat_eq, arith}
 use Rattle.std.specs.Int.{bit_at}
 use Rattle.std.proofs.Math.Nat.{pow-suc}
@@ -11,8 +11,7 @@ use Rattle.cam_tiles.specs.Tiles.{word}
 
 last_bit : (b : Bool) (low power next : ℕ) → low < power → next ≡ 2 * power
     → low + (if b then power else 0) < next
-last_bit true low power next h e = omega arith
-last_bit false low power next h e = omega arith
+last_bit b low power next h e = grind arith
 
 pub word-lt : (bit : ℕ → Bool) (n : ℕ) → word bit n < 2 ^ n
 unfolding word
@@ -23,12 +22,10 @@ word-lt bit (suc n) = last_bit (bit n) (word bit n) (2 ^ n) (2 ^ suc n) (word-lt
 
 -- the bit that a word gains stands above the others
 on_top : (b : Bool) (low power : ℕ) → low + cond b power 0 ≡ bit_of b * power + low
-on_top true low power = omega arith
-on_top false low power = omega arith
+on_top b low power = grind arith
 
 lone_bit : (b : Bool) → bit_at (bit_of b) 0 ≡ bit_of b
-lone_bit true = refl
-lone_bit false = refl
+lone_bit b = grind arith
 
 pub bit_at-word : (bit : ℕ → Bool) (n i : ℕ) → i < n → bit_at (word bit n) i ≡ bit_of (bit i)
 unfolding word
@@ -44,8 +41,7 @@ bit_at-word bit (suc n) i h =
     ]
 
 is_one : (b : Bool) → nat_eq (bit_of b) 1 ≡ b
-is_one true = refl
-is_one false = refl
+is_one b = grind arith
 
 -- the test of a word's bit
 pub word_bit : (bit : ℕ → Bool) (n i : ℕ) → i < n → nat_eq (bit_at (word bit n) i) 1 ≡ bit i
@@ -54,6 +50,4 @@ word_bit bit n i h = ap (λ m. nat_eq m 1) (bit_at-word bit n i h) ∙ is_one (b
 pub same_word : (bit other : ℕ → Bool) (n : ℕ) → ((i : ℕ) → i < n → bit i ≡ other i) → word bit n ≡ word other n
 unfolding word
 same_word bit other zero same = refl
-same_word bit other (suc n) same =
-    ap (λ m. m + cond (bit n) (2 ^ n) 0) (same_word bit other n (λ i low. same i (omega arith)))
-    ∙ ap (λ b. word other n + cond b (2 ^ n) 0) (same n (omega arith))
+same_word bit other (suc n) same = grind (arith, same_word bit other n (λ i low. same i (omega arith)))

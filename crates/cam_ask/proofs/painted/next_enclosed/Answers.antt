@@ -2,7 +2,6 @@ use Rattle.std.proofs.Common.{◌≡◌, ◌∙◌, ℕ, ◌<◌, List, length, 
 use Rattle.std.proofs.lemmas.Bool.{false≢true}
 use Rattle.std.proofs.lemmas.List.{get_or-map, length-map}
 use Rattle.cam_units.specs.declared.bounds.Bounds.{Bounds}
-use Rattle.cam_units.specs.declared.bounds.Bounds.TheVariants.{Empty}
 use Rattle.cam_objects.specs.declared.entry.Entry.{Entry}
 use Rattle.cam_objects.specs.declared.item.Item.{Item}
 use Rattle.cam_objects.specs.Cells.{box_at}
@@ -16,10 +15,7 @@ use Rattle.cam_ask.proofs.painted.next_enclosed.Goals as goal
 read : (entries es : List (ℕ × Entry)) (items all : List Item) (place : ℕ) (x : Item) → entries ≡ es → items ≡ all
     → place < length items → x ≡ get_or items place x
     → box_at (map (painted_box (meaning_in es)) all) place ≡ painted_box (meaning_in entries) x
-read entries es items all place x same listed below at =
-    get_or-map (painted_box (meaning_in es)) all place x Empty (subst (λ (xs : List Item). place < length xs) listed below)
-    ∙ ap (painted_box (meaning_in es)) (subst (λ (xs : List Item). get_or xs place x ≡ x) listed (sym at))
-    ∙ ap (λ (ds : List (ℕ × Entry)). painted_box (meaning_in ds) x) (sym same)
+read entries es items all place x same listed below at = grind (arith, get_or-map)
 
 pub returns-then-is_painted_in : goal.returns-then-is_painted_in
 returns-then-is_painted_in c =

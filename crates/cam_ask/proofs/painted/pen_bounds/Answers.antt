@@ -1,7 +1,6 @@
-use Rattle.std.proofs.Common.{◌≡◌, ◌≤◌, ℤ, pos, ◌+ℤ◌, ◌-ℤ◌, ◌≤ℤ◌, to_z, of_z, w64, ap, ◌∙◌, arith}
+use Rattle.std.proofs.Common.{◌≡◌, ◌≤◌, ℤ, pos, ◌+ℤ◌, ◌-ℤ◌, ◌≤ℤ◌, to_z, of_z, w64, arith}
 use Rattle.std.specs.Int.RustNames.{unsigned_abs}
 use Rattle.std.proofs.lemmas.Int.{ints}
-use Rattle.cam_apertures.specs.Primitives.{box_about}
 use Rattle.cam_apertures.proofs.Corners.{same_box}
 use Rattle.cam_ask.proofs.painted.pen_bounds.Goals as goal
 
@@ -14,9 +13,4 @@ more : (z r : ℤ) → pos 0 ≤ℤ r → r ≤ℤ pos 6000000000 → unsigned_a
 more z r some few near = omega (arith, ints)
 
 pub returns : goal.returns
-returns c =
-    let some = c.requires.some in
-    let few = c.requires.few in
-    same_box _ _ _ _ _ _ _ _ (less c.args.at.x c.args.reach some few c.requires.x) (less c.args.at.y c.args.reach some few c.requires.y)
-    (more c.args.at.x c.args.reach some few c.requires.x) (more c.args.at.y c.args.reach some few c.requires.y)
-    ∙ ap (λ (r : ℤ). box_about c.args.at r r) c.requires.reach
+returns c = grind (arith, same_box, less, more)

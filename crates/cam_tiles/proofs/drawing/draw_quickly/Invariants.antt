@@ -1,9 +1,8 @@
 use Rattle.std.proofs.Common.{ℕ, List}
 use Rattle.cam_objects.specs.Tests.{is_black}
-use Rattle.cam_tiles.specs.Machinery.Shown.{leaves_by_item}
+use Rattle.cam_tiles.specs.Machinery.Shown.{leaves_by_item, leaves_of}
 use Rattle.cam_tiles.specs.Machinery.Drawn.{IsPartlyDrawn}
 use Rattle.cam_tiles.specs.Machinery.Indexes.{IsIndexOf}
-use Rattle.cam_tiles.specs.Machinery.Shown.{leaves_of}
 use Rattle.cam_tiles.specs.Tiles.{grid_of, tile_rows}
 use Rattle.cam_tiles.proofs.drawing.draw_quickly.Given as goal
 

@@ -1,4 +1,4 @@
-use Rattle.std.proofs.Common.{◌≡◌, ◌^◌, ◌≤◌, ℤ, ◌*ℤ◌, FitsSigned, w64, rules, arith}
+use Rattle.std.proofs.Common.{◌^◌, ◌≤◌, ℤ, ◌*ℤ◌, FitsSigned, w64, rules, arith}
 use Rattle.std.specs.Int.{w128}
 use Rattle.std.specs.Int.RustNames.{unsigned_abs}
 use Rattle.std.proofs.lemmas.Int.{fits_signed_from_abs, ints, unsigned_abs-mul}
@@ -8,17 +8,10 @@ use Rattle.cam_tiles.proofs.WindowLemmas.{middle_kept, middle_fits, kept_middle}
 use Rattle.cam_tiles.proofs.window.middle.Goals as goal
 
 product_fits : (n p : ℤ) → unsigned_abs n ≤ 2 ^ 34 → unsigned_abs p ≤ 2 ^ 63 → FitsSigned w128 (wide n *ℤ wide p)
-product_fits n p h k =
-    let bound : unsigned_abs (n *ℤ p) ≤ 2 ^ 97 =
-    omega (arith, unsigned_abs-mul n p, mul-le (unsigned_abs n) (unsigned_abs p) (2 ^ 34) (2 ^ 63) h k) in
-    let first : wide n ≡ n = omega (arith, ints) in
-    let second : wide p ≡ p = omega (arith, ints) in
-    rw (first, second) (fits_signed_from_abs w128 (n *ℤ p) (omega (arith, bound)))
+product_fits n p h k = grind (arith, unsigned_abs-mul, mul-le, wide, ints, fits_signed_from_abs)
 
 pub overflow_mul-result-2 : goal.overflow_mul-result-2
-overflow_mul-result-2 c =
-    let pitch : FitsSigned w64 c.args.pitch = search rules in
-    product_fits c.from-3.result c.from-4.result (omega (arith, ints)) (omega (arith, ints, pitch))
+overflow_mul-result-2 c = grind (arith, product_fits, ints)
 
 pub overflow_add-result : goal.overflow_add-result
 overflow_add-result c =

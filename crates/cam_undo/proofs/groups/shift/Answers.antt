@@ -1,7 +1,6 @@
 use Rattle.cam_undo.proofs.Lasts.{keep_last-room, steps_of-snoc, with_last}
 use Rattle.cam_undo.proofs.Plays.{last_group_fits}
 use Rattle.cam_undo.proofs.groups.shift.Goals as goal
-use Rattle.cam_undo.proofs.groups.shift.Goals.{Joined-push_back}
 use Rattle.cam_undo.specs.Kept.{steps_of}
 use Rattle.circular_buffer.specs.Buffer.{last_item}
 use Rattle.cam_undo.specs.Machine.{all_but_last}

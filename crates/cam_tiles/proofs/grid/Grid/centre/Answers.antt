@@ -1,13 +1,10 @@
-use Rattle.std.proofs.Common.{sym, subst, FitsSigned, w64, rules}
+use Rattle.std.proofs.Common.{arith, sym, subst, FitsSigned, w64, rules}
 use Rattle.cam_units.specs.Board.{IsPlace}
 use Rattle.cam_tiles.proofs.StepLemmas.{x_fits, y_fits, centre_kept, down_way_fits, right_way_fits}
 use Rattle.cam_tiles.proofs.grid.Grid.centre.Goals as goal
 
 pub overflow_add-result : goal.overflow_add-result
-overflow_add-result c =
-    let g = c.args.self.now in
-    let fits : FitsSigned w64 g.step = search rules in
-    x_fits g c.args.column c.args.row c.requires.grid c.requires.column c.requires.row fits c.from.result c.from.ensures
+overflow_add-result c = search (rules, x_fits)
 
 pub overflow_sub-result : goal.overflow_sub-result
 overflow_sub-result c =
@@ -17,11 +14,7 @@ overflow_sub-result c =
     c.from-2.result c.from-2.ensures
 
 pub returns-clause-value : goal.returns-clause-value
-returns-clause-value c =
-    let g = c.args.self.now in
-    let fits : FitsSigned w64 g.step = search rules in
-    centre_kept g c.args.column c.args.row c.requires.grid c.requires.column c.requires.row fits
-    c.from.result c.from-2.result c.from.ensures c.from-2.ensures
+returns-clause-value c = grind (arith, centre_kept)
 
 pub returns-clause-place : goal.returns-clause-place
 returns-clause-place c =
@@ -35,8 +28,4 @@ overflow_mul-result c =
     right_way_fits g c.args.column c.args.row c.requires.grid c.requires.column c.requires.row fits c.from.result c.from.ensures
 
 pub overflow_mul-result-2 : goal.overflow_mul-result-2
-overflow_mul-result-2 c =
-    let g = c.args.self.now in
-    let fits : FitsSigned w64 g.step = search rules in
-    down_way_fits g c.args.column c.args.row c.requires.grid c.requires.column c.requires.row fits
-    c.from-2.result c.from-2.ensures
+overflow_mul-result-2 c = grind (arith, down_way_fits)

@@ -17,10 +17,7 @@ overflow_sub-result-3 c =
     seen_y_fits g c.args.row c.args.at c.from.result c.requires.grid c.requires.row c.requires.at fits c.from.ensures
 
 pub returns-clause-centres : goal.returns-clause-centres
-returns-clause-centres c =
-    let g = c.args.self.now in
-    let fits : FitsSigned w64 g.step = search rules in
-    row_seen g c.args.row c.args.at c.from.result c.requires.grid c.requires.row c.requires.at fits c.from.ensures
+returns-clause-centres c = grind (arith, row_seen)
 
 pub returns-clause-row : goal.returns-clause-row
 returns-clause-row c =
@@ -35,19 +32,13 @@ returns-clause-row c =
     }
 
 pub overflow_mul-result : goal.overflow_mul-result
-overflow_mul-result c =
-    twice_fits c.args.at.x c.requires.at.x
+overflow_mul-result c = grind (arith, twice_fits)
 
 pub overflow_sub-result : goal.overflow_sub-result
-overflow_sub-result c =
-    first_fits c.args.self.now c.args.at c.requires.grid c.requires.at
+overflow_sub-result c = grind (arith, first_fits)
 
 pub overflow_mul-result-2 : goal.overflow_mul-result-2
-overflow_mul-result-2 c =
-    let g = c.args.self.now in
-    let fits : FitsSigned w64 g.step = search rules in
-    down_way_fits g 0 c.args.row c.requires.grid c.requires.grid.columns.0 c.requires.row fits c.from.result c.from.ensures
+overflow_mul-result-2 c = grind (arith, down_way_fits)
 
 pub overflow_mul-result-3 : goal.overflow_mul-result-3
-overflow_mul-result-3 c =
-    twice_fits c.args.at.y c.requires.at.y
+overflow_mul-result-3 c = grind (arith, twice_fits)

@@ -6,22 +6,10 @@ use Rattle.cam_tiles.proofs.lattice.Lattice.count_through.Goals.{After-abs_diff}
 use Rattle.cam_tiles.proofs.lattice.Lattice.count_through.Goals as goal
 
 pub overflow_mul-from : goal.overflow_mul-from
-overflow_mul-from c =
-    let l = c.args.self.now in
-    let fits : FitsSigned w64 l.step = search rules in
-    let few : l.count < 2 ^ 32 = search rules in
-    let lattice = c.requires.lattice in
-    way_on_fits l.first l.step c.from.result (l.count - 1) c.from.ensures (omega arith) fits
-    (first_short l lattice c.requires.some) (lattice.places (l.count - 1) (omega (arith, c.requires.some)))
+overflow_mul-from c = grind (arith, way_on_fits, first_short)
 
 pub overflow_add-self : goal.overflow_add-self
-overflow_add-self c =
-    let l = c.args.self.now in
-    let fits : FitsSigned w64 l.step = search rules in
-    let few : l.count < 2 ^ 32 = search rules in
-    let lattice = c.requires.lattice in
-    on_fits l.first l.step c.from.result (l.count - 1) c.from.ensures (omega arith) fits
-    (first_short l lattice c.requires.some) (lattice.places (l.count - 1) (omega (arith, c.requires.some)))
+overflow_add-self c = grind (arith, on_fits, first_short)
 
 pub returns-then-self-from-clause-each : goal.returns-then-self-from-clause-each
 returns-then-self-from-clause-each c = λ n there.

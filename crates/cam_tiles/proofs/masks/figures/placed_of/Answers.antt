@@ -1,4 +1,4 @@
-use Rattle.std.proofs.Common.{◌≡◌, ◌↔◌, pos, subst, arith}
+use Rattle.std.proofs.Common.{◌≡◌, ◌↔◌, pos, arith}
 use Rattle.std.proofs.lemmas.Int.{ints}
 use Rattle.cam_units.specs.declared.point.Spot.{Spot}
 use Rattle.cam_shapes.specs.Disc.{IsInDisc, IsInHole}
@@ -10,14 +10,7 @@ use Rattle.cam_tiles.proofs.masks.figures.placed_of.Goals as goal
 -- a hole of no diameter takes nothing out
 whole : (s : Spot) (d hole : Disc) → hole ≡ disc (record { 0 = pos 0 })
     → IsInDisc s d ↔ (IsInDisc s d × (IsInHole s hole → ⊥))
-whole s d hole is = (
-  (λ held. (
-    held,
-    (λ inside.
-        let some = subst (λ (o : Disc). IsInHole s o) is inside in absurd (omega (arith, ints, some.some))),
-  )),
-  (λ both. both.0),
-)
+whole s d hole is = grind (arith, ints)
 
 pub returns-in-Stroke : goal.returns-in-Stroke
 returns-in-Stroke c =

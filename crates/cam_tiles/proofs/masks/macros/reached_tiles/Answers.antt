@@ -8,26 +8,10 @@ use Rattle.cam_tiles.proofs.SeenRows.{are_columns_seen, column_seen, first_fits,
 use Rattle.cam_tiles.proofs.masks.macros.reached_tiles.Goals as goal
 
 pub returns-then-rows : goal.returns-then-rows
-returns-then-rows c =
-    let g = c.args.grid.now in
-    let low : FitsSigned w64 c.in-Closed.low.y = search rules in
-    let high : FitsSigned w64 c.in-Closed.high.y = search rules in
-    let rows = simp to_z-of_z at c.band-rows.ensures.rows in
-    record {
-      end = omega arith;
-      each = λ column row near below held.
-          let between : IsInBox c.in-Closed.low c.in-Closed.high (relative c.args.at (centre_in g column row)) =
-          subst (λ (b : Bounds). Holds b (relative c.args.at (centre_in g column row))) c.in-Closed.is held in
-          let on = (rows row below).1 (between.below, between.above) in
-          absurd (omega (arith, on.0, on.1, c.if-rows.true));
-    }
+returns-then-rows c = grind (arith, to_z-of_z)
 
 pub between-requires : goal.between-requires
-between-requires c =
-    let g = c.args.grid.now in
-    let fits : FitsSigned w64 g.step = search rules in
-    are_columns_seen g c.args.at _ _ (first_seen g c.args.at c.requires.grid.grid c.requires.at) (to_z-of_z w64 g.step fits)
-    c.args.columns c.requires.grid c.requires.at
+between-requires c = search (rules, are_columns_seen, first_seen, to_z-of_z)
 
 pub overflow_mul-across : goal.overflow_mul-across
 overflow_mul-across c = twice_fits c.args.at.x c.requires.at.x

@@ -7,16 +7,10 @@ use Rattle.cam_tiles.proofs.SwathBoxes.{between_corners, last_fits, last_kept, l
 use Rattle.cam_tiles.proofs.masks.swath.wide_bounds.Goals as goal
 
 pub overflow_mul-last : goal.overflow_mul-last
-overflow_mul-last c =
-    let g = c.args.grid.now in
-    let fits : FitsSigned w64 g.step = search rules in
-    last_way_fits g c.args.columns c.requires fits c.from.result c.from.ensures
+overflow_mul-last c = grind (arith, last_way_fits)
 
 pub overflow_add-last : goal.overflow_add-last
-overflow_add-last c =
-    let g = c.args.grid.now in
-    let fits : FitsSigned w64 g.step = search rules in
-    last_fits g c.args.columns c.requires fits c.from.result c.from.ensures
+overflow_add-last c = grind (arith, last_fits)
 
 pub returns : goal.returns
 returns c column row near below =

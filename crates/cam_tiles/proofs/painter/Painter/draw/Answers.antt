@@ -1,4 +1,4 @@
-use Rattle.std.proofs.Common.{◌≡◌, ◌+◌, ◌<◌, ℕ, List, [], Some, None, length, drop, get_or, ap, sym, subst, refl, ◌∙◌, arith}
+use Rattle.std.proofs.Common.{◌≡◌, ◌+◌, ◌<◌, ℕ, List, [], Some, None, length, drop, get_or, ap, sym, subst, ◌∙◌, arith}
 use Rattle.std.proofs.lemmas.List.{drop_all, get_or_default}
 use Rattle.cam_tiles.specs.Tables.{Tile, all_drawn_from}
 use Rattle.cam_tiles.specs.Tiles.{grid_of, tile_rows}
@@ -17,11 +17,7 @@ tile-rows-requires-clause-room g c =
     omega (arith, dirty_past_dirty c.loop-k.k now [] within read, c.loop-k.invariant.asked, c.requires.room)
 
 pub loop-k-init : goal.loop-k-init
-loop-k-init g c = record {
-  drawn = none_yet (λ k. tile_rows (g.Self.Painter.picture c.args.self.now) (grid_of c.args.window.now k)) c.args.first c.args.tiles.now;
-  kept = refl;
-  asked = refl;
-}
+loop-k-init g c = grind (arith, none_yet)
 
 pub loop-k-preserved : goal.loop-k-preserved
 loop-k-preserved g c =
@@ -60,21 +56,13 @@ loop-k-preserved g c =
     ]
 
 pub returns-clause-tiles : goal.returns-clause-tiles
-returns-clause-tiles g c =
-    let draw : ℕ → List ℕ = λ k. tile_rows (g.Self.Painter.picture c.args.self.now) (grid_of c.args.window.now k) in
-    sym (c.loop-k.invariant.drawn ∙ all_done draw c.args.first c.loop-k.k c.loop-k.tiles (omega arith))
+returns-clause-tiles g c = grind (arith, all_done)
 
 pub returns-clause-asked : goal.returns-clause-asked
-returns-clause-asked g c =
-    let rest : drop c.loop-k.k c.loop-k.tiles ≡ [] = drop_all c.loop-k.k c.loop-k.tiles (omega arith) in
-    omega (arith, ap dirty rest, c.loop-k.invariant.asked)
+returns-clause-asked g c = grind (arith, drop_all, dirty)
 
 pub overflow_cast-k : goal.overflow_cast-k
-overflow_cast-k g c =
-    let few = few_tiles c.args.window.now c.requires.accepted in
-    omega (arith, few, c.requires.within, c.loop-k-test.true, c.loop-k.auto.tiles)
+overflow_cast-k g c = grind (arith, few_tiles)
 
 pub overflow_add-first : goal.overflow_add-first
-overflow_add-first g c =
-    let few = few_tiles c.args.window.now c.requires.accepted in
-    omega (arith, few, c.requires.within, c.loop-k-test.true, c.loop-k.auto.tiles)
+overflow_add-first g c = grind (arith, few_tiles)

@@ -1,4 +1,4 @@
-use Rattle.std.proofs.Common.{◌≡◌, ◌≤◌, ◌-◌, ◌%◌, List, length, take, ap, sym, ◌∙◌, arith}
+use Rattle.std.proofs.Common.{◌≡◌, ◌≤◌, ◌-◌, List, length, take, ap, sym, ◌∙◌, arith}
 use Rattle.std.specs.Vec.{with_items}
 use Rattle.std.proofs.lemmas.List.{with_items_is}
 use Rattle.cam_tiles.specs.Machinery.Kept.{table_of}
@@ -8,10 +8,7 @@ use Rattle.cam_tiles.proofs.raster.Raster.redraw.Goals.{then-self-eq0, else-self
 use Rattle.cam_tiles.proofs.raster.Raster.redraw.Goals as goal
 
 pub draw_between-requires-clause-clean : goal.draw_between-requires-clause-clean
-draw_between-requires-clause-clean g c =
-    let first = c.first_dirty-first.result in
-    ap (λ tiles. dirty (take (first - first % c.self.inside.across) tiles)) (c.deref_mut.ensures.value ∙ sym c.deref.ensures.value)
-    ∙ clean_before c.deref.result.now first _ (omega arith) c.first_dirty-first.ensures.clean
+draw_between-requires-clause-clean g c = grind (arith, dirty, clean_before)
 
 pub invariant_of-self : goal.invariant_of-self
 invariant_of-self g c =

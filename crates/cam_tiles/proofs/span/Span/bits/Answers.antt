@@ -1,4 +1,4 @@
-use Rattle.std.proofs.Common.{ℕ, ◌*◌, ◌/◌, ◌%◌, ◌-◌, ◌^◌, ◌<◌, ◌≤◌, ◌↔◌, arith}
+use Rattle.std.proofs.Common.{ℕ, ◌*◌, ◌%◌, ◌-◌, ◌^◌, ◌<◌, ◌≤◌, ◌↔◌, arith}
 use Rattle.std.specs.Int.{IsBitSet}
 use Rattle.std.proofs.lemmas.Nat.Bits.{bit_at-lt, bit_at_mask_below, bit_at_mask_inside, ones_shl}
 use Rattle.cam_rows.proofs.SetBits.{set_in_and, set_is_one}
@@ -12,9 +12,4 @@ set_from first i low near =
     (grind (arith, set_is_one, bit_at-lt, bit_at_mask_below first 64 i, bit_at_mask_inside first 64 i))
 
 pub returns : goal.returns
-returns c = λ k near.
-    let low = set_in_low c.args.self.end k c.requires.few in
-    let high = set_from c.args.self.first k (omega arith) near in
-    let both = set_in_and ((2 ^ 64 - 1) / 2 ^ (64 - c.args.self.end))
-    ((2 ^ 64 - 1) * 2 ^ c.args.self.first % 2 ^ 64) k in
-    grind (arith, low, high, both)
+returns c = λ k near. grind (arith, set_in_low, set_from, set_in_and)

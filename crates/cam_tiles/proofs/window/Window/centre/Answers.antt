@@ -1,4 +1,4 @@
-use Rattle.std.proofs.Common.{◌≡◌, sym, subst, ◌-◌, FitsSigned, w64, rules}
+use Rattle.std.proofs.Common.{arith, ◌≡◌, sym, subst, ◌-◌}
 use Rattle.std.proofs.lemmas.Int.{to_z-of_z}
 use Rattle.cam_units.specs.Board.{IsPlace}
 use Rattle.cam_tiles.specs.Picture.{middle}
@@ -7,17 +7,11 @@ use Rattle.cam_tiles.proofs.window.Window.centre.Goals.{After-middle, After-midd
 use Rattle.cam_tiles.proofs.window.Window.centre.Goals as goal
 
 across : (c : After-middle) → c.middle.result ≡ middle c.args.self.now.x c.args.self.now.pitch c.args.column
-across c =
-    let x : FitsSigned w64 c.args.self.now.x = search rules in
-    let pitch : FitsSigned w64 c.args.self.now.pitch = search rules in
-    simp to_z-of_z at c.middle.ensures
+across c = grind (arith, to_z-of_z)
 
 up : (c : After-middle-2)
     → c.middle-2.result ≡ middle c.args.self.now.y c.args.self.now.pitch (c.args.self.now.height - 1 - c.args.row)
-up c =
-    let y : FitsSigned w64 c.args.self.now.y = search rules in
-    let pitch : FitsSigned w64 c.args.self.now.pitch = search rules in
-    simp to_z-of_z at c.middle-2.ensures
+up c = grind (arith, to_z-of_z)
 
 pub overflow_cast-result : goal.overflow_cast-result
 overflow_cast-result c =

@@ -1,4 +1,4 @@
-use Rattle.std.proofs.Common.{FitsSigned, w64, ap, ◌∙◌, rules}
+use Rattle.std.proofs.Common.{arith, FitsSigned, w64, ap, ◌∙◌, rules}
 use Rattle.std.proofs.lemmas.Int.{to_z-of_z}
 use Rattle.cam_units.specs.declared.point.Spot.{Spot}
 use Rattle.cam_tiles.specs.Picture.{middle}
@@ -14,8 +14,7 @@ pub centre-requires-clause-row : goal.centre-requires-clause-row
 centre-requires-clause-row c = (accepted c.args.self.now c.requires).height.0
 
 pub overflow_mul-places : goal.overflow_mul-places
-overflow_mul-places c =
-    let pitch = (accepted c.args.self.now c.requires).pitch in twice_fits c.args.self.now.pitch pitch.0 pitch.1
+overflow_mul-places c = grind (arith, accepted, twice_fits)
 
 pub between-requires : goal.between-requires
 between-requires c =

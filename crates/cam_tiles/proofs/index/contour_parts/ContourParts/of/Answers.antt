@@ -1,4 +1,4 @@
-use Rattle.std.proofs.Common.{◌≡◌, ◌<◌, List, length, sym, ap, subst, ◌∙◌, arith}
+use Rattle.std.proofs.Common.{rules, ◌≡◌, List, sym, ap, subst, ◌∙◌, arith}
 use Rattle.std.specs.List.{All}
 use Rattle.std.proofs.lemmas.Bool.Decides.{nat_tests}
 use Rattle.cam_units.specs.Board.{IsOnBoard}
@@ -10,14 +10,10 @@ use Rattle.cam_tiles.proofs.ContourParts.{AreFoundBut, all_found, ends_on_board,
 use Rattle.cam_tiles.proofs.index.contour_parts.ContourParts.of.Goals as goal
 
 pub part_heights-requires-clause-part : goal.part_heights-requires-clause-part
-part_heights-requires-clause-part c =
-    subst (All IsSoundSeg) (sym c.split_part.ensures.first) (sound_first c.loop-rest.rest.now c.loop-rest.invariant.sound)
+part_heights-requires-clause-part c = grind (arith, sound_first)
 
 pub loop-rest-smaller : goal.loop-rest-smaller
-loop-rest-smaller c =
-    let rest = c.loop-rest.rest.now in
-    let some : 0 < length rest = grind (arith, nat_tests) in
-    subst (λ (segs : List Seg). length segs < length rest) (sym c.split_part.ensures.behind) (fewer_behind rest some)
+loop-rest-smaller c = grind (arith, nat_tests, fewer_behind)
 
 pub loop-rest-preserved : goal.loop-rest-preserved
 loop-rest-preserved c =
@@ -42,6 +38,4 @@ loop-rest-preserved c =
     }
 
 pub returns-clause-heights : goal.returns-clause-heights
-returns-clause-heights c =
-    all_found c.args.contour.now.start c.loop-rest.here c.loop-rest.rest.now c.args.contour.now.segs
-    c.loop-rest.heights.items c.loop-rest.invariant.found
+returns-clause-heights c = search (rules, all_found)

@@ -4,10 +4,8 @@ use Rattle.cam_units.specs.Boxes.{Holds}
 use Rattle.cam_units.specs.declared.bounds.Bounds.{Bounds}
 use Rattle.cam_objects.specs.Bounds.{bounds_of}
 use Rattle.cam_objects.specs.Image.{IsUncovered}
-use Rattle.cam_objects.specs.Drilling.{drill_item_leaves}
-use Rattle.cam_objects.specs.Leaves.{Leaf, item_leaves, meaning_in}
+use Rattle.cam_objects.specs.Leaves.{Leaf}
 use Rattle.cam_tiles.specs.declared.shown.Shown.{Shown}
-use Rattle.cam_tiles.specs.declared.shown.Shown.TheVariants.{Gerber, Drill}
 use Rattle.cam_tiles.specs.Machinery.Indexes.{AreSeenFrom, IsBoxOf}
 use Rattle.cam_tiles.specs.Machinery.Shown.{IsReady, leaves_by_item, lists_of}
 use Rattle.cam_tiles.proofs.Indexed.{next_missed, next_seen, next_uncovered, seen_back}
@@ -69,10 +67,7 @@ returns-then-line_misses-clause-seen c =
     (c.read-bounds.ensures.lists ∙ c.requires.lists) (c.line_misses.ensures.off c.if-line_misses.true s held))
 
 few_items : (shown : Shown) → IsReady shown → length (leaves_by_item shown) ≤ 1000000
-few_items (Gerber layer cells copies) ready =
-    omega (arith, length-map layer.now.items.items (item_leaves (meaning_in layer.now.apertures)), ready.0.limits.few)
-few_items (Drill layer cells) ready =
-    omega (arith, length-map layer.now.items.items (drill_item_leaves layer.now.tools), ready.0.limits.few)
+few_items shown ready = grind (arith, length-map)
 
 pub overflow_cast-self : goal.overflow_cast-self
 overflow_cast-self c =

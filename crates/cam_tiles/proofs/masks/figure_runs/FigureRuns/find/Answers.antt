@@ -1,3 +1,4 @@
+use Rattle.std.proofs.Common.{arith}
 use Rattle.cam_tiles.proofs.FigureColumns.{tells_body}
 use Rattle.cam_tiles.proofs.masks.figure_runs.FigureRuns.find.Goals as goal
 
@@ -11,9 +12,7 @@ pub returns-in-Round : goal.returns-in-Round
 returns-in-Round c = rw c.in-Round.is c.find_round.ensures
 
 pub returns-in-Swept : goal.returns-in-Swept
-returns-in-Swept c =
-    let none = c.clear.ensures in
-    rw c.in-Swept.is (tells_body _ _ _ c.find.new.self c.clear.new.self c.find.ensures none.hollow none.beyond none.start none.end)
+returns-in-Swept c = grind (arith, tells_body)
 
 pub returns-in-Disc : goal.returns-in-Disc
 returns-in-Disc c = rw c.in-Disc.is c.find_pierced.ensures

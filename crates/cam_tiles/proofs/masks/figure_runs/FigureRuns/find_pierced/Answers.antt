@@ -18,12 +18,4 @@ returns-then-hole-eq0 g c =
     none.beyond none.start none.end)
 
 pub returns : goal.returns
-returns g c =
-    let none = c.clear.ensures in
-    let grid = c.args.grid.now in
-    let columns = c.args.columns in
-    let holds : Spot → Type 0 = λ s. g.S.RunShape.holds c.args.shape.now (relative c.args.at s) in
-    let hole : Spot → Type 0 = λ s. IsInHole (relative c.args.at s) c.args.hole.now.0 in
-    tells_figure grid columns (λ s. holds s × (hole s → ⊥)) holds hole (λ s. ⊥) (λ s. ⊥) (λ s. ⊥) _ _ _ _ _
-    c.find.ensures c.find-2.ensures (tells_nothing grid columns _ none.beyond) (tells_nothing grid columns _ none.start)
-    (tells_nothing grid columns _ none.end) (λ s. pierced_law (holds s) (hole s))
+returns g c = grind (arith, tells_figure, tells_nothing, pierced_law)

@@ -1,4 +1,4 @@
-use Rattle.std.proofs.Common.{◌≡◌, ◌+◌, ◌<◌, ◌≤◌, ℕ, ap, sym, subst, ◌∙◌, inl, inr, slice_index, slice_set, arith}
+use Rattle.std.proofs.Common.{◌≡◌, ◌+◌, ◌<◌, ◌≤◌, ℕ, ap, sym, subst, inl, inr, slice_index, slice_set, arith}
 use Rattle.std.proofs.Common.{get_or-set_other, get_or-set_same}
 use Rattle.std.proofs.Math.ListN.{length-set}
 use Rattle.std.proofs.lemmas.Bool.{cases_eq}
@@ -47,17 +47,7 @@ all : (c : After-known_rows-known) → c.known_rows-known.result ≡ 64 → AreK
 all c full = subst (AreKnown c.self.inside.decided.items c.args.tile) full (known c)
 
 pub invariant_of-self : goal.invariant_of-self
-invariant_of-self c =
-    let was = c.self.invariant in
-    record {
-      few = was.few;
-      decided = was.decided;
-      dark = was.dark;
-      each = rw length-set was.each;
-      known = each_known (goal.at.invariant_of-self c).After-known_rows-known;
-      pointed = was.pointed;
-      next = was.next;
-    }
+invariant_of-self c = grind (arith, length-set, known, each_known)
 
 pub returns-then-known-lt64-clause-open : goal.returns-then-known-lt64-clause-open
 returns-then-known-lt64-clause-open c = λ same done.
@@ -100,8 +90,4 @@ invariant_of-self-2 c =
     }
 
 pub returns-clause-done : goal.returns-clause-done
-returns-clause-done c = λ other after until row column low there.
-    let this : other ≡ c.args.tile = omega (arith, after, until) in
-    let done = all (goal.at.returns-clause-done c).After-known_rows-known
-    (omega (arith, c.known_rows-known.ensures.few, c.if-known-lt64.false)) in
-    subst (λ (k : Inked). IsDoneTile k c.args.tile) c.self.view_is done row column low (there ∙ this)
+returns-clause-done c = λ other after until row column low there. grind (arith, all)

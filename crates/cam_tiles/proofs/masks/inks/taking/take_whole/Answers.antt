@@ -5,14 +5,7 @@ use Rattle.cam_tiles.proofs.SwathInks.{some_ink}
 use Rattle.cam_tiles.proofs.masks.inks.taking.take_whole.Goals as goal
 
 pub loop-tile-init : goal.loop-tile-init
-loop-tile-init c = record {
-  order = omega arith;
-  until = c.requires.order;
-  taken = λ polarity inked.
-      takes_done polarity 0 (length c.args.next.now) _ (words_of (length c.args.next.now) c.args.decided.now c.args.dark.now)
-      (λ row column low within on.
-      let h = (row_told c.args.row (64 * c.args.tiles.first) (64 * c.args.tiles.first) row column).0 on in absurd (omega (arith, h.1.0, h.1.1)));
-}
+loop-tile-init c = grind (arith, takes_done, row_told)
 
 -- tiles that are passed over
 pub loop-tile-preserved-then-open-tile : goal.loop-tile-preserved-then-open-tile

@@ -24,10 +24,7 @@ blank_mask g grid = record {
 }
 
 pub invariant_of-result : goal.invariant_of-result
-invariant_of-result c = record {
-  mask = blank_mask c.args.grid c.requires;
-  bounds = λ column row inside. c.bounds.ensures column row inside.0 inside.1;
-}
+invariant_of-result c = grind (arith, blank_mask)
 
 pub returns-clause-marks : goal.returns-clause-marks
 returns-clause-marks c = λ column row inside. no_mark column row

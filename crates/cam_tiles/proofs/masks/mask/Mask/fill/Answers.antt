@@ -1,5 +1,4 @@
-use Rattle.std.proofs.Common.{subst, sym, ◌∙◌}
-use Rattle.cam_units.specs.Board.{IsOnBoard}
+use Rattle.std.proofs.Common.{arith, ◌∙◌}
 use Rattle.cam_units.specs.declared.point.Spot.{Spot}
 use Rattle.cam_shapes.specs.Contour.{IsInContour}
 use Rattle.cam_shapes.specs.Placing.{placed_contour}
@@ -20,11 +19,7 @@ pub seg-seg-requires-clause-offset : goal.seg-seg-requires-clause-offset
 seg-seg-requires-clause-offset c = offset_short c.args.turn c.args.offset c.args.contour.now.start c.requires.start
 
 pub loop-seg-init : goal.loop-seg-init
-loop-seg-init c = record {
-  on_board = subst IsOnBoard (sym c.point-start.ensures) c.requires.start.there;
-  turned = none_turned (TurnsSo origin.offset) (turning origin.offset) c.point-start.result
-      (placed c.args.turn c.args.offset c.as_slice-seg-items.result.now) c.blank-inside.result;
-}
+loop-seg-init c = grind (arith, none_turned, TurnsSo, turning, placed)
 
 pub loop-seg-preserved : goal.loop-seg-preserved
 loop-seg-preserved c = record {
@@ -46,8 +41,7 @@ inside c =
     c.turn_edge.ensures)
 
 pub merge-requires : goal.merge-requires
-merge-requires c =
-    (inside (goal.at.merge-requires c).After-turn_edge).grid ∙ c.blank-inside.ensures.grid ∙ c.grid.ensures.value
+merge-requires c = grind (arith, inside)
 
 pub returns : goal.returns
 returns c =

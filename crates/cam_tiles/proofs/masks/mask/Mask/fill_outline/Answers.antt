@@ -1,4 +1,4 @@
-use Rattle.std.proofs.Common.{◌-◌, List, length, take, drop, sym, refl, subst, ◌∙◌}
+use Rattle.std.proofs.Common.{arith, ◌-◌, List, length, take, drop, sym, subst, ◌∙◌}
 use Rattle.std.proofs.lemmas.List.Elements.{All-drop, All-take}
 use Rattle.cam_units.specs.Board.{IsOnBoard}
 use Rattle.cam_units.specs.declared.point.Point.{Point}
@@ -20,11 +20,7 @@ abbrev rest : List Point → List Point
 rest points = take (length points - 1) (drop 1 points)
 
 pub loop-point-init : goal.loop-point-init
-loop-point-init c = record {
-  on_board = subst IsOnBoard (sym c.point-start.ensures) (c.requires.points 0 _ c.in-len1-up.len_at_least).there;
-  turned = none_turned (TurnsSo c.args.at) (turning c.args.at) c.point-start.result
-      (lines c.args.turn origin.offset (rest c.args.points.now)) c.blank-inside.result;
-}
+loop-point-init c = grind (arith, none_turned, TurnsSo, turning, lines)
 
 pub loop-point-preserved : goal.loop-point-preserved
 loop-point-preserved c =
@@ -50,8 +46,7 @@ inside c =
     c.loop-point.invariant.turned c.turn_edge-2.ensures))
 
 pub merge-requires : goal.merge-requires
-merge-requires c =
-    (inside (goal.at.merge-requires c).After-turn_edge-2).grid ∙ c.blank-inside.ensures.grid ∙ c.grid.ensures.value
+merge-requires c = grind (arith, inside)
 
 pub returns : goal.returns
 returns c =
@@ -63,8 +58,4 @@ returns c =
     (shows_turned P c.blank-inside.result c.turn_edge-2.new.self c.blank-inside.ensures.marks turned) c.merge.ensures
 
 pub returns-in_default : goal.returns-in_default
-returns-in_default c = record {
-  grid = refl;
-  marks = λ column row within. joined_none c.args.how _ _
-      (no_outline c.args.turn origin.offset c.args.points.now _ c.in_default.len_below);
-}
+returns-in_default c = grind (arith, joined_none, no_outline)

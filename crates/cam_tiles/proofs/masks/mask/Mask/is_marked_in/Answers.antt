@@ -1,4 +1,4 @@
-use Rattle.std.proofs.Common.{◌≡◌, ℕ, inl, inr, refl, slice_index, subst, sym, arith}
+use Rattle.std.proofs.Common.{refl, slice_index, subst, sym, arith}
 use Rattle.std.specs.Int.{IsBitSet}
 use Rattle.std.proofs.lemmas.Bool.{cases_lt, false≢true}
 use Rattle.cam_rows.proofs.SetBits.{set_in_and}
@@ -7,23 +7,13 @@ use Rattle.cam_tiles.proofs.MarkedBoxes.{AllMarked, all_marked, row_marked}
 use Rattle.cam_tiles.proofs.masks.mask.Mask.is_marked_in.Goals as goal
 
 pub loop-row-preserved : goal.loop-row-preserved
-loop-row-preserved c = λ column row from until set.
-    elim (cases_lt row c.loop-row.row) [
-      | inl before ↦ c.loop-row.invariant column row from before set
-      | inr last ↦
-          (let same : row ≡ c.loop-row.row = omega (arith, until, last) in
-          let both = subst (λ (n : ℕ). IsBitSet n column) (sym c.if-self-row.false) set in
-          let here = (set_in_and (slice_index c.self.inside.rows c.loop-row.row) c.run_row-run.result column).0 both in
-          subst (λ (m : Marking). IsBitSet (slice_index m.rows row) column) c.self.view_is
-          (subst (λ (k : ℕ). IsBitSet (slice_index c.self.inside.rows k) column) (sym same) here.0))
-    ]
+loop-row-preserved c = λ column row from until set. grind (arith, cases_lt, set_in_and)
 
 pub returns-in_default : goal.returns-in_default
 returns-in_default c = rw c.in_default.is ((λ _ column row there held. absurd held), (λ _. refl))
 
 pub reached-requires-clause-centres : goal.reached-requires-clause-centres
-reached-requires-clause-centres c = λ column near.
-    let grid = c.self.invariant.mask.grid in grid.centres column 0 near grid.rows.0
+reached-requires-clause-centres c = λ column near. grind arith
 
 -- a row in which some centre of the box is not marked
 pub returns-then-self-row : goal.returns-then-self-row

@@ -12,8 +12,7 @@ rest : (P Q : Type 0) → ((⊥ ⊎ P) × (Q → ⊥)) ↔ (P × (Q → ⊥))
 rest P Q = grind arith
 
 pub merge-requires : goal.merge-requires
-merge-requires c =
-    c.join-2.ensures.grid ∙ c.join.ensures.grid ∙ c.blank-own.ensures.grid ∙ c.grid.ensures.value
+merge-requires c = grind arith
 
 pub returns : goal.returns
 returns c =

@@ -1,4 +1,4 @@
-use Rattle.std.proofs.Common.{◌≡◌, subst, sym}
+use Rattle.std.proofs.Common.{arith, ◌≡◌, subst, sym}
 use Rattle.cam_units.specs.declared.point.Point.{Point}
 use Rattle.cam_objects.specs.Image.{relative}
 use Rattle.cam_tiles.specs.declared.masks.figures.RunFigure.{RunFigure}
@@ -25,8 +25,7 @@ pub returns-in-Disc : goal.returns-in-Disc
 returns-in-Disc c = joins_it _ _ c.args.placed.now.at c.args.how _ _ c.in-Disc.is c.join_pierced.ensures
 
 pub returns-in-Rectangle : goal.returns-in-Rectangle
-returns-in-Rectangle c =
-    joins_it _ _ c.args.placed.now.at c.args.how _ _ c.in-Rectangle.is c.join_pierced-in-Rectangle.ensures
+returns-in-Rectangle c = grind (arith, joins_it)
 
 pub returns-in-Obround : goal.returns-in-Obround
 returns-in-Obround c =

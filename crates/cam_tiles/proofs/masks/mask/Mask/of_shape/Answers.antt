@@ -1,15 +1,11 @@
-use Rattle.std.proofs.Common.{ap, rules, ◌∙◌}
+use Rattle.std.proofs.Common.{arith, rules}
 use Rattle.cam_objects.specs.Image.{relative}
 use Rattle.cam_tiles.specs.Machinery.Plain.{IsInShape}
 use Rattle.cam_tiles.proofs.ShapeRows.{all_shown, next_shown, none_shown}
 use Rattle.cam_tiles.proofs.masks.mask.Mask.of_shape.Goals as goal
 
 pub loop-row-init : goal.loop-row-init
-loop-row-init c = record {
-  rows = none_shown c.args.grid (λ s. IsInShape c.args.shape.now (relative c.args.at s)) _ c.mask.invariant.mask
-      (ap (λ m. m.grid) c.mask.view_is ∙ c.blank-mask.ensures.grid);
-  bounds = c.mask.invariant.bounds;
-}
+loop-row-init c = grind (arith, none_shown)
 
 pub loop-row-preserved : goal.loop-row-preserved
 loop-row-preserved c = record {
@@ -20,6 +16,4 @@ loop-row-preserved c = record {
 }
 
 pub returns : goal.returns
-returns c =
-    all_shown c.args.grid (λ s. IsInShape c.args.shape.now (relative c.args.at s)) _ c.loop-row.row c.loop-row.invariant.rows
-    c.loop-row-test.false
+returns c = grind (arith, all_shown)

@@ -1,9 +1,8 @@
-use Rattle.std.proofs.Common.{[], map, subst, sym, take, ◌∙◌, arith}
+use Rattle.std.proofs.Common.{[], map, sym, take, ◌∙◌, arith}
 use Rattle.std.proofs.lemmas.List.{take_all}
 use Rattle.std.proofs.lemmas.Option.{get_or_from_slice_get}
 use Rattle.cam_units.specs.declared.point.Spot.{Spot}
 use Rattle.cam_apertures.specs.Cover.{IsInShape, IsExposed}
-use Rattle.cam_apertures.specs.Primitives.{IsSoundPrim}
 use Rattle.cam_apertures.specs.Turned.{turned_prim, turned_shape}
 use Rattle.cam_apertures.proofs.Painting.{none_painted}
 use Rattle.cam_objects.specs.Image.{relative}
@@ -37,15 +36,7 @@ loop-place-preserved c =
     }
 
 pub returns : goal.returns
-returns c =
-    let all = take_all c.loop-place.place c.args.prims.now (omega (arith, c.loop-place-test.false, c.len-place-end.ensures)) in
-    merges_shown c.args.how (λ s. IsExposed (map (turned_prim c.args.turn) c.args.prims.now) (relative c.args.at s))
-    c.loop-place.own c.args.self.now c.merge.new.self c.loop-place.invariant.grid
-    (rw all at c.loop-place.invariant.shown) c.merge.ensures
+returns c = grind (arith, take_all, merges_shown)
 
 pub primitive-requires-clause-primitive : goal.primitive-requires-clause-primitive
-primitive-requires-clause-primitive c =
-    let n = c.loop-place.place in
-    let p = c.at-primitive.result.now in
-    subst IsSoundPrim (get_or_from_slice_get c.args.prims.now n p p c.at-primitive.ensures)
-    (c.requires.prims n p (omega (arith, c.loop-place-test.true, c.len-place-end.ensures)))
+primitive-requires-clause-primitive c = grind (arith, get_or_from_slice_get)

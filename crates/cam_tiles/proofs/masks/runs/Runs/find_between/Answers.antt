@@ -4,9 +4,7 @@ use Rattle.cam_tiles.proofs.TurnedBands.{part_length}
 use Rattle.cam_tiles.proofs.masks.runs.Runs.find_between.Goals as goal
 
 pub returns-then-band : goal.returns-then-band
-returns-then-band g c =
-    tells_none c.args.grid.now c.args.columns c.band-band.result.first c.band-band.result.end c.args.at c.args.heights
-    (g.S.RunShape.holds c.args.shape.now) c.clear.new.self c.if-band.true c.band-band.ensures.rows c.clear.ensures
+returns-then-band g c = grind (arith, tells_none)
 
 pub find-requires-clause-rows : goal.find-requires-clause-rows
 find-requires-clause-rows g c =

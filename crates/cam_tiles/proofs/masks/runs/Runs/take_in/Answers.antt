@@ -1,15 +1,10 @@
-use Rattle.std.proofs.Common.{refl, inl, inr, arith}
+use Rattle.std.proofs.Common.{inl, inr, arith}
 use Rattle.cam_tiles.proofs.RunColumns.{without_rows}
 use Rattle.cam_tiles.proofs.TakenRuns.{one_more_taken, taken_fit}
 use Rattle.cam_tiles.proofs.masks.runs.Runs.take_in.Goals as goal
 
 pub loop-row-init : goal.loop-row-init
-loop-row-init c = record {
-  band = refl;
-  sound = λ row column on. inl on;
-  kept = λ row column on. on;
-  taken = λ row column early has. absurd (omega (arith, early, has.0));
-}
+loop-row-init c = grind arith
 
 pub loop-row-preserved : goal.loop-row-preserved
 loop-row-preserved c =
@@ -25,10 +20,7 @@ returns-in_default-clause-columns c = λ row column. (
 )
 
 pub returns-in_default-clause-fits : goal.returns-in_default-clause-fits
-returns-in_default-clause-fits c = λ rows fit fit_other. (
-  taken_fit c.args.self.now c.args.other.now c.loop-row.self c.loop-row.row rows c.loop-row.invariant fit,
-  fit_other,
-)
+returns-in_default-clause-fits c = λ rows fit fit_other. grind (arith, taken_fit)
 
 pub returns-clause-columns : goal.returns-clause-columns
 returns-clause-columns c = λ row column. (
@@ -44,7 +36,4 @@ returns-clause-columns c = λ row column. (
 )
 
 pub returns-clause-fits : goal.returns-clause-fits
-returns-clause-fits c = λ rows fit fit_other. (
-  taken_fit c.args.self.now c.args.other.now c.loop-row.self c.loop-row.row rows c.loop-row.invariant fit,
-  without_rows rows c.clear.new.self c.clear.ensures,
-)
+returns-clause-fits c = λ rows fit fit_other. grind (arith, taken_fit, without_rows)

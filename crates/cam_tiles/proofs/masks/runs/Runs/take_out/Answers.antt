@@ -1,15 +1,10 @@
-use Rattle.std.proofs.Common.{refl, arith}
+use Rattle.std.proofs.Common.{arith}
 use Rattle.cam_tiles.proofs.RestOfRuns.{end_out, first_out}
 use Rattle.cam_tiles.proofs.masks.runs.Runs.take_out.Goals as goal
 use Rattle.cam_tiles.proofs.masks.runs.Runs.take_out.Goals.{then-other-k, else-other-k+then-self-k}
 
 pub loop-row-init : goal.loop-row-init
-loop-row-init c = record {
-  band = refl;
-  sound = λ row column on. on;
-  kept = λ row column on none. on;
-  out = λ row column early on there. absurd (omega (arith, early, there.0));
-}
+loop-row-init c = grind arith
 
 pub loop-row-preserved : goal.loop-row-preserved
 loop-row-preserved c =
