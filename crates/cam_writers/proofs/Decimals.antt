@@ -1,6 +1,6 @@
 -- Decimals that canonical texts write are read as the numbers that they are.
-use Rattle.std.proofs.Common.{◌≡◌, ℕ, zero, suc, ◌+◌, ◌-◌, ◌*◌, ◌/◌, ◌%◌, ◌^◌, ◌<◌, ◌≤◌, List, [], ◌∷◌, ◌++◌, length}
-use Rattle.std.proofs.Common.{Bool, true, false, eqb, Option, Some, refl, sym, ap, ◌∙◌, arith, rules, ne_eqb}
+use Rattle.std.proofs.Common.{◌≡◌, ℕ, suc, ◌+◌, ◌-◌, ◌*◌, ◌/◌, ◌%◌, ◌^◌, ◌<◌, ◌≤◌, List, [], ◌∷◌, ◌++◌, length}
+use Rattle.std.proofs.Common.{Bool, true, false, eqb, Option, Some, refl, sym, ◌∙◌, arith, rules}
 use Rattle.std.specs.Prelude.{ℤ, pos, negsuc, neg_ℤ, ◌||◌, decimal, unsigned_abs}
 use Rattle.std.specs.List.{list_all, list_any}
 use Rattle.std.specs.Char.{is_ascii_digit}
@@ -51,21 +51,10 @@ last_is_digit : (n : ℕ) → is_ascii_digit (last_digit n) ≡ true
 last_is_digit n = grind (arith, nat_tests)
 
 pub six_digits : (n : ℕ) → are_digits (last_six n) ≡ true
-six_digits n =
-    rw (
-      last_is_digit (n / 100000),
-      last_is_digit (n / 10000),
-      last_is_digit (n / 1000),
-      last_is_digit (n / 100),
-      last_is_digit (n / 10),
-      last_is_digit n,
-    ) refl
+six_digits n = grind (arith, last_is_digit)
 
 ten_more : (n k : ℕ) → n / k ≡ n / (k * 10) * 10 + n / k % 10
-ten_more n k =
-    let e : n / k / 10 ≡ n / (k * 10) = div-div-eq-div-mul n k 10 in
-    let d : n / k ≡ n / k / 10 * 10 + n / k % 10 = omega arith in
-    d ∙ ap (λ (q : ℕ). q * 10 + n / k % 10) e
+ten_more n k = grind (arith, div-div-eq-div-mul)
 
 joined : (n q1 q2 q3 q4 q5 q6 d0 d1 d2 d3 d4 d5 : ℕ) → n ≡ q1 * 10 + d0 → q1 ≡ q2 * 10 + d1 → q2 ≡ q3 * 10 + d2 → q3 ≡ q4 * 10 + d3
     → q4 ≡ q5 * 10 + d4 → q5 ≡ q6 * 10 + d5
@@ -73,11 +62,7 @@ joined : (n q1 q2 q3 q4 q5 q6 d0 d1 d2 d3 d4 d5 : ℕ) → n ≡ q1 * 10 + d0 �
 joined n q1 q2 q3 q4 q5 q6 d0 d1 d2 d3 d4 d5 e0 e1 e2 e3 e4 e5 = omega arith
 
 pub six_value : (n : ℕ) → n / 1000000 * 1000000 + value_of (last_six n) ≡ n
-six_value n =
-    ap (λ (v : ℕ). n / 1000000 * 1000000 + v) (value_is (last_six n) (six_digits n))
-    ∙ joined n (n / 10) (n / 100) (n / 1000) (n / 10000) (n / 100000) (n / 1000000) (n % 10) (n / 10 % 10) (n / 100 % 10)
-    (n / 1000 % 10) (n / 10000 % 10) (n / 100000 % 10)
-    (omega arith) (ten_more n 10) (ten_more n 100) (ten_more n 1000) (ten_more n 10000) (ten_more n 100000)
+six_value n = grind (arith, value_is, six_digits, joined, ten_more)
 
 -- the point
 
@@ -86,23 +71,11 @@ unfolding billionths
 billionths_of_six n = refl
 
 pub sum_again : (n : ℕ) → n < 10 ^ 12 → value_of (decimal (n / 1000000)) * 1000000000 + billionths (last_six n) ≡ n * 1000
-sum_again n h =
-    let v : value_of (decimal (n / 1000000)) ≡ n / 1000000 = value_of_decimal (n / 1000000) (omega arith) in
-    omega (arith, v, billionths_of_six n, six_value n)
+sum_again n h = grind (arith, value_of_decimal, billionths_of_six, six_value)
 
 pub unsigned_again : (n : ℕ) → n < 10 ^ 12 → unsigned_decimal (unsigned_mm n) ≡ Some (n * 1000)
 unfolding unsigned_mm
-unsigned_again n h =
-    let small : n / 1000000 < 1000000 = omega arith in
-    let v : value_of (decimal (n / 1000000)) ≡ n / 1000000 = value_of_decimal (n / 1000000) (omega arith) in
-    let some = decimal_nonempty (n / 1000000) (omega arith) in
-    read_pointed (decimal (n / 1000000)) (last_six n) (record {
-      before = digits_of_decimal (n / 1000000) (omega arith);
-      behind = six_digits n;
-      some = omega (arith, some);
-      small = omega (arith, v, small);
-    })
-    ∙ ap Some (sum_again n h)
+unsigned_again n h = grind (arith, value_of_decimal, decimal_nonempty, read_pointed, digits_of_decimal, six_digits, sum_again)
 
 -- signs
 
@@ -116,9 +89,7 @@ digit_no_sign d h = (grind (arith, nat_tests), grind (arith, nat_tests))
 
 pub unsigned : (ds rest : List ℕ) → are_digits ds ≡ true → 0 < length ds → IsUnsigned (ds ++ rest)
 unsigned [] rest h some = absurd (omega (arith, some))
-unsigned (d ∷ ds) rest h some =
-    let k = digit_no_sign d (and_parts (is_ascii_digit d) (are_digits ds) h).0 in
-    record { positive = k.0; behind = rw k.1 refl }
+unsigned (d ∷ ds) rest h some = grind (arith, digit_no_sign, and_parts)
 
 pub signed_without : (size : List ℕ → Option ℕ) (run : List ℕ) (n : ℕ) → IsUnsigned run → size run ≡ Some n → signed size run ≡ Some (pos n)
 signed_without size run n u e = rw (u.behind, u.positive, e) refl
@@ -140,14 +111,10 @@ thousandth : (n : ℕ) → rounded (n * 1000) 1000 ≡ n
 thousandth n = omega arith
 
 below_zero : (m n : ℕ) → m ≡ suc n * 1000 → nearest_of (neg_ℤ (pos m)) 1000 ≡ negsuc n
-below_zero zero n e = absurd (omega (arith, e))
-below_zero (suc m) n e =
-    let r : rounded (suc m) 1000 ≡ suc n = ap (λ (k : ℕ). rounded k 1000) e ∙ thousandth (suc n) in
-    ap (λ (k : ℕ). neg_ℤ (pos k)) r
+below_zero m n e = grind (arith, thousandth)
 
 pub scaled_again : (z : ℤ) → nearest_of (scaled z) 1000 ≡ z
-scaled_again (pos n) = ap pos (thousandth n)
-scaled_again (negsuc n) = below_zero (suc n * 1000) n refl
+scaled_again z = grind (arith, thousandth, below_zero)
 
 -- a point stands in it
 
@@ -160,8 +127,7 @@ unfolding unsigned_mm
 unsigned_pointed n = any_behind is_point (decimal (n / 1000000)) (46 ∷ last_six n) refl
 
 pub mm_pointed : (z : ℤ) → is_pointed (mm z) ≡ true
-mm_pointed (pos n) = unsigned_pointed n
-mm_pointed (negsuc n) = unsigned_pointed (suc n)
+mm_pointed z = grind (arith, unsigned_pointed)
 
 -- no other bytes stand in it
 
@@ -186,20 +152,15 @@ unsigned_numeric n h =
 
 pub mm_numeric : (z : ℤ) → unsigned_abs z < 10 ^ 12 → list_all is_numeric (mm z) ≡ true
 unfolding is_numeric
-mm_numeric (pos n) h = unsigned_numeric n h
-mm_numeric (negsuc n) h = unsigned_numeric (suc n) h
+mm_numeric z h = grind (arith, unsigned_numeric)
 
 -- numbers of tools
 
 pub natural_again : (n : ℕ) → n < 2 ^ 64 → natural (decimal n) ≡ Some n
-natural_again n h =
-    natural-digits (decimal n) (digits_of_decimal n h) (λ (z : length (decimal n) ≡ 0). omega (arith, decimal_nonempty n h))
-    ∙ ap Some (value_of_decimal n h)
+natural_again n h = grind (arith, natural-digits, digits_of_decimal, decimal_nonempty, value_of_decimal)
 
 pub selected_again : (n : ℕ) → n ≤ 9999 → selected_tool (decimal n) ≡ Some n
 selected_again n h = rw (natural_again n (omega arith), le-ltb 9999 n h) refl
 
 pub declared_again : (n : ℕ) → 1 ≤ n → n ≤ 9999 → declared_tool (decimal n) ≡ Some n
-declared_again n some h =
-    let e : eqb n 0 ≡ false = ne_eqb n 0 (λ (z : n ≡ 0). omega (arith, some)) in
-    rw (natural_again n (omega arith), e, le-ltb 9999 n h) refl
+declared_again n some h = grind (arith, natural_again, le-ltb)

@@ -1,15 +1,13 @@
 -- Macros give the primitives of their apertures again, and definitions their apertures.
-use Rattle.std.proofs.Common.{◌≡◌, ℕ, ◌+◌, ◌*◌, ◌/◌, ◌%◌, ◌<◌, ◌≤◌, List, [], ◌∷◌, ◌++◌, length, take, drop, Bool}
-use Rattle.std.proofs.Common.{true, false, leb, ltb, Ok, refl, ap, sym, ◌∙◌, arith, append_assoc, length-append, map}
-use Rattle.std.proofs.Common.{eqb, Some, None, decimal}
-use Rattle.std.specs.Prelude.{◌≤ℤ◌, ℤ, pos, negsuc, ◌+ℤ◌, ◌*ℤ◌, unsigned_abs, ◌==◌, nat_lt, slice_index_or, if◌then◌else◌}
+use Rattle.std.proofs.Common.{◌≡◌, ℕ, ◌+◌, ◌*◌, ◌<◌, ◌≤◌, List, [], ◌∷◌, ◌++◌, length, take, drop, Bool, true, false, leb, ltb}
+use Rattle.std.proofs.Common.{Ok, refl, ap, sym, ◌∙◌, arith, append_assoc, length-append, map, eqb, Some, None, decimal}
+use Rattle.std.specs.Prelude.{◌≤ℤ◌, ℤ, pos, ◌+ℤ◌, ◌*ℤ◌, unsigned_abs, ◌==◌, nat_lt, slice_index_or}
 use Rattle.std.specs.List.{flat_map, All, AllByRecursion}
 use Rattle.std.proofs.Math.Seq.{take-append_seam, drop-append_seam}
 use Rattle.std.proofs.lemmas.Bool.{lt-ltb, le-ltb}
 use Rattle.std.proofs.lemmas.Bool.Decides.{nat_tests, Decides-int_eq}
 use Rattle.std.proofs.lemmas.Int.{ints}
 use Rattle.std.proofs.lemmas.List.Elements.{All-head, All-tail, recursion_from_All}
-use Rattle.std.specs.Ordering.{int_eq}
 use Rattle.std.proofs.lemmas.Fmt.{decimal_injective}
 use Rattle.cam_units.specs.declared.length.Nm.{Nm}
 use Rattle.cam_units.specs.declared.length.Unit.TheVariants.{Mm}
@@ -19,9 +17,8 @@ use Rattle.cam_units.specs.Board.{IsSize}
 use Rattle.cam_macros.specs.declared.primitive.MacroPrimitive.{MacroPrimitive}
 use Rattle.cam_macros.specs.declared.primitive.PrimShape.{PrimShape}
 use Rattle.cam_macros.specs.declared.primitive.PrimShape.TheVariants.{Disc, Bar, Rect as Rectangle, Outline}
-use Rattle.cam_macros.specs.Numbers.{billion}
 use Rattle.cam_macros.specs.Arithmetic.{Values, parameter}
-use Rattle.cam_macros.specs.Expansion.{paint_of, size, size_of, rounded_coordinate, coordinate_of, point_of, outline_points}
+use Rattle.cam_macros.specs.Expansion.{paint_of, size, size_of, coordinate_of, point_of, outline_points}
 use Rattle.cam_macros.specs.Expansion.{count_of, outline_through, primitive_made, disc_of, bar_of, rect_of, outline_made}
 use Rattle.cam_macros.specs.Expansion.{primitive_of, all_worth, expansion, expansion_of, ◌>>=◌}
 use Rattle.cam_apertures.specs.Primitives.{IsMacroPoint, IsSoundShape, IsSoundPrim}
@@ -56,23 +53,19 @@ is_at_most : (a b : ℕ) → a ≤ b → leb a b ≡ true
 is_at_most a b h = grind (arith, nat_tests)
 
 size_is : (z : ℤ) → IsSize z → size z ≡ Ok (record { 0 = z })
-size_is (pos n) h = let high = h.1 in rw (is_at_most n 200000000 (omega (arith, ints, high))) refl
-size_is (negsuc n) h = let low = h.0 in absurd (omega (arith, ints, low))
+size_is z h = grind (arith, is_at_most, ints)
 
 size_again : (d : Nm) → IsSize d.0 → size_of Mm (scaled d.0) ≡ Ok d
 size_again d h = ap size (scaled_again d.0) ∙ size_is d.0 h
 
 coordinate_again : (z : ℤ) → unsigned_abs z ≤ 200000000 → coordinate_of Mm (scaled z) ≡ Ok (record { 0 = z })
-coordinate_again z h =
-    ap rounded_coordinate (scaled_again z) ∙ rw (is_at_most (unsigned_abs z) 200000000 h) refl
+coordinate_again z h = grind (arith, scaled_again, is_at_most)
 
 unturned : (x y : ℤ) → (pos 1 *ℤ x +ℤ pos 0 *ℤ y ≡ x) × (pos 0 *ℤ x +ℤ pos 1 *ℤ y ≡ y)
 unturned x y = (omega (arith, ints), omega (arith, ints))
 
 point_again : (p : Point) → IsMacroPoint p → point_of Mm R0 (scaled p.x) (scaled p.y) ≡ Ok p
-point_again p near =
-    let same = unturned p.x p.y in
-    rw (coordinate_again p.x near.x, coordinate_again p.y near.y, same.0, same.1) refl
+point_again p near = grind (arith, unturned, coordinate_again)
 
 points_again : (points : List Point) → All IsMacroPoint points
     → outline_points Mm R0 (flat_map point_values points) ≡ Ok points
@@ -84,8 +77,7 @@ points_again (p ∷ points) near =
     ) refl
 
 paint_again : (paint : Bool) → paint_of (exposure_value paint) ≡ Ok paint
-paint_again true = refl
-paint_again false = refl
+paint_again paint = grind arith
 
 -- ---- outlines
 
@@ -94,13 +86,7 @@ two_each [] = refl
 two_each (p ∷ points) = omega (arith, two_each points)
 
 count_again : (n : ℕ) → 0 < n → n ≤ 5000 → count_of (whole_value n) ≡ Ok n
-count_again n some most =
-    let whole : n * billion % billion ≡ 0 = omega arith in
-    let least : ltb 0 (n * billion) ≡ true = lt-ltb 0 (n * billion) (omega (arith, some)) in
-    let greatest : leb (n * billion) (5000 * billion) ≡ true =
-    is_at_most (n * billion) (5000 * billion) (omega (arith, most)) in
-    let back : n * billion / billion ≡ n = omega arith in
-    rw (whole, least, greatest, back) refl
+count_again n some most = grind (arith, lt-ltb, is_at_most)
 
 -- the points, and behind them the first one again
 outline_read : (paint : Bool) (points : List Point) (values : List ℤ) → All IsMacroPoint points
@@ -185,12 +171,7 @@ parameters_again a sound = values_again (sizes_of a) (sizes_short a sound)
 
 -- a hole that is left out is none
 hole_again : (hole : Nm) → nearest_of (slice_index_or (map scaled (hole_size hole)) 0 (pos 0)) 1000 ≡ hole.0
-hole_again hole = by (int_eq hole.0 (pos 0)) refl
-  where
-    by : (b : Bool) → int_eq hole.0 (pos 0) ≡ b
-        → nearest_of (slice_index_or (map scaled (if b then [] else hole.0 ∷ [])) 0 (pos 0)) 1000 ≡ hole.0
-    by true e = sym ((Decides-int_eq hole.0 (pos 0)).0 e)
-    by false e = scaled_again hole.0
+hole_again hole = grind (arith, Decides-int_eq, scaled_again)
 
 -- the macro of an aperture of primitives is there, and gives them
 
@@ -204,19 +185,15 @@ IsMade macros n _ = Unit {0}
 pub aperture_again : (macros : List Macro) (n : ℕ) (a : Aperture) → IsMade macros n a
     → template_aperture (name_of n a) macros Mm (values_for a) ≡ Some a
 aperture_again macros n (Circle diameter hole) h = rw (scaled_again diameter.0, hole_again hole) refl
-aperture_again macros n (Rect width height hole) h =
-    rw (scaled_again width.0, scaled_again height.0, hole_again hole) refl
-aperture_again macros n (Obround width height hole) h =
-    rw (scaled_again width.0, scaled_again height.0, hole_again hole) refl
+aperture_again macros n (Rect width height hole) h = grind (arith, scaled_again, hole_again)
+aperture_again macros n (Obround width height hole) h = grind (arith, scaled_again, hole_again)
 aperture_again macros n (Prims prims) h = rw (h.1, h.2) refl
 
 -- ---- sizes
 
 -- from a least length to 200 mm
 between : (least : ℕ) (z : ℤ) → pos least ≤ℤ z → z ≤ℤ pos 200000000 → is_size_between (pos least) z ≡ true
-between least (pos n) low high =
-    rw (is_at_most least n (omega (arith, ints, low)), is_at_most n 200000000 (omega (arith, ints, high))) refl
-between least (negsuc n) low high = absurd (omega (arith, ints, low))
+between least z low high = grind (arith, is_at_most, ints)
 
 -- a hole is one parameter, or none
 record HasCount (fewest count : ℕ) : Type 0 where
@@ -224,68 +201,30 @@ record HasCount (fewest count : ℕ) : Type 0 where
   most : nat_lt (fewest + 1) count ≡ false
 
 one_count : (z : ℤ) (hole : Nm) → HasCount 1 (length (map mm (z ∷ hole_size hole)))
-one_count z hole =
-    either (λ sizes. HasCount 1 (length (map mm (z ∷ sizes)))) (int_eq hole.0 (pos 0)) [] (hole.0 ∷ [])
-    (λ e. record { least = refl; most = refl }) (λ e. record { least = refl; most = refl })
+one_count z hole = grind (arith, either)
 
 two_count : (y z : ℤ) (hole : Nm) → HasCount 2 (length (map mm (y ∷ z ∷ hole_size hole)))
-two_count y z hole =
-    either (λ sizes. HasCount 2 (length (map mm (y ∷ z ∷ sizes)))) (int_eq hole.0 (pos 0)) [] (hole.0 ∷ [])
-    (λ e. record { least = refl; most = refl }) (λ e. record { least = refl; most = refl })
+two_count y z hole = grind (arith, either)
 
 -- ---- faults
 
 template_faultless : (macros : List Macro) (n : ℕ) (a : Aperture) → IsSoundAperture a → IsMade macros n a
     → least number_of (template_faults (name_of n a) macros Mm (length (parameters_of a)) (values_for a)) ≡ None
-template_faultless macros n (Circle diameter hole) sound h =
-    let count = one_count diameter.0 hole in
-    rw (
-      count.least,
-      count.most,
-      scaled_again diameter.0,
-      hole_again hole,
-      between 0 diameter.0 sound.0.0 sound.0.1,
-      between 0 hole.0 sound.1.0 sound.1.1,
-    ) refl
-template_faultless macros n (Rect width height hole) sound h =
-    let count = two_count width.0 height.0 hole in
-    rw (
-      count.least,
-      count.most,
-      scaled_again width.0,
-      scaled_again height.0,
-      hole_again hole,
-      between 1 width.0 sound.0.0 sound.0.1,
-      between 1 height.0 sound.1.0 sound.1.1,
-      between 0 hole.0 sound.2.0 sound.2.1,
-    ) refl
-template_faultless macros n (Obround width height hole) sound h =
-    let count = two_count width.0 height.0 hole in
-    rw (
-      count.least,
-      count.most,
-      scaled_again width.0,
-      scaled_again height.0,
-      hole_again hole,
-      between 1 width.0 sound.0.0 sound.0.1,
-      between 1 height.0 sound.1.0 sound.1.1,
-      between 0 hole.0 sound.2.0 sound.2.1,
-    ) refl
+template_faultless macros n (Circle diameter hole) sound h = grind (arith, one_count, scaled_again, hole_again, between)
+template_faultless macros n (Rect width height hole) sound h = grind (arith, two_count, scaled_again, hole_again, between)
+template_faultless macros n (Obround width height hole) sound h = grind (arith, two_count, scaled_again, hole_again, between)
 template_faultless macros n (Prims prims) sound h = rw (h.1, h.2) refl
 
 -- no number of the table holds
 pub definition_faultless : (macros : List Macro) (n : ℕ) (a : Aperture) → 10 ≤ n → n ≤ 2147483647 → IsSoundAperture a
     → IsMade macros n a → least number_of (faults_of (template_form (definition_text n a)) macros Mm) ≡ None
 definition_faultless macros n a low high sound made =
-    rw (definition_form n a high sound, defined_again n low high, parameters_again a sound)
-    (template_faultless macros n a sound made)
+    grind (arith, definition_form, defined_again, parameters_again, template_faultless)
 
 -- the entry that is defined
 pub definition_again : (macros : List Macro) (n : ℕ) (a : Aperture) → 10 ≤ n → n ≤ 2147483647 → IsSoundAperture a
     → IsMade macros n a → defined_by (template_form (definition_text n a)) macros Mm ≡ (n, entry.Aperture a) ∷ []
-definition_again macros n a low high sound made =
-    rw (definition_form n a high sound, defined_again n low high, parameters_again a sound)
-    (rw (aperture_again macros n a made) refl)
+definition_again macros n a low high sound made = grind (arith, definition_form, defined_again, parameters_again, aperture_again)
 
 -- ---- the names of macros
 
@@ -305,5 +244,4 @@ same_behind : (a : ℕ) (x y : List ℕ) → a ∷ x ≡ a ∷ y → x ≡ y
 same_behind a x y e = cc
 
 pub macro_names_differ : (m n : ℕ) → m ≤ 2147483647 → n ≤ 2147483647 → macro_name m ≡ macro_name n → m ≡ n
-macro_names_differ m n hm hn e =
-    decimal_injective m n (omega arith) (omega arith) (same_behind 77 (decimal m) (decimal n) e)
+macro_names_differ m n hm hn e = grind (arith, decimal_injective, same_behind)

@@ -1,6 +1,6 @@
 -- The opening of a canonical text: its file attributes are spelled, without a fault, and kept in their order.
 use Rattle.std.proofs.Common.{◌≡◌, ◌≢◌, ℕ, ◌+◌, ◌<◌, ◌≤◌, List, [], ◌∷◌, ◌++◌, ◌||◌, Bool, true, false, cond, not, length}
-use Rattle.std.proofs.Common.{take, drop, codes, None, Some, IsTrue, pos, refl, sym, ap, ap₂, subst, ◌∙◌, arith}
+use Rattle.std.proofs.Common.{codes, None, Some, IsTrue, pos, refl, sym, ap, ap₂, subst, ◌∙◌, arith}
 use Rattle.std.specs.Prelude.{nat_lt, fold}
 use Rattle.std.specs.List.{AllByRecursion, IsDistinct, list_any, position_or_len}
 use Rattle.std.specs.Str.{bytes_eq}
@@ -42,10 +42,7 @@ text_in a = a.name ++ a.fields
 -- ---- the bytes
 
 allowed : (byte : ℕ) → IsTrue (is_attribute_byte byte) → (byte ≢ percent) × (is_control byte ≡ false) × (is_star byte ≡ false)
-allowed byte h =
-    let not_at : (other : ℕ) → is_attribute_byte other ≡ false → byte ≢ other =
-    λ other e same. false≢true (sym e ∙ subst (λ b. is_attribute_byte b ≡ true) same h) in
-    (not_at 37 refl, grind (arith, nat_tests), ne_eqb byte 42 (not_at 42 refl))
+allowed byte h = grind (arith, false≢true, nat_tests, ne_eqb)
 
 -- each byte may stand in an attribute
 abbrev IsText : List ℕ → Type 0
@@ -56,9 +53,7 @@ text_more [] ys h k = k
 text_more (x ∷ xs) ys h k = (h.0, text_more xs ys h.1 k)
 
 text_is : (a : Attribute) → IsAttribute a → IsText (text_in a)
-text_is a h =
-    text_more a.name a.fields (recursion_from_All (λ byte. IsTrue (is_attribute_byte byte)) a.name h.name)
-    (recursion_from_All (λ byte. IsTrue (is_attribute_byte byte)) a.fields h.fields)
+text_is a h = grind (arith, text_more, recursion_from_All)
 
 starless : (text : List ℕ) → IsText text → list_any is_star text ≡ false
 starless [] h = refl
@@ -93,25 +88,20 @@ attribute_spells a h = record {
 comma_at : (name fields : List ℕ) → AllByRecursion (λ byte. byte ≢ 44) name → AreFields fields
     → position_or_len is_comma (name ++ fields) ≡ length name
 comma_at [] [] plain apart = refl
-comma_at [] (byte ∷ fields) plain apart =
-    ap (λ b. cond (not b) (1 + position_or_len is_comma fields) 0) (eq-eqb byte 44 apart)
+comma_at [] (byte ∷ fields) plain apart = grind (arith, eq-eqb)
 comma_at (byte ∷ name) fields plain apart =
     ap (λ b. cond (not b) (1 + position_or_len is_comma (name ++ fields)) 0) (ne_eqb byte 44 plain.0)
     ∙ (let rest = comma_at name fields plain.1 apart in omega arith)
 
 itself : (a : Attribute) → IsAttribute a → attribute_of (attribute_name (text_in a)) (attribute_fields (text_in a)) ≡ a
-itself a h =
-    let at = comma_at a.name a.fields (recursion_from_All (λ byte. byte ≢ 44) a.name h.whole) h.apart in
-    ap₂ attribute_of (ap (λ n. take n (text_in a)) at ∙ take-append_seam a.name a.fields)
-    (ap (λ n. drop n (text_in a)) at ∙ drop-append_seam a.name a.fields)
+itself a h = grind (arith, comma_at, recursion_from_All, take-append_seam, drop-append_seam)
 
 -- ---- one after another
 
 set_last : (a : Attribute) (front : List Attribute) → Lacks a.name front → with_attribute a front ≡ front ++ a ∷ []
 set_last a [] h = refl
 set_last a (b ∷ front) h =
-    ap (λ t. cond t (a ∷ front) (b ∷ with_attribute a front)) (All-head (λ c. has_name a.name c ≡ false) b front h)
-    ∙ ap (λ l. b ∷ l) (set_last a front (All-tail (λ c. has_name a.name c ≡ false) b front h))
+    grind (arith, All-head, All-tail, set_last a front (All-tail (λ c. has_name a.name c ≡ false) b front h))
 
 apart_at : (front rest : List Attribute) (a : Attribute) (name : List ℕ)
     → AllByRecursion (λ n. bytes_eq name n ≡ false) (names_of (front ++ a ∷ rest)) → bytes_eq name a.name ≡ false

@@ -20,11 +20,10 @@ use Rattle.cam_objects.specs.declared.object.Object.{Object}
 use Rattle.cam_objects.specs.declared.object.Object.TheVariants.{Flash, Draw, Arc, Region}
 use Rattle.cam_commands.specs.declared.parts.Slot.TheVariants.{Omitted}
 use Rattle.cam_commands.specs.declared.parts.Mode.{Mode}
-use Rattle.cam_commands.specs.declared.parts.Mode.TheVariants.{Linear}
 use Rattle.cam_commands.specs.declared.parts.OperationCode.TheVariants.{Flash as FlashCode, Plot, Move}
 use Rattle.cam_gerber.specs.State.{Past, aperture_in, dark_in, mode_in, point_in, turn_in, arc_centre, has_arcs}
 use Rattle.cam_gerber.specs.State.{in_region, code_of}
-use Rattle.cam_gerber.specs.Homes.{Home, InBlock, InRepeat, InLayer, home}
+use Rattle.cam_gerber.specs.Homes.{Home, home}
 use Rattle.cam_gerber.specs.Making.{flash_of, made, segment, stroke, stroke_of, number_in, region_by, region_ended}
 use Rattle.cam_gerber.specs.Making.{segments_in, start_in}
 use Rattle.cam_gerber.specs.Faults.{can_draw, faults, is_arc, is_full, is_outside, is_outside_at}
@@ -43,25 +42,20 @@ use Rattle.cam_commands.specs.declared.parts.Operation.{Operation}
 use Rattle.cam_commands.specs.Commands.{BeginRegion, EndRegion, SetMode, Operate}
 use Rattle.cam_gerber.specs.Statements.{Says}
 use Rattle.cam_gerber.specs.Laws.{IsFaultless}
-use Rattle.cam_writers.specs.GerberTexts.{Phrases, is_same_mode, said_by, with_contour, with_mode}
-use Rattle.cam_writers.specs.GerberTexts.{with_segment, with_segments}
+use Rattle.cam_writers.specs.GerberTexts.{Phrases, is_same_mode, said_by, with_contour, with_mode, with_segment, with_segments}
 
 -- ---- what a home says of an object, where all is kept
 
 module _ (older newer : Past) (k : Kept older newer) (object : Object) where
   full_at : (h : Home) → is_full h newer object ≡ is_full h older object
-  full_at (InBlock n) = let is = as_before older newer k (InBlock n) in rw (is.objects, is.leaves, k.entries) refl
-  full_at (InRepeat before) = let is = as_before older newer k (InRepeat before) in rw is.objects refl
-  full_at InLayer = let is = as_before older newer k InLayer in rw (is.items, is.layer_leaves, k.entries) refl
+  full_at h = grind (arith, as_before)
 
   pub full_kept : is_full (home newer) newer object ≡ is_full (home older) older object
   full_kept = full_at (home newer) ∙ ap (λ h. is_full h older object) (same_home older newer [] k)
 
   outside_at : (h : Home) → is_outside_at h newer object ≡ is_outside_at h older object
   unfolding is_outside
-  outside_at (InBlock n) = rw k.entries refl
-  outside_at (InRepeat before) = refl
-  outside_at InLayer = rw k.entries refl
+  outside_at h = grind arith
 
   pub outside_kept : is_outside_at (home newer) newer object ≡ is_outside_at (home older) older object
   outside_kept = outside_at (home newer) ∙ ap (λ h. is_outside_at h older object) (same_home older newer [] k)
@@ -108,8 +102,7 @@ stroke_along n from (Curve to centre ccw) turn dark = Arc ccw dark n from to cen
 
 by_segment : (mode : Mode) (n : ℕ) (from to centre : Point) (turn : Turn) (dark : Bool)
     → stroke mode n from to centre turn dark ≡ stroke_along n from (segment mode to centre) turn dark
-by_segment Linear n from to centre turn dark = refl
-by_segment _ n from to centre turn dark = refl
+by_segment mode n from to centre turn dark = grind arith
 
 stroke_none : (aperture : Option ℕ) (unfit : Option ℕ → Bool) (path : Checks Refusal) (full : Bool) (n : ℕ)
     → aperture ≡ Some n → unfit (Some n) ≡ false
@@ -163,11 +156,7 @@ record Draws (older past : Past) (from : Point) (segs : List Seg) (here : Point)
 
 begun_stays : (older past : Past) (from : Point) → Kept older past
     → Kept older (said (MoveTo from) ∷ Says BeginRegion ∷ past)
-begun_stays older past from k =
-    let before = Says BeginRegion ∷ past in
-    let opened : Kept past before = search (kept_all past) in
-    kept_on older before (said (MoveTo from) ∷ before) (kept_on older past before k opened)
-    (grown_by before (said (MoveTo from)) [] tt refl)
+begun_stays older past from k = grind (arith, Kept, kept_all, kept_on, grown_by)
 
 begun : (older past : Past) (from : Point) → Stands past → Kept older past → IsOnBoard from
     → Draws older (said (MoveTo from) ∷ Says BeginRegion ∷ past) from [] from (dark_in past)
@@ -270,8 +259,7 @@ all_plotted older phrases from here before (seg ∷ segs) dark d a few =
 
 region_is : (from : Point) (segs : List Seg) (dark : Bool) → 0 < length segs
     → region_by from segs dark ≡ Region (record { start = from; segs = segs }) dark ∷ []
-region_is from [] dark some = absurd (omega (arith, some))
-region_is from (seg ∷ segs) dark some = refl
+region_is from segs dark some = grind arith
 
 ended : (older past : Past) (from here : Point) (segs : List Seg) (dark : Bool)
     → Draws older past from segs here dark → 0 < length segs

@@ -1,6 +1,6 @@
 -- What the definitions of apertures of canonical texts say, and their form: the number, the name and the parameters.
 use Rattle.std.proofs.Common.{◌≡◌, ℕ, ◌+◌, ◌^◌, ◌<◌, ◌≤◌, List, [], ◌∷◌, ◌++◌, length, map, Bool, true, false}
-use Rattle.std.proofs.Common.{eqb, ltb, ne_eqb, Some, None, refl, sym, ap, ◌∙◌, arith, append-nil, codes, decimal}
+use Rattle.std.proofs.Common.{eqb, ltb, Some, None, refl, ap, ◌∙◌, arith, append-nil, codes, decimal}
 use Rattle.std.specs.Prelude.{ℤ, pos, not, ◌==◌, unsigned_abs, if◌then◌else◌}
 use Rattle.std.specs.Char.{is_ascii_digit}
 use Rattle.std.specs.List.{list_all, position_or_len, slice_split, before_first, flat_map, AllByRecursion}
@@ -51,14 +51,10 @@ side_short : (z : ℤ) → IsSideLength z → unsigned_abs z < 10 ^ 12
 side_short z h = let low = h.0 in let high = h.1 in omega (arith, ints)
 
 hole_short : (hole : Nm) → IsSize hole.0 → AreShort (hole_size hole)
-hole_short hole h =
-    either AreShort (int_eq hole.0 (pos 0)) [] (hole.0 ∷ []) (λ e. tt) (λ e. (size_short hole.0 h, tt))
+hole_short hole h = grind (arith, either, size_short)
 
 pub sizes_short : (a : Aperture) → IsSoundAperture a → AreShort (sizes_of a)
-sizes_short (Circle diameter hole) h = (size_short diameter.0 h.0, hole_short hole h.1)
-sizes_short (Rect width height hole) h = (side_short width.0 h.0, (side_short height.0 h.1, hole_short hole h.2))
-sizes_short (Obround width height hole) h = (side_short width.0 h.0, (side_short height.0 h.1, hole_short hole h.2))
-sizes_short (Prims prims) h = tt
+sizes_short a h = grind (arith, size_short, hole_short, side_short)
 
 -- ---- the name and the parameters
 
@@ -77,11 +73,7 @@ abbrev lengths_text : ℤ → List ℤ → List ℕ
 lengths_text z zs = mm z ++ flat_map (λ y. 88 ∷ mm y) zs
 
 one_length : (z : ℤ) (hole : Nm) → mm z ++ hole_text hole ≡ lengths_text z (hole_size hole)
-one_length z hole = by (int_eq hole.0 (pos 0))
-  where
-    by : (b : Bool) → mm z ++ (if b then [] else codes "X" ++ mm hole.0) ≡ lengths_text z (if b then [] else hole.0 ∷ [])
-    by true = refl
-    by false = ap (λ (t : List ℕ). mm z ++ 88 ∷ t) (sym (append-nil (mm hole.0)))
+one_length z hole = grind (arith, append-nil)
 
 two_lengths : (y z : ℤ) (hole : Nm)
     → mm y ++ (codes "X" ++ (mm z ++ hole_text hole)) ≡ lengths_text y (z ∷ hole_size hole)
@@ -150,35 +142,20 @@ named_alone number text whole some none = rw (none, whole, some) refl
 macro_form : (number digits : List ℕ) → list_all is_numeric digits ≡ true
     → with_number number (77 ∷ digits) ≡ Some (form_of number (77 ∷ digits) [])
 unfolding behind_comma
-macro_form number digits all =
-    let more : 1 + length digits ≡ length (77 ∷ digits) = omega arith in
-    let place : position_or_len is_comma (77 ∷ digits) ≡ length (77 ∷ digits) = rw (no_commas digits all) more in
-    let whole : before_first is_comma (77 ∷ digits) ≡ 77 ∷ digits =
-    rw place (take_all (length (77 ∷ digits)) (77 ∷ digits) (omega arith)) in
-    let some : eqb (length (77 ∷ digits)) 0 ≡ false =
-    ne_eqb (length (77 ∷ digits)) 0 (λ (z : length (77 ∷ digits) ≡ 0). omega arith) in
-    let none : ltb (length (77 ∷ digits)) (length (77 ∷ digits)) ≡ false =
-    le-ltb (length (77 ∷ digits)) (length (77 ∷ digits)) (omega arith) in
-    let behind : behind_comma (77 ∷ digits) ≡ None = rw (place, none) refl in
-    named_alone number (77 ∷ digits) whole some behind
+macro_form number digits all = grind (arith, no_commas, take_all, le-ltb, named_alone)
 
 -- `D` before a number
 numbered_form : (n : ℕ) (rest : List ℕ) → n < 2 ^ 64 → Stops is_ascii_digit rest
     → definition (68 ∷ (decimal n ++ rest)) ≡ with_number (decimal n) rest
 unfolding definition
-numbered_form n rest small stops =
-    let all = digits_of_decimal n small in
-    rw (run_read is_ascii_digit (decimal n) rest all stops, run_left is_ascii_digit (decimal n) rest all stops) refl
+numbered_form n rest small stops = grind (arith, digits_of_decimal, run_read, run_left)
 
 template_stops : (n : ℕ) (a : Aperture) → Stops is_ascii_digit (template_text n a)
-template_stops n (Circle diameter hole) = refl
-template_stops n _ = refl
+template_stops n a = grind arith
 
 form_of_template : (n : ℕ) (a : Aperture) (number : List ℕ) → n < 2 ^ 64 → AreShort (sizes_of a)
     → with_number number (template_text n a) ≡ Some (form_of number (name_of n a) (parameters_of a))
-form_of_template n (Circle diameter hole) number small short =
-    ap (λ (t : List ℕ). with_number number (67 ∷ 44 ∷ t)) (one_length diameter.0 hole)
-    ∙ standard_form number 67 diameter.0 (hole_size hole) refl short
+form_of_template n (Circle diameter hole) number small short = grind (arith, one_length, standard_form)
 form_of_template n (Rect width height hole) number small short =
     ap (λ (t : List ℕ). with_number number (82 ∷ 44 ∷ t)) (two_lengths width.0 height.0 hole)
     ∙ standard_form number 82 width.0 (height.0 ∷ hole_size hole) refl short
@@ -193,9 +170,7 @@ lengths_code : (z : ℤ) (zs : List ℤ) → AreShort (z ∷ zs) → IsCode (len
 lengths_code z zs h = lengths_pass is_code numeric_code refl z zs h
 
 template_code : (n : ℕ) (a : Aperture) → n < 2 ^ 64 → AreShort (sizes_of a) → IsCode (template_text n a)
-template_code n (Circle diameter hole) small short =
-    ap (λ (t : List ℕ). list_all is_code (67 ∷ 44 ∷ t)) (one_length diameter.0 hole)
-    ∙ lengths_code diameter.0 (hole_size hole) short
+template_code n (Circle diameter hole) small short = grind (arith, is_code, one_length, lengths_code)
 template_code n (Rect width height hole) small short =
     ap (λ (t : List ℕ). list_all is_code (82 ∷ 44 ∷ t)) (two_lengths width.0 height.0 hole)
     ∙ lengths_code width.0 (height.0 ∷ hole_size hole) short
@@ -205,9 +180,7 @@ template_code n (Obround width height hole) small short =
 template_code n (Prims prims) small short = decimal_code n small
 
 definition_code : (n : ℕ) (a : Aperture) → n ≤ 2147483647 → IsSoundAperture a → IsCode (definition_text n a)
-definition_code n a greatest sound =
-    code_append (decimal n) (template_text n a) (decimal_code n (omega arith))
-    (template_code n a (omega arith) (sizes_short a sound))
+definition_code n a greatest sound = grind (arith, code_append, decimal_code, template_code, sizes_short)
 
 -- ---- definitions
 
@@ -216,10 +189,7 @@ pub definition_form : (n : ℕ) (a : Aperture) → n ≤ 2147483647 → IsSoundA
     → template_form (definition_text n a)
     ≡ Some (record { number = decimal n; name = name_of n a; parameters = parameters_of a })
 definition_form n a greatest sound =
-    let small : n < 2 ^ 64 = omega arith in
-    ap definition (packed_code (definition_text n a) (definition_code n a greatest sound))
-    ∙ numbered_form n (template_text n a) small (template_stops n a)
-    ∙ form_of_template n a (decimal n) small (sizes_short a sound)
+    grind (arith, packed_code, definition_code, numbered_form, template_stops, form_of_template, sizes_short)
 
 pub definition_spells : (n : ℕ) (a : Aperture) → n ≤ 2147483647 → IsSoundAperture a → Spells (NameAperture n a)
 unfolding spelled named_command

@@ -1,8 +1,7 @@
 -- The entries of a canonical text, blocks and apertures with their macros: each joins those before it.
-use Rattle.std.proofs.Common.{◌≡◌, ℕ, ◌+◌, ◌<◌, ◌≤◌, List, [], ◌∷◌, ◌++◌, length, drop, false, Some, None, refl, sym}
-use Rattle.std.proofs.Common.{ap, ◌∙◌, arith, append-nil, subst, Bool, true, cond, Option, nat_eq, eq-eqb, ap₂, take}
-use Rattle.std.proofs.Common.{get_or, length-append}
-use Rattle.std.specs.Prelude.{◌||◌, nat_le, nat_lt, is_none, find, fold}
+use Rattle.std.proofs.Common.{◌≡◌, ℕ, ◌+◌, ◌<◌, ◌≤◌, List, [], ◌∷◌, ◌++◌, length, drop, false, Some, None, refl, sym, ap, ◌∙◌}
+use Rattle.std.proofs.Common.{arith, append-nil, subst, Bool, true, cond, Option, nat_eq, eq-eqb, take, get_or, length-append}
+use Rattle.std.specs.Prelude.{◌||◌, nat_le, nat_lt, find, fold}
 use Rattle.std.specs.List.{All, AllByRecursion}
 use Rattle.std.proofs.lemmas.Bool.{le-ltb, lt-leb, false_from_ne_true, false≢true}
 use Rattle.std.proofs.lemmas.List.Elements.{All-weaker, recursion_from_All}
@@ -20,10 +19,9 @@ use Rattle.cam_objects.specs.Soundness.{IsSoundItem, MayAddEntry, IsSoundDiction
 use Rattle.cam_objects.specs.Weights.{block_count, object_count, object_depth, weight_in}
 use Rattle.cam_commands.specs.Commands.{OpenBlock, CloseBlock, DefineAperture}
 use Rattle.cam_gerber.specs.Statements.{Says, NamesMacro}
-use Rattle.cam_gerber.specs.State.{Past, in_region, unit_in}
-use Rattle.cam_units.specs.Nearest.{unit_or_mm}
+use Rattle.cam_gerber.specs.State.{Past}
 use Rattle.cam_gerber.specs.Homes.{InBlock, open_blocks}
-use Rattle.cam_gerber.specs.Layers.{closed_block, entries_in, defined, defined_by, macros_in}
+use Rattle.cam_gerber.specs.Layers.{closed_block, entries_in, defined, macros_in}
 use Rattle.cam_gerber.specs.Faults.{faults, is_taken, is_taken_again}
 use Rattle.cam_gerber.proofs.Pasts.{unused}
 use Rattle.cam_gerber.proofs.SoundParts.{Pairs}
@@ -35,13 +33,12 @@ use Rattle.cam_writers.proofs.GerberObjects.{IsSoundAt, HasRoom, objects_join, B
 use Rattle.cam_writers.proofs.GerberObjects.{macros_more, macros_of, macros_of_template, sound_one}
 use Rattle.cam_writers.proofs.Walks.{fewer, lighter, sound_at, walk}
 use Rattle.cam_refusals.specs.declared.refusal.Refusal.{Refusal}
-use Rattle.cam_refusals.specs.declared.refusal.Refusal.TheVariants.{NoUnit, Redefined, StrayBlock}
 use Rattle.cam_macros.specs.declared.aperture_macro.Macro.{Macro}
 use Rattle.cam_macros.specs.declared.part.Part.{Part}
 use Rattle.cam_apertures.specs.Primitives.{IsSoundPrim}
 use Rattle.cam_apertures.specs.declared.aperture.Aperture.{Aperture as Template}
 use Rattle.cam_apertures.specs.declared.aperture.Aperture.TheVariants.{Prims}
-use Rattle.cam_apertures.specs.Definition.{template_form, faults_of, named, numbered}
+use Rattle.cam_apertures.specs.Definition.{template_form, named, numbered}
 use Rattle.cam_objects.specs.declared.entry.Entry.{Entry}
 use Rattle.cam_writers.proofs.GerberMacroFields.{parts_for}
 use Rattle.cam_writers.proofs.GerberMacros.{macro_parsed}
@@ -57,8 +54,7 @@ use Rattle.cam_writers.proofs.GerberAttributes.{opens}
 -- a block has room for one object more
 block_room : (count leaves depth : ℕ) → count < 1000000 → leaves ≤ 4000000 → depth ≤ 7
     → (nat_le 1000000 count || nat_lt 4000000 leaves || nat_le 8 depth) ≡ false
-block_room count leaves depth few light flat =
-    rw (lt-leb 1000000 count few, le-ltb 4000000 leaves light, lt-leb 8 depth (omega (arith, flat))) refl
+block_room count leaves depth few light flat = grind (arith, lt-leb, le-ltb)
 
 module _ (phrases : Phrases) (es : Pairs) (between : Between (said_by phrases) es []) (n : ℕ) (objects : List Object)
     (may : MayAddEntry es n (Block objects)) where
@@ -118,9 +114,7 @@ module _ (phrases : Phrases) (es : Pairs) (between : Between (said_by phrases) e
   closed_stands = search (closed_none, joined.stands)
 
   closed_is : closed_block inner (open_blocks inner) ≡ (n, Block objects) ∷ []
-  closed_is =
-      let there = gathered opened inner (InBlock n) objects refl opened_empty joined in
-      ap (closed_block inner) joined.grown.blocks ∙ ap (λ all. (n, Block all) ∷ []) there.objects_are
+  closed_is = grind (arith, gathered, inner, opened_empty, joined)
 
   pub block_added : Between (said_by (with_entry phrases (n, Block objects))) (es ++ (n, Block objects) ∷ []) []
   unfolding inner
@@ -141,15 +135,10 @@ AreLow es = AllByRecursion (λ (e : ℕ × Entry). e.0 ≤ 2147483647) es
 
 other_name : (m n : ℕ) → m ≤ 2147483647 → n ≤ 2147483647 → nat_eq n m ≡ false
     → bytes_eq (macro_name m) (macro_name n) ≡ false
-other_name m n hm hn apart =
-    false_from_ne_true (bytes_eq (macro_name m) (macro_name n))
-    (λ e.
-    let same : m ≡ n = macro_names_differ m n hm hn ((bytes_eq-Decides (macro_name m) (macro_name n)).0 e) in
-    false≢true (sym apart ∙ eq-eqb n m (sym same)))
+other_name m n hm hn apart = grind (arith, false_from_ne_true, macro_names_differ, bytes_eq-Decides, false≢true, eq-eqb)
 
 neither : {A : Type 0} (b : Bool) (a : A) (o : Option A) → cond b (Some a) o ≡ None → (b ≡ false) × (o ≡ None)
-neither true a o h = absurd cc
-neither false a o h = (refl, h)
+neither b a o h = grind arith
 
 unnamed : (es : Pairs) (n : ℕ) → n ≤ 2147483647 → AreLow es → lookup (nat_eq n) es ≡ None
     → named (macros_of es) (macro_name n) ≡ None
@@ -177,10 +166,7 @@ module _ (phrases : Phrases) (es : Pairs) (between : Between (said_by phrases) e
   so_far = said_by phrases
 
   no_macro : (a : Template) → macros_of_template n a ≡ [] → IsMade (macros_in so_far) n a → IsReady so_far es n a
-  no_macro a none made =
-      let macros : macros_in so_far ≡ macros_of es ++ macros_of_template n a =
-      between.macros ∙ sym (ap (λ more. macros_of es ++ more) none ∙ append-nil (macros_of es)) in
-      (search (macros, between), made)
+  no_macro a none made = grind (arith, macros_of, macros_of_template, append-nil)
 
   ready : (a : Template) → MayAddEntry es n (Aperture a) → IsReady (said_by (with_macro n a phrases)) es n a
   ready (Prims prims) may =
@@ -217,34 +203,19 @@ module _ (past : Past) (es : Pairs) (n : ℕ) (a : Template) (ready : IsReady pa
   text = definition_text n a
 
   fresh : is_taken_again past (numbered (template_form text)) ≡ false
-  fresh =
-      ap (λ d. is_taken_again past (numbered d)) (definition_form n a may.greatest may.sound)
-      ∙ ap (is_taken_again past) (defined_again n may.least may.greatest)
-      ∙ rw (ready.0.entries, may.absent, ready.0.blocks) refl
+  fresh = grind (arith, definition_form, sound, defined_again, ready)
 
   none : least number_of (faults past (Says (DefineAperture text))) ≡ None
-  none =
-      three_none (NoUnit, is_none (unit_in past)) (Redefined, is_taken_again past (numbered (template_form text)))
-      (StrayBlock, in_region past) (faults_of (template_form text) (macros_in past) (unit_or_mm (unit_in past)))
-      (ap is_none ready.0.stands.unit) fresh ready.0.stands.region
-      (ap (λ unit. least number_of (faults_of (template_form text) (macros_in past) (unit_or_mm unit))) ready.0.stands.unit
-      ∙ definition_faultless (macros_in past) n a may.least may.greatest may.sound ready.1)
+  none = grind (arith, three_none, ready, fresh, definition_faultless, sound)
 
   stands : Stands (Says (DefineAperture text) ∷ past)
   stands = search (none, ready.0.stands)
 
   defines : defined past text ≡ (n, Aperture a) ∷ []
-  defines =
-      ap (λ unit. defined_by (template_form text) (macros_in past) (unit_or_mm unit)) ready.0.stands.unit
-      ∙ definition_again (macros_in past) n a may.least may.greatest may.sound ready.1
+  defines = grind (arith, ready, stands, definition_again, sound)
 
   defined_behind : Between (Says (DefineAperture text) ∷ past) (es ++ (n, Aperture a) ∷ []) []
-  defined_behind =
-      let entries : entries_in (Says (DefineAperture text) ∷ past) ≡ es ++ (n, Aperture a) ∷ [] =
-      ap₂ (λ all more. all ++ more) ready.0.entries defines in
-      let macros : macros_in (Says (DefineAperture text) ∷ past) ≡ macros_of (es ++ (n, Aperture a) ∷ []) =
-      ready.0.macros ∙ sym (macros_more es (n, Aperture a)) in
-      search (stands, entries, macros, ready.0)
+  defined_behind = grind (arith, ready, defines, macros_of, macros_more, stands)
 
 pub aperture_added : (phrases : Phrases) (es : Pairs) → Between (said_by phrases) es [] → AreLow es → (n : ℕ) (a : Template)
     → MayAddEntry es n (Aperture a)

@@ -1,5 +1,5 @@
 -- The items of a canonical text, one after another behind the entries; and the layer that the whole text leaves.
-use Rattle.std.proofs.Common.{◌≡◌, ℕ, ◌+◌, ◌*◌, ◌<◌, ◌≤◌, List, [], ◌∷◌, ◌++◌, length, map, Bool, true, false, cond}
+use Rattle.std.proofs.Common.{◌≡◌, ℕ, ◌+◌, ◌*◌, ◌<◌, ◌≤◌, List, [], ◌∷◌, ◌++◌, length, Bool, true, false}
 use Rattle.std.proofs.Common.{Some, None, sum_by, refl, ap, ap₂, ◌∙◌, arith, append-nil}
 use Rattle.std.specs.Prelude.{ℤ, ◌||◌, ◌&&◌, not, unsigned_abs, fold}
 use Rattle.std.specs.List.{All}
@@ -20,9 +20,8 @@ use Rattle.cam_commands.specs.declared.parts.Slot.TheVariants.{Written}
 use Rattle.cam_commands.specs.Commands.{SetRepeat, CloseRepeat, End}
 use Rattle.cam_gerber.specs.Statements.{Says}
 use Rattle.cam_gerber.specs.State.{Past, in_region}
-use Rattle.cam_gerber.specs.Homes.{InLayer, InRepeat, Opened, home, has_copies, open_repeat, repeat_opened as opened_by}
-use Rattle.cam_gerber.specs.Homes.{step_written}
-use Rattle.cam_gerber.specs.Layers.{closed_by, closed_leaves, closed_repeat, copied_leaves, entries_in, items_in}
+use Rattle.cam_gerber.specs.Homes.{InLayer, InRepeat, Opened, home, has_copies, open_repeat, step_written}
+use Rattle.cam_gerber.specs.Layers.{closed_leaves, closed_repeat, copied_leaves, entries_in, items_in}
 use Rattle.cam_gerber.specs.Layers.{leaves_in, repeat_by, layer_in}
 use Rattle.cam_gerber.specs.Faults.{faults, holds_of_one, is_left_out, is_layer_full, is_outside, is_full}
 use Rattle.cam_gerber.proofs.Pasts.{home_is}
@@ -47,8 +46,7 @@ use Rattle.cam_writers.proofs.GerberSpelling.{all_spelled}
 
 one_repeat : (o : Opened) (objects : List Object) → 0 < length objects
     → repeat_by o objects ≡ Repeat o.columns o.rows o.i o.j objects ∷ []
-one_repeat o [] some = absurd (omega (arith, some))
-one_repeat o (x ∷ objects) some = refl
+one_repeat o objects some = grind arith
 
 closing_none : (region full : Bool) (outside : Item → Bool) (closed : List Item) (item : Item) → region ≡ false
     → full ≡ false → closed ≡ item ∷ [] → outside item ≡ false
@@ -59,8 +57,7 @@ closing_none region full outside closed item a b c d = rw (a, b, c, d) refl
 -- the layer has room for one item more
 pub layer_room : (past : Past) (items : List Item) (so_far more : ℕ) → items_in past ≡ items → leaves_in past ≡ so_far
     → length items < 1000000 → so_far + more ≤ 4000000 → is_layer_full past more ≡ false
-layer_room past items so_far more listed leaves few light =
-    rw (listed, leaves, lt-leb 1000000 (length items) few, le-ltb 4000000 (so_far + more) light) refl
+layer_room past items so_far more listed leaves few light = grind (arith, lt-leb, le-ltb)
 
 module _ (phrases : Phrases) (es : Pairs) (items : List Item) (between : Between (said_by phrases) es items) (columns rows : ℕ) (i j : ℤ)
     (objects : List Object) (sound : IsSoundItem es (Repeat columns rows i j objects)) (few : length items < 1000000)
@@ -101,24 +98,13 @@ module _ (phrases : Phrases) (es : Pairs) (items : List Item) (between : Between
   step_is z = ap (λ unit. fix9_of (scaled z) (unit_or_mm unit)) between.stands.unit ∙ scaled_again z
 
   opens : open_repeat opened ≡ Some place
-  opens =
-      ap (λ b. cond b (Some (opened_by past copies)) None) many
-      ∙ ap₂ (λ x y. Some (record place { i = x; j = y })) (step_is i) (step_is j)
+  opens = grind (arith, many, step_is)
 
   short : (z : ℤ) → unsigned_abs z < 1000000000 → is_short (step_written past (Written (scaled z))) ≡ true
   short z h = ap is_short (step_is z) ∙ lt-ltb (unsigned_abs z) 1000000000 h
 
   opened_none : least number_of (faults past (Says (SetRepeat copies))) ≡ None
-  opened_none =
-      rw (
-        short i inside.steps.0,
-        short j inside.steps.1,
-        between.stands.unit,
-        many,
-        between.blocks,
-        between.stands.region,
-        between.repeat,
-      ) refl
+  opened_none = grind (arith, short, inside, many)
 
   opened_stands : Stands opened
   opened_stands = search (opened_none, between.stands)
@@ -132,8 +118,7 @@ module _ (phrases : Phrases) (es : Pairs) (items : List Item) (between : Between
   at_home = home_is opened [] (Some place) between.blocks opens
 
   opened_items : items_in opened ≡ items
-  opened_items =
-      ap (λ repeat. items_in past ++ closed_by past repeat) between.repeat ∙ append-nil (items_in past) ∙ between.listed
+  opened_items = grind (arith, append-nil)
 
   opened_leaves : leaves_in opened ≡ sum_by (item_count (weight_in es)) items
   opened_leaves = omega (arith, ap (copied_leaves past) between.repeat, between.leaves)
@@ -141,24 +126,10 @@ module _ (phrases : Phrases) (es : Pairs) (items : List Item) (between : Between
   -- ---- its objects gather
 
   room : HasRoom opened (InRepeat (length past)) objects
-  room later front o rest joined e =
-      let there : Gathered later (InRepeat (length past)) (weight_in (entries_in opened)) front =
-      gathered opened later (InRepeat (length past)) front at_home opened_empty joined in
-      let less : length front < 1000000 = omega (arith, fewer objects front o rest e, limits.objects) in
-      rw there.objects_are (lt-leb 1000000 (length front) less)
+  room later front o rest joined e = grind (arith, Gathered, gathered, at_home, opened_empty, fewer, limits)
 
   each : All (IsSoundAt (InRepeat (length past)) es) objects
-  each k d low = record {
-    made = record {
-      formed = met.formed k d low;
-      known = met.known k d low;
-      drawable = met.drawable k d low;
-      radius = met.radii k d low;
-      points = inside.points k d low;
-      segs = limits.segs k d low;
-    };
-    placed = tt;
-  }
+  each k d low = grind (arith, met, inside, limits)
 
   inner : Past
   inner = said_by (with_objects (EnterRepeat columns rows i j ∷ phrases) objects)
@@ -172,8 +143,7 @@ module _ (phrases : Phrases) (es : Pairs) (items : List Item) (between : Between
   apart = ap (λ h. made_here h InLayer objects) at_home
 
   inner_items : items_in inner ≡ items
-  inner_items =
-      joined.grown.items ∙ ap₂ (λ all (more : List Object). all ++ map One more) opened_items apart ∙ append-nil items
+  inner_items = grind (arith, joined, opened_items, apart, append-nil)
 
   inner_leaves : leaves_in inner ≡ sum_by (item_count (weight_in es)) items
   inner_leaves = omega (arith, joined.grown.layer_leaves, opened_leaves, ap (block_count (weight_in (entries_in past))) apart)
@@ -184,19 +154,13 @@ module _ (phrases : Phrases) (es : Pairs) (items : List Item) (between : Between
   there = gathered opened inner (InRepeat (length past)) objects at_home opened_empty joined
 
   closed_is : closed_repeat inner ≡ Repeat columns rows i j objects ∷ []
-  closed_is =
-      ap (closed_by inner) (joined.grown.repeat ∙ opens) ∙ ap (repeat_by place) there.objects_are
-      ∙ one_repeat place objects met.repeated.1
+  closed_is = grind (arith, inner, joined, opens, there, one_repeat, met)
 
   copied : closed_leaves inner ≡ columns * rows * block_count (weight_in es) objects
-  copied =
-      ap (copied_leaves inner) (joined.grown.repeat ∙ opens) ∙ ap (λ n. columns * rows * n) there.leaves_are
-      ∙ ap (λ (all : Pairs). columns * rows * block_count (weight_in all) objects) between.entries
+  copied = grind (arith, inner, joined, opens, there, Pairs)
 
   full : is_layer_full inner (closed_leaves inner) ≡ false
-  full =
-      layer_room inner items (sum_by (item_count (weight_in es)) items) (closed_leaves inner) inner_items
-      inner_leaves few (omega (arith, light, copied))
+  full = grind (arith, layer_room, inner, inner_items, inner_leaves, copied)
 
   closed_none : least number_of (faults inner (Says CloseRepeat)) ≡ None
   closed_none =
@@ -240,9 +204,7 @@ module _ (phrases : Phrases) (es : Pairs) (items : List Item) (between : Between
   count = ap (λ (all : Pairs). object_count (weight_in all) o) between.entries
 
   one_room : is_full InLayer so_far o ≡ false
-  one_room =
-      layer_room so_far items (sum_by (item_count (weight_in es)) items) (object_count (weight_in (entries_in so_far)) o)
-      between.listed between.leaves few (omega (arith, light, count))
+  one_room = grind (arith, layer_room, count)
 
   one_joined : Joined so_far (said_by (with_object phrases o)) (o ∷ [])
   one_joined =
@@ -256,21 +218,7 @@ module _ (phrases : Phrases) (es : Pairs) (items : List Item) (between : Between
   counted = omega (arith, ap₂ (λ all made. block_count (weight_in all) made) between.entries here)
 
   one_added : Between (said_by (with_object phrases o)) es (items ++ One o ∷ [])
-  one_added = record {
-    stands = one_joined.stands;
-    blocks = one_joined.grown.blocks ∙ between.blocks;
-    repeat = one_joined.grown.repeat ∙ between.repeat;
-    entries = one_joined.grown.entries ∙ between.entries;
-    listed = one_joined.grown.items ∙ ap₂ (λ all (more : List Object). all ++ map One more) between.listed here;
-    leaves = omega (
-      arith,
-      one_joined.grown.layer_leaves,
-      between.leaves,
-      counted,
-      sum_by_push (item_count (weight_in es)) items (One o),
-    );
-    macros = one_joined.grown.macros ∙ between.macros;
-  }
+  one_added = grind (arith, one_joined, here, counted, sum_by_push)
 
 -- ---- one after another
 
@@ -304,10 +252,4 @@ module _ (attributes : List Attribute) (es : Pairs) (items : List Item) (set : A
 
   pub past_is_layer : layer_in (Says End ∷ said_by (phrases_before_end attributes es items))
       ≡ record { attributes = attributes; entries = es; items = items }
-  past_is_layer =
-      let past = said_by (phrases_before_end attributes es items) in
-      ap₂ (λ (names : List Attribute) (lists : Pairs × List Item). record { attributes = names; entries = lists.0; items = lists.1 })
-      (all_spelled attributes es items set sound).attributes
-      (ap₂ (λ (all : Pairs) (listed : List Item). (all, listed)) all_added.entries
-      (ap (λ repeat. items_in past ++ closed_by past repeat) all_added.repeat
-      ∙ append-nil (items_in past) ∙ all_added.listed))
+  past_is_layer = grind (arith, Pairs, all_spelled, all_added, append-nil)

@@ -1,6 +1,6 @@
 -- The fields of the primitives of canonical macros: runs of bytes that numbers may hold, which stand for trees by the
 -- grammar of macros, and the trees for values whatever the variables are.
-use Rattle.std.proofs.Common.{◌≡◌, ℕ, zero, suc, ◌*◌, ◌/◌, ◌^◌, ◌<◌, List, [], ◌∷◌, ◌++◌, length, map, take, Bool, true, sym}
+use Rattle.std.proofs.Common.{◌≡◌, ℕ, suc, ◌*◌, ◌/◌, ◌^◌, ◌<◌, List, [], ◌∷◌, ◌++◌, length, map, take, Bool, true, sym}
 use Rattle.std.proofs.Common.{false, Some, refl, ap, arith, decimal, codes, Ok}
 use Rattle.std.specs.Prelude.{ℤ, pos, negsuc, neg_ℤ, unsigned_abs}
 use Rattle.std.specs.List.{list_all, flat_map, All, AllByRecursion}
@@ -77,22 +77,13 @@ pos_within : (n : ℕ) → n < 10 ^ 15 → within (pos n) ≡ Some (pos n)
 pos_within n h = rw (lt-ltb n 1000000000000000 h) refl
 
 neg_within : (n : ℕ) → n < 10 ^ 15 → within (neg_ℤ (pos n)) ≡ Some (neg_ℤ (pos n))
-neg_within zero h = refl
-neg_within (suc n) h = rw (lt-ltb (suc n) 1000000000000000 h) refl
+neg_within n h = grind (arith, lt-ltb)
 
 number_again : (n : ℕ) → n < 10 ^ 12 → n * 1000 ≡ number_written (decimal (n / 1000000)) (last_six n)
 number_again n h = sym (sum_again n h)
 
 pointed_number : (n : ℕ) → n < 10 ^ 12 → IsNumber (decimal (n / 1000000)) (last_six n)
-pointed_number n h =
-    let v : value_of (decimal (n / 1000000)) ≡ n / 1000000 = value_of_decimal (n / 1000000) (omega arith) in
-    let some = decimal_nonempty (n / 1000000) (omega arith) in
-    record {
-      before = digits_of_decimal (n / 1000000) (omega arith);
-      behind = six_digits n;
-      some = omega (arith, some);
-      small = omega (arith, v);
-    }
+pointed_number n h = grind (arith, value_of_decimal, decimal_nonempty, digits_of_decimal, six_digits)
 
 -- so many nm, in mm
 pointed_factor : ℕ → Factor
@@ -120,16 +111,7 @@ signed_expression n h = record {
 
 -- a length
 pub length_field : (z : ℤ) → unsigned_abs z < 10 ^ 12 → IsField (mm z) (length_tree z) (scaled z)
-length_field (pos n) h = record {
-  numeric = mm_numeric (pos n) h;
-  reads = unsigned_expression n h;
-  is_worth = λ values. pos_within (n * 1000) (omega arith);
-}
-length_field (negsuc n) h = record {
-  numeric = mm_numeric (negsuc n) h;
-  reads = signed_expression n h;
-  is_worth = λ values. rw (pos_within (suc n * 1000) (omega arith)) (neg_within (suc n * 1000) (omega arith));
-}
+length_field z h = grind (arith, mm_numeric, unsigned_expression, pos_within, signed_expression, neg_within)
 
 -- in 10^-9 units
 abbrev pub whole_value : ℕ → ℤ
@@ -242,19 +224,7 @@ shape_values (Outline points) =
 
 shape_fit : (shape : PrimShape) → IsSoundShape shape
     → AreFields (shape_fields shape) (shape_trees shape) (shape_values shape)
-shape_fit (Disc centre diameter) h = (size_fit diameter.0 h.1, point_fit centre h.0)
-shape_fit (Bar from to width) h = (
-  size_fit width.0 h.2,
-  more_fields (point_fields from) (point_fields to) (point_trees from) (point_trees to) (point_values from)
-      (point_values to) (point_fit from h.0) (point_fit to h.1),
-)
-shape_fit (Rectangle centre width height) h = (size_fit width.0 h.1, (size_fit height.0 h.2, point_fit centre h.0))
-shape_fit (Outline points) h =
-    let most = h.most in (
-      count_field (length points) (omega (arith, most)),
-      more_fields (flat_map point_fields points) _ (flat_map point_trees points) _ (flat_map point_values points) _
-          (points_fit points h.near) (points_fit (take 1 points) (All-take IsMacroPoint 1 points h.near)),
-    )
+shape_fit shape h = grind (arith, size_fit, point_fit, more_fields, count_field, points_fit, All-take)
 
 abbrev pub exposure_value : Bool → ℤ
 exposure_value true = whole_value 1
@@ -267,8 +237,7 @@ abbrev pub values_of : MacroPrimitive → List ℤ
 values_of prim = exposure_value prim.paint ∷ (shape_values prim.shape ++ whole_value 0 ∷ [])
 
 exposure_fit : (paint : Bool) → IsField (exposure paint) (exposure_tree paint) (exposure_value paint)
-exposure_fit true = one_field
-exposure_fit false = nought_field
+exposure_fit paint = grind (arith, one_field, nought_field)
 
 pub prim_fit : (prim : MacroPrimitive) → IsSoundPrim prim → AreFields (fields_of prim) (trees_of prim) (values_of prim)
 prim_fit prim h = (

@@ -1,22 +1,20 @@
 -- The texts of macros: how they are spelled, and that they say their names and their primitives.
-use Rattle.std.proofs.Common.{◌≡◌, ℕ, ◌≤◌, List, [], ◌∷◌, ◌++◌, map, min, Bool, true, false, Option, Some, None}
-use Rattle.std.proofs.Common.{refl, ap, sym, subst, ◌∙◌, arith, codes, append_assoc}
-use Rattle.std.specs.Prelude.{◌==◌, not}
+use Rattle.std.proofs.Common.{◌≡◌, ℕ, ◌≤◌, List, [], ◌∷◌, ◌++◌, map, min, Bool, true, false, Some}
+use Rattle.std.proofs.Common.{refl, ap, ◌∙◌, arith, codes, append_assoc}
+use Rattle.std.specs.Prelude.{◌==◌}
 use Rattle.std.specs.List.{list_all, slice_split, flat_map, AllByRecursion, All}
 use Rattle.std.specs.Char.{is_ascii_digit}
 use Rattle.std.proofs.lemmas.Bool.{and_parts}
 use Rattle.std.proofs.lemmas.Bool.Decides.{nat_tests}
 use Rattle.std.proofs.lemmas.List.{map-id}
 use Rattle.std.proofs.lemmas.List.Elements.{filter-append, recursion_from_All}
-use Rattle.cam_words.specs.Bytes.{is_skipped}
 use Rattle.cam_words.specs.Heads.{packed, is_free_text}
 use Rattle.cam_numbers.specs.Numbers.{is_numeric, value_of}
 use Rattle.cam_macros.specs.declared.part.Part.{Part}
 use Rattle.cam_macros.specs.declared.primitive.MacroPrimitive.{MacroPrimitive}
 use Rattle.cam_macros.specs.declared.primitive.PrimShape.{PrimShape}
-use Rattle.cam_macros.specs.declared.primitive.PrimShape.TheVariants.{Disc}
-use Rattle.cam_macros.specs.Reading.{is_silent, parts_spoken, pieces, first, others, IsPrimitive, AreParts, IsMacroReading}
-use Rattle.cam_macros.specs.Parsing.{parts_of, IsReadAs}
+use Rattle.cam_macros.specs.Reading.{is_silent, parts_spoken, pieces, IsPrimitive, AreParts, IsMacroReading}
+use Rattle.cam_macros.specs.Parsing.{parts_of}
 use Rattle.cam_macros.proofs.OneReading.{one_reading}
 use Rattle.cam_macros.proofs.Parsed.{parsed_by_the_grammar}
 use Rattle.cam_apertures.specs.Primitives.{IsSoundPrim}
@@ -31,8 +29,6 @@ use Rattle.cam_writers.proofs.GerberMacroFields.{trees_of, values_of, prim_fit}
 use Rattle.cam_commands.specs.Syntax.{command_of}
 use Rattle.cam_commands.specs.ExtendedCommands.{named_command}
 use Rattle.cam_commands.proofs.NameLaws.{names_decide}
-use Rattle.cam_gerber.specs.Statements.{NamesMacro}
-use Rattle.cam_gerber.specs.Computing.{statement_said}
 
 -- ---- cutting at a byte
 
@@ -45,17 +41,14 @@ code_without text all = none_passes is_code (λ b. b == 42) (λ b h. grind (arit
 -- ---- one primitive
 
 shape_without : (shape : PrimShape) → IsWithout 44 (shape_code shape)
-shape_without (Disc centre diameter) = refl
-shape_without _ = refl
+shape_without shape = grind arith
 
 shape_is_code : (shape : PrimShape) → IsCode (shape_code shape)
-shape_is_code (Disc centre diameter) = refl
-shape_is_code _ = refl
+shape_is_code shape = grind arith
 
 -- it is no comment
 shape_speaks : (shape : PrimShape) (rest : List ℕ) → is_silent (shape_code shape ++ rest) ≡ false
-shape_speaks (Disc centre diameter) rest = refl
-shape_speaks _ rest = refl
+shape_speaks shape rest = grind arith
 
 runs_without : (runs : List (List ℕ)) → AreRuns runs → AllByRecursion (IsWithout 44) runs
 runs_without [] all = tt
@@ -72,32 +65,25 @@ primitive_cut prim all =
 
 runs_code : (runs : List (List ℕ)) → AreRuns runs → IsCode (flat_map (λ run. codes "," ++ run) runs)
 runs_code [] all = refl
-runs_code (run ∷ runs) all =
-    code_append run (flat_map (λ run. codes "," ++ run) runs) (run_code run all.0) (runs_code runs all.1)
+runs_code (run ∷ runs) all = grind (arith, code_append, run_code, runs_code runs all.1)
 
 primitive_code : (prim : MacroPrimitive) → AreRuns (fields_of prim) → IsCode (primitive_text prim)
 unfolding primitive_text
-primitive_code prim all =
-    code_append (shape_code prim.shape) (flat_map (λ field. codes "," ++ field) (fields_of prim))
-    (shape_is_code prim.shape) (runs_code (fields_of prim) all)
+primitive_code prim all = grind (arith, code_append, shape_is_code, runs_code)
 
 primitive_speaks : (prim : MacroPrimitive) → is_silent (primitive_text prim) ≡ false
 unfolding primitive_text
-primitive_speaks prim =
-    shape_speaks prim.shape (flat_map (λ field. codes "," ++ field) (fields_of prim))
+primitive_speaks prim = grind (arith, shape_speaks)
 
 some_code : (shape : PrimShape) → shape_code shape ≡ [] → ⊥
-some_code (Disc centre diameter) e = cc
-some_code _ e = cc
+some_code shape e = grind arith
 
 code_digits : (shape : PrimShape) → list_all is_ascii_digit (shape_code shape) ≡ true
-code_digits (Disc centre diameter) = refl
-code_digits _ = refl
+code_digits shape = grind arith
 
 code_again : (shape : PrimShape) → code_number shape ≡ min (value_of (shape_code shape)) 10000
 unfolding value_of
-code_again (Disc centre diameter) = refl
-code_again _ = refl
+code_again shape = grind arith
 
 -- what is asked of the fields
 fields_are_runs : (prim : MacroPrimitive) → IsSoundPrim prim → AreRuns (fields_of prim)
@@ -137,20 +123,14 @@ each_without (prim ∷ prims) sound =
     (code_without (primitive_text prim) (primitive_is_code prim sound.0), each_without prims sound.1)
 
 packed_more : (text rest : List ℕ) → IsCode text → packed (text ++ rest) ≡ text ++ packed rest
-packed_more text rest code =
-    filter-append (λ byte. not (is_skipped byte)) text rest
-    ∙ ap (λ (front : List ℕ). front ++ packed rest) (packed_code text code)
+packed_more text rest code = grind (arith, filter-append, packed_code)
 
 -- whatever stands before each that is read as a star
 packed_behind : (mark : List ℕ) → ((rest : List ℕ) → packed (mark ++ rest) ≡ 42 ∷ packed rest) → (prims : List MacroPrimitive)
     → AreSound prims → packed (flat_map (λ prim. mark ++ primitive_text prim) prims) ≡ in_one_line prims
 packed_behind mark star [] sound = refl
 packed_behind mark star (prim ∷ prims) sound =
-    let rest : List ℕ = flat_map (λ prim. mark ++ primitive_text prim) prims in
-    ap packed (append_assoc mark (primitive_text prim) rest) ∙ star (primitive_text prim ++ rest)
-    ∙ ap (λ (rest : List ℕ). 42 ∷ rest)
-    (packed_more (primitive_text prim) rest (primitive_is_code prim sound.0)
-    ∙ ap (λ (rest : List ℕ). primitive_text prim ++ rest) (packed_behind mark star prims sound.1))
+    grind (arith, append_assoc, packed_more, primitive_is_code, packed_behind mark star prims sound.1)
 
 all_speak : (prims : List MacroPrimitive) → parts_spoken (map primitive_text prims) ≡ map primitive_text prims
 all_speak [] = refl
@@ -183,23 +163,11 @@ macro_pieces n prims high sound =
 
 macro_reads : (n : ℕ) (prims : List MacroPrimitive) → n ≤ 2147483647 → AreSound prims
     → IsMacroReading (macro_text n prims) (macro_name n) (parts_for prims)
-macro_reads n prims high sound =
-    let e = macro_pieces n prims high sound in
-    record {
-      name_is = ap first (sym e);
-      named = macro_named n high;
-      parts_are =
-          subst (λ all. AreParts all (parts_for prims)) (sym (ap (λ all. parts_spoken (others all)) e ∙ all_speak prims))
-          (parts_read prims sound);
-    }
+macro_reads n prims high sound = grind (arith, macro_pieces, macro_named, parts_for, all_speak, parts_read)
 
 -- a text that stands for a macro is parsed as its parts
 only_reading : (text name : List ℕ) (parts : List Part) → IsMacroReading text name parts → parts_of text ≡ Some parts
-only_reading text name parts h = by (parts_of text) (parsed_by_the_grammar text)
-  where
-    by : (o : Option (List Part)) → IsReadAs text o → o ≡ Some parts
-    by (Some other) read = ap Some (one_reading text (first (pieces text)) name other parts read h).1
-    by None none = absurd (none name parts h)
+only_reading text name parts h = grind (arith, parsed_by_the_grammar, one_reading)
 
 pub macro_parsed : (n : ℕ) (prims : List MacroPrimitive) → n ≤ 2147483647 → AreSound prims
     → parts_of (macro_text n prims) ≡ Some (parts_for prims)
@@ -211,10 +179,7 @@ macro_parsed n prims high sound =
 macro_says : (n : ℕ) (prims : List MacroPrimitive) → n ≤ 2147483647 → AreSound prims
     → says (spelled (NameMacro n prims)) ≡ said (NameMacro n prims)
 unfolding spelled command_of named_command
-macro_says n prims high sound =
-    ap statement_said (names_decide.macro (macro_lines n prims))
-    ∙ ap (λ (text : List ℕ). NamesMacro (first (pieces text)) (parts_of text)) (macro_packed n prims high sound)
-    ∙ ap (λ all. NamesMacro (first all) (parts_of (macro_text n prims))) (macro_pieces n prims high sound)
+macro_says n prims high sound = grind (arith, names_decide, macro_packed, macro_pieces)
 
 -- ---- what the cutter finds
 
@@ -226,14 +191,11 @@ code_fits free (byte ∷ text) rest all more =
 
 -- a star and a line end
 mark_fits : (free : Bool) → Fits free 42 × Fits free 10
-mark_fits true = ((omega arith, refl), (omega arith, refl))
-mark_fits false = ((omega arith, refl), (omega arith, refl))
+mark_fits free = grind arith
 
 lines_fit : (free : Bool) (prims : List MacroPrimitive) → AreSound prims → AllByRecursion (Fits free) (in_lines prims)
 lines_fit free [] sound = tt
-lines_fit free (prim ∷ prims) sound =
-    let fit = mark_fits free in
-    (fit.0, (fit.1, code_fits free (primitive_text prim) (in_lines prims) (primitive_is_code prim sound.0) (lines_fit free prims sound.1)))
+lines_fit free (prim ∷ prims) sound = grind (arith, mark_fits, code_fits, primitive_is_code, lines_fit free prims sound.1)
 
 pub macro_spells : (n : ℕ) (prims : List MacroPrimitive) → n ≤ 2147483647 → All IsSoundPrim prims
     → Spells (NameMacro n prims)

@@ -1,6 +1,6 @@
 -- Objects of a canonical text, one after another at one home; and what holds between its entries and its items.
 use Rattle.std.proofs.Common.{◌≡◌, ℕ, ◌≤◌, [], ◌∷◌, length, Bool, true, false, Some, refl, ap₂, ◌∙◌, List, ◌++◌}
-use Rattle.std.proofs.Common.{nat_eq, ap, append-nil, cond, None, sum_by, arith, eq-eqb}
+use Rattle.std.proofs.Common.{nat_eq, ap, append-nil, None, sum_by, arith, eq-eqb}
 use Rattle.std.specs.List.{All, AllByRecursion, flat_map}
 use Rattle.std.proofs.lemmas.List.Elements.{All-head, All-tail, All-cons, All-nil, recursion_from_All}
 use Rattle.std.proofs.lemmas.Bool.{ltb-true}
@@ -14,11 +14,11 @@ use Rattle.cam_shapes.specs.declared.segments.Seg.TheVariants.{Line, Curve}
 use Rattle.cam_objects.proofs.SoundItems.{HasRadius, IsFormed, HasNumber, IsDrawable, IsKnown, meets}
 use Rattle.cam_objects.specs.declared.object.Object.{Object}
 use Rattle.cam_objects.specs.declared.object.Object.TheVariants.{Flash, Draw, Arc, Region}
-use Rattle.cam_objects.specs.Soundness.{points_of, points_of_seg, segs_of, AreOnBoard, IsSoundItem}
+use Rattle.cam_objects.specs.Soundness.{points_of, points_of_seg, AreOnBoard, IsSoundItem}
 use Rattle.cam_objects.specs.Turning.{after}
 use Rattle.cam_commands.specs.declared.parts.Mode.TheVariants.{Linear}
 use Rattle.cam_gerber.specs.State.{Past, turn_in}
-use Rattle.cam_gerber.specs.Homes.{home, Home, InBlock, InRepeat, InLayer, is_same_home, open_blocks, open_repeat}
+use Rattle.cam_gerber.specs.Homes.{home, Home, InRepeat, is_same_home, open_blocks, open_repeat}
 use Rattle.cam_gerber.specs.Faults.{is_defined, is_full, is_outside_at, is_unfit, are_leaves_on_board, is_outside}
 use Rattle.cam_writers.specs.Phrases.{mirror_of, rotation_of, macro_name}
 use Rattle.cam_writers.specs.GerberTexts.{Phrases, arc_mode, said_by, with_aperture, with_mode, with_object}
@@ -196,8 +196,7 @@ abbrev pub macros_of : Pairs → List Macro
 macros_of es = flat_map macros_of_entry es
 
 pub macros_more : (es : Pairs) (e : ℕ × Entry) → macros_of (es ++ e ∷ []) ≡ macros_of es ++ macros_of_entry e
-macros_more es e =
-    flat_map-append macros_of_entry es (e ∷ []) ∙ ap (λ more. macros_of es ++ more) (append-nil (macros_of_entry e))
+macros_more es e = grind (arith, flat_map-append, append-nil)
 
 -- these entries, items and macros have been written, and nothing is open
 pub record Wrote (past : Past) (es : Pairs) (items : List Item) (macros_are : List Macro) : Type 0 where
@@ -215,20 +214,10 @@ Between past es items = Wrote past es items (macros_of es)
 -- ---- what soundness says of one object
 
 made_one : (es : Pairs) (o : Object) → IsSoundItem es (One o) → IsMade es o
-made_one es o sound =
-    let met = meets es (One o) sound in
-    record {
-      formed = All-head IsFormed o [] met.formed;
-      known = All-head (IsKnown es) o [] met.known;
-      drawable = All-head (IsDrawable (meaning_in es)) o [] met.drawable;
-      radius = All-head HasRadius o [] met.radii;
-      points = All-head (λ x. All IsOnBoard (points_of x)) o [] met.inside.points;
-      segs = All-head (λ x. length (segs_of x) ≤ 1000000) o [] met.limits.segs;
-    }
+made_one es o sound = grind (arith, meets, All-head, IsFormed, IsKnown, IsDrawable, HasRadius)
 
 placed_one : (h : Home) (es : Pairs) (o : Object) → IsSoundItem es (One o) → IsPlacedAt h es o
-placed_one (InRepeat before) es o sound = tt
-placed_one _ es o sound = (meets es (One o) sound).inside.leaves
+placed_one h es o sound = grind (arith, meets)
 
 pub sound_one : (h : Home) (es : Pairs) (o : Object) → IsSoundItem es (One o) → IsSoundAt h es o
 sound_one h es o sound = record { made = made_one es o sound; placed = placed_one h es o sound }
@@ -236,9 +225,7 @@ sound_one h es o sound = record { made = made_one es o sound; placed = placed_on
 -- ---- the objects of a home that was empty
 
 pub same_again : (h : Home) → is_same_home h h ≡ true
-same_again (InBlock n) = eq-eqb n n refl
-same_again (InRepeat before) = eq-eqb before before refl
-same_again InLayer = refl
+same_again h = grind (arith, eq-eqb)
 
 -- they have gathered there, with their leaves
 pub record Gathered (later : Past) (h : Home) (w : ℕ → Weight) (objects : List Object) : Type 0 where
@@ -247,13 +234,7 @@ pub record Gathered (later : Past) (h : Home) (w : ℕ → Weight) (objects : Li
 
 pub gathered : (past later : Past) (h : Home) (objects : List Object) → home past ≡ h → IsEmptyHome past h
     → Joined past later objects → Gathered later h (weight_in (entries_in past)) objects
-gathered past later h objects at_home empty joined =
-    let here : made_here (home past) h objects ≡ objects =
-    ap (λ k. made_here k h objects) at_home ∙ ap (λ b. cond b objects []) (same_again h) in
-    record {
-      objects_are = joined.grown.objects h ∙ ap₂ (λ a b. a ++ b) empty.objects here;
-      leaves_are = omega (arith, joined.grown.leaves h, empty.leaves, ap (block_count (weight_in (entries_in past))) here);
-    }
+gathered past later h objects at_home empty joined = grind (arith, made_here, same_again)
 
 -- each is no deeper than the deepest
 pub depths : (w : ℕ → Weight) (objects : List Object) (so_far : ℕ)

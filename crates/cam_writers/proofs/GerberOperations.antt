@@ -1,7 +1,6 @@
 -- How operations, blocks and repeats are spelled.
-use Rattle.std.proofs.Common.{◌≡◌, ℕ, suc, ◌^◌, ◌<◌, ◌≤◌, List, [], ◌∷◌, ◌++◌, length, Option, None, Some, refl, sym}
-use Rattle.std.proofs.Common.{ap, subst, ◌∙◌, arith, append_assoc, append-nil, codes, decimal, true, false, eqb}
-use Rattle.std.proofs.Common.{eq-eqb, ne_eqb}
+use Rattle.std.proofs.Common.{◌≡◌, ℕ, suc, ◌^◌, ◌<◌, ◌≤◌, List, [], ◌∷◌, ◌++◌, length, Option, None, Some, refl, sym, ap, subst}
+use Rattle.std.proofs.Common.{◌∙◌, arith, append_assoc, append-nil, codes, decimal, true, false, eqb, eq-eqb, ne_eqb}
 use Rattle.std.specs.Prelude.{ℤ, pos, negsuc, ◌-ℤ◌, unsigned_abs}
 use Rattle.std.proofs.lemmas.Int.{ints}
 use Rattle.std.proofs.lemmas.Bool.{le-ltb}
@@ -69,16 +68,12 @@ coordinates_are to rest = ap (λ (t : List ℕ). 88 ∷ t) (append_assoc (whole 
 offsets_are : (start centre : Point) (rest : List ℕ)
     → offsets start centre ++ rest ≡ 73 ∷ (whole (centre.x -ℤ start.x) ++ 74 ∷ (whole (centre.y -ℤ start.y) ++ rest))
 unfolding offsets
-offsets_are start centre rest =
-    ap (λ (t : List ℕ). 73 ∷ t) (append_assoc (whole (centre.x -ℤ start.x)) (74 ∷ whole (centre.y -ℤ start.y)) rest)
+offsets_are start centre rest = grind (arith, append_assoc)
 
 point_code : (x y : ℤ) (first second : ℕ) (rest : List ℕ) → unsigned_abs x < 2 ^ 63 → unsigned_abs y < 2 ^ 63
     → IsCode (first ∷ []) → IsCode (second ∷ []) → IsCode rest
     → IsCode (first ∷ (whole x ++ second ∷ (whole y ++ rest)))
-point_code x y first second rest hx hy one two others =
-    code_append (first ∷ []) (whole x ++ second ∷ (whole y ++ rest)) one
-    (code_append (whole x) (second ∷ (whole y ++ rest)) (whole_code x hx)
-    (code_append (second ∷ []) (whole y ++ rest) two (code_append (whole y) rest (whole_code y hy) others)))
+point_code x y first second rest hx hy one two others = grind (arith, code_append, whole_code)
 
 -- ---- moves, flashes and lines
 
@@ -126,10 +121,7 @@ record HasOffsets (start centre : Point) : Type 0 where
   up : unsigned_abs (centre.y -ℤ start.y) < 2000000000
 
 short_offsets : (start centre : Point) → IsOnBoard start → IsOnBoard centre → HasOffsets start centre
-short_offsets start centre from about = record {
-  across = short_offset start.x centre.x from.x about.x;
-  up = short_offset start.y centre.y from.y about.y;
-}
+short_offsets start centre from about = grind (arith, short_offset)
 
 abbrev arc_parts : Point → Point → Point → OperationParts
 arc_parts start to centre =
@@ -137,9 +129,7 @@ arc_parts start to centre =
 
 arc_text : (start to centre : Point)
     → coordinates to ++ (offsets start centre ++ codes "D01") ≡ parts_text (arc_parts start to centre)
-arc_text start to centre =
-    coordinates_are to (offsets start centre ++ codes "D01")
-    ∙ ap (λ (t : List ℕ). 88 ∷ (whole to.x ++ 89 ∷ (whole to.y ++ t))) (offsets_are start centre (codes "D01"))
+arc_text start to centre = grind (arith, coordinates_are, offsets_are)
 
 arc_code : (start to centre : Point) → IsOnBoard to → HasOffsets start centre
     → IsCode (parts_text (arc_parts start to centre))
@@ -152,24 +142,12 @@ arc_code start to centre on short =
 
 arc_runs : (start to centre : Point) → IsOnBoard to → HasOffsets start centre → ArePartRuns (arc_parts start to centre)
 unfolding is_numeric
-arc_runs start to centre on short = record {
-  x = whole_run to.x (omega (arith, on.x));
-  y = whole_run to.y (omega (arith, on.y));
-  i = whole_run (centre.x -ℤ start.x) (omega (arith, short.across));
-  j = whole_run (centre.y -ℤ start.y) (omega (arith, short.up));
-  d = refl;
-}
+arc_runs start to centre on short = grind (arith, whole_run)
 
 arc_said : (start to centre : Point) → IsOnBoard to → HasOffsets start centre
     → statement_said (operation_of (arc_parts start to centre)) ≡ said (ArcTo start to centre)
 unfolding operation_of operation_code natural value_of
-arc_said start to centre on short =
-    rw (
-      integer_again to.x (omega (arith, on.x)),
-      integer_again to.y (omega (arith, on.y)),
-      integer_again (centre.x -ℤ start.x) (omega (arith, short.across)),
-      integer_again (centre.y -ℤ start.y) (omega (arith, short.up)),
-    ) refl
+arc_said start to centre on short = grind (arith, integer_again)
 
 pub arc_spells : (start to centre : Point) → IsOnBoard start → IsOnBoard to → IsOnBoard centre → Spells (ArcTo start to centre)
 unfolding spelled
@@ -185,8 +163,7 @@ arc_spells start to centre from on about =
 field_read : (letter : ℕ) (run rest : List ℕ) → list_all is_numeric run ≡ true → Stops is_numeric rest
     → field letter (letter ∷ (run ++ rest)) ≡ (Some run, rest)
 unfolding field
-field_read letter run rest all stops =
-    rw (eq-eqb letter letter refl, run_read is_numeric run rest all stops, run_left is_numeric run rest all stops) refl
+field_read letter run rest all stops = grind (arith, eq-eqb, run_read, run_left)
 
 field_alone : (letter : ℕ) (run : List ℕ) → list_all is_numeric run ≡ true
     → field letter (letter ∷ run) ≡ (Some run, [])
@@ -196,8 +173,7 @@ field_alone letter run all = rw (eq-eqb letter letter refl, run_alone_read is_nu
 -- ---- numbers
 
 pub defined_again : (n : ℕ) → 10 ≤ n → n ≤ 2147483647 → defined_number (decimal n) ≡ Some n
-defined_again n least greatest =
-    rw (natural_again n (omega arith), le-ltb n 10 least, le-ltb 2147483647 n greatest) refl
+defined_again n least greatest = grind (arith, natural_again, le-ltb)
 
 count_again : (n : ℕ) → 0 < n → n ≤ 999999999 → count (decimal n) ≡ Some n
 unfolding count natural_within
@@ -213,10 +189,7 @@ step_again z h = mm_again z (omega arith)
 
 block_begun : (n : ℕ) → 10 ≤ n → n ≤ 2147483647 → block_command (68 ∷ decimal n) ≡ OpenBlock (Some n)
 unfolding block_command
-block_begun n least greatest =
-    let some : eqb (length (68 ∷ decimal n)) 0 ≡ false =
-    ne_eqb (length (68 ∷ decimal n)) 0 (λ (z : length (68 ∷ decimal n) ≡ 0). omega arith) in
-    rw (some, field_alone 68 (decimal n) (decimal_run n (omega arith)), defined_again n least greatest) refl
+block_begun n least greatest = grind (arith, field_alone, decimal_run, defined_again)
 
 pub block_begun_spells : (n : ℕ) → 10 ≤ n → n ≤ 2147483647 → Spells (EnterBlock n)
 unfolding spelled named_command
@@ -247,36 +220,10 @@ repeat_text columns rows i j = 88 ∷ (decimal columns ++ 89 ∷ (decimal rows +
 repeat_begun : (columns rows : ℕ) (i j : ℤ) → IsWritableRepeat columns rows i j
     → statement_said (repeat_command (repeat_text columns rows i j)) ≡ said (EnterRepeat columns rows i j)
 unfolding repeat_command is_numeric
-repeat_begun columns rows i j h =
-    let text : List ℕ = repeat_text columns rows i j in
-    let some : eqb (length text) 0 ≡ false = ne_eqb (length text) 0 (λ (z : length text ≡ 0). omega arith) in
-    let few_columns = h.few_columns in
-    let few_rows = h.few_rows in
-    let behind_rows : List ℕ = 73 ∷ (mm i ++ 74 ∷ mm j) in
-    let behind_columns : List ℕ = 89 ∷ (decimal rows ++ behind_rows) in
-    let x = field_read 88 (decimal columns) behind_columns (decimal_run columns (omega arith)) refl in
-    let y = field_read 89 (decimal rows) behind_rows (decimal_run rows (omega arith)) refl in
-    let across = field_read 73 (mm i) (74 ∷ mm j) (mm_numeric i (omega (arith, h.across))) refl in
-    let up = field_alone 74 (mm j) (mm_numeric j (omega (arith, h.up))) in
-    rw (
-      some,
-      x,
-      y,
-      across,
-      up,
-      count_again columns h.some_columns few_columns,
-      count_again rows h.some_rows few_rows,
-      step_again i h.across,
-      step_again j h.up,
-    ) refl
+repeat_begun columns rows i j h = grind (arith, field_read, decimal_run, mm_numeric, field_alone, count_again, step_again)
 
 repeat_code : (columns rows : ℕ) (i j : ℤ) → IsWritableRepeat columns rows i j → IsCode (repeat_text columns rows i j)
-repeat_code columns rows i j h =
-    let few_columns = h.few_columns in
-    let few_rows = h.few_rows in
-    code_append (decimal columns) (89 ∷ (decimal rows ++ 73 ∷ (mm i ++ 74 ∷ mm j))) (decimal_code columns (omega arith))
-    (code_append (decimal rows) (73 ∷ (mm i ++ 74 ∷ mm j)) (decimal_code rows (omega arith))
-    (code_append (mm i) (74 ∷ mm j) (mm_code i (omega (arith, h.across))) (mm_code j (omega (arith, h.up)))))
+repeat_code columns rows i j h = grind (arith, code_append, decimal_code, mm_code)
 
 pub repeat_begun_spells : (columns rows : ℕ) (i j : ℤ) → IsWritableRepeat columns rows i j
     → Spells (EnterRepeat columns rows i j)

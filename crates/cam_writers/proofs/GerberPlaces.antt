@@ -1,11 +1,10 @@
 -- What a statement of a canonical text leaves of what was made before it, and what it adds; and where a setting is left out,
 -- the value in force is the same.
-use Rattle.std.proofs.Common.{◌≡◌, ℕ, ◌+◌, List, [], ◌∷◌, ◌++◌, map, Bool, true, false, cond, refl, sym, ap, ap₂, ◌∙◌}
-use Rattle.std.proofs.Common.{Some, arith, append-nil, append_assoc, zero, suc, ◌*◌, IsTrue, Option}
+use Rattle.std.proofs.Common.{◌≡◌, ℕ, ◌+◌, List, [], ◌∷◌, ◌++◌, map, Bool, true, false, cond, sym, ap, ap₂, ◌∙◌}
+use Rattle.std.proofs.Common.{Some, arith, append-nil, append_assoc, suc, ◌*◌, IsTrue, Option}
 use Rattle.std.specs.Prelude.{if◌then◌else◌, ℤ, pos, negsuc, neg_ℤ, ◌+ℤ◌, ◌-ℤ◌, ◌*ℤ◌}
 use Rattle.std.proofs.lemmas.List.{map-append}
 use Rattle.std.proofs.lemmas.List.Sums.{sum_by-append}
-use Rattle.std.specs.Ordering.{int_eq}
 use Rattle.std.proofs.lemmas.Bool.{and_parts, not-true}
 use Rattle.std.proofs.lemmas.Bool.Decides.{Decides-int_eq}
 use Rattle.std.proofs.lemmas.Int.{ints}
@@ -18,20 +17,18 @@ use Rattle.cam_gerber.specs.State.{Past, format_in, has_arcs, in_region, unit_in
 use Rattle.cam_gerber.specs.State.{turn_of_angle, coordinate_nm}
 use Rattle.cam_gerber.specs.Laws.{IsFaultless}
 use Rattle.cam_gerber.specs.Homes.{Home, InLayer, home, home_by, is_same_home, open_blocks, open_repeat}
-use Rattle.cam_gerber.specs.Making.{made, made_at, home_objects, IsMaker}
+use Rattle.cam_gerber.specs.Making.{made, home_objects, IsMaker}
 use Rattle.cam_gerber.specs.Layers.{macros_in, entries_in, items_in, home_leaves, leaves_in}
 use Rattle.cam_gerber.proofs.Pasts.{joins}
 use Rattle.cam_units.specs.declared.length.Unit.{Unit as FileUnit}
 use Rattle.cam_units.specs.declared.point.Point.{Point}
 use Rattle.cam_units.specs.declared.turn.Turn.{Turn}
-use Rattle.cam_units.specs.declared.turn.Turn.TheVariants.{R0}
 use Rattle.cam_units.specs.Nearest.{nearest_of, rounded}
 use Rattle.cam_units.specs.Turns.{Matrix, matrix_of}
 use Rattle.cam_objects.specs.Soundness.{is_apart}
 use Rattle.cam_objects.specs.Turning.{after, has_rows, turn_of}
 use Rattle.cam_commands.specs.declared.parts.Format.{Format}
 use Rattle.cam_commands.specs.declared.parts.Mode.{Mode}
-use Rattle.cam_commands.specs.declared.parts.Mode.TheVariants.{Linear, Clockwise, Counterclockwise}
 use Rattle.cam_gerber.specs.Faults.{is_same_point, is_no_quarter}
 use Rattle.cam_writers.specs.Phrases.{angle_of, mirror_of, mirroring_of, polarity_of, rotation_of}
 use Rattle.cam_writers.specs.GerberTexts.{is_same_polarity, is_same_turn, is_same_mode}
@@ -71,11 +68,7 @@ abbrev pub Kept : Past → Past → Type 0
 Kept older newer = Grown older newer []
 
 none_here : (here h : Home) → made_here here h [] ≡ []
-none_here here h = by (is_same_home here h)
-  where
-    by : (b : Bool) → cond {A = List Object} b [] [] ≡ []
-    by true = refl
-    by false = refl
+none_here here h = grind arith
 
 -- what a home has is as it was
 pub record IsAsBefore (older newer : Past) (h : Home) : Type 0 where
@@ -85,30 +78,10 @@ pub record IsAsBefore (older newer : Past) (h : Home) : Type 0 where
   pub layer_leaves : leaves_in newer ≡ leaves_in older
 
 pub as_before : (older newer : Past) → Kept older newer → (h : Home) → IsAsBefore older newer h
-as_before older newer k h =
-    let none = none_here (home older) in
-    let count = block_count (weight_in (entries_in older)) in
-    record {
-      objects = k.objects h ∙ ap (λ all. home_objects h older ++ all) (none h) ∙ append-nil _;
-      leaves = omega (arith, k.leaves h, ap count (none h));
-      items = k.items ∙ ap (λ (more : List Object). items_in older ++ map One more) (none InLayer) ∙ append-nil _;
-      layer_leaves = omega (arith, k.layer_leaves, ap count (none InLayer));
-    }
+as_before older newer k h = grind (arith, none_here, append-nil)
 
 pub kept_all : (past : Past) → Kept past past
-kept_all past =
-    let none = none_here (home past) in
-    let count = block_count (weight_in (entries_in past)) in
-    record {
-      macros = refl;
-      entries = refl;
-      blocks = refl;
-      repeat = refl;
-      objects = λ h. sym (ap (λ all. home_objects h past ++ all) (none h) ∙ append-nil _);
-      leaves = λ h. omega (arith, ap count (none h));
-      items = sym (ap (λ (more : List Object). items_in past ++ map One more) (none InLayer) ∙ append-nil _);
-      layer_leaves = omega (arith, ap count (none InLayer));
-    }
+kept_all past = grind (arith, none_here, append-nil)
 
 pub same_home : (a b : Past) (xs : List Object) → Grown a b xs → home b ≡ home a
 same_home a b xs j = ap₂ home_by j.blocks j.repeat
@@ -118,28 +91,13 @@ same_home a b xs j = ap₂ home_by j.blocks j.repeat
 -- what it makes joins its home
 pub grown_by : (past : Past) (says : Statement) (objects : List Object) → IsMaker says → made past says ≡ objects
     → Grown past (says ∷ past) objects
-grown_by past says objects maker e =
-    let j = joins past says maker in
-    let new : (h : Home) → made_at h past says ≡ made_here (home past) h objects =
-    λ h. ap (λ all. cond {A = List Object} (is_same_home (home past) h) all []) e in
-    let count = block_count (weight_in (entries_in past)) in
-    record {
-      macros = j.macros;
-      entries = j.entries;
-      blocks = j.blocks;
-      repeat = j.repeat;
-      objects = λ h. j.objects h ∙ ap (λ more. home_objects h past ++ more) (new h);
-      leaves = λ h. omega (arith, j.leaves h, ap count (new h));
-      items = j.items ∙ ap (λ (more : List Object). items_in past ++ map One more) (new InLayer);
-      layer_leaves = omega (arith, j.all_leaves, ap count (new InLayer));
-    }
+grown_by past says objects maker e = grind (arith, joins)
 
 -- ---- one after another
 
 either_append : (b : Bool) (xs ys : List Object)
     → cond {A = List Object} b xs [] ++ cond {A = List Object} b ys [] ≡ cond {A = List Object} b (xs ++ ys) []
-either_append true xs ys = refl
-either_append false xs ys = refl
+either_append b xs ys = grind arith
 
 here_append : (here h : Home) (xs ys : List Object)
     → made_here here h xs ++ made_here here h ys ≡ made_here here h (xs ++ ys)
@@ -180,40 +138,22 @@ kept_on a b c k l = grown_on a b c [] [] k l
 -- ---- tests
 
 pub same_polarity : (old new : Bool) → is_same_polarity old new ≡ true → old ≡ new
-same_polarity true true h = refl
-same_polarity false false h = refl
-same_polarity _ _ h = absurd cc
+same_polarity old new h = grind arith
 
 same_rows : (m n : Matrix) → has_rows m n ≡ true → m ≡ n
-same_rows m n h =
-    let all = and_parts _ (int_eq m.yy n.yy) h in
-    let three = and_parts _ (int_eq m.yx n.yx) all.0 in
-    let two = and_parts (int_eq m.xx n.xx) (int_eq m.xy n.xy) three.0 in
-    let xx : m.xx ≡ n.xx = (Decides-int_eq m.xx n.xx).0 two.0 in
-    let xy : m.xy ≡ n.xy = (Decides-int_eq m.xy n.xy).0 two.1 in
-    let yx : m.yx ≡ n.yx = (Decides-int_eq m.yx n.yx).0 three.1 in
-    let yy : m.yy ≡ n.yy = (Decides-int_eq m.yy n.yy).0 all.1 in
-    λ i. record { xx = xx i; xy = xy i; yx = yx i; yy = yy i }
+same_rows m n h = grind (arith, and_parts, Decides-int_eq)
 
 turn_again : (turn : Turn) → turn_of (matrix_of turn) ≡ turn
-turn_again R0 = refl
-turn_again _ = refl
+turn_again turn = grind arith
 
 pub same_turn : (old new : Turn) → is_same_turn old new ≡ true → old ≡ new
 same_turn old new h = sym (turn_again old) ∙ ap turn_of (same_rows (matrix_of old) (matrix_of new) h) ∙ turn_again new
 
 pub same_mode : (old new : Mode) → is_same_mode old new ≡ true → old ≡ new
-same_mode Linear Linear h = refl
-same_mode Clockwise Clockwise h = refl
-same_mode Counterclockwise Counterclockwise h = refl
-same_mode _ _ h = absurd cc
+same_mode old new h = grind arith
 
 pub same_point : (p q : Point) → is_same_point p q ≡ true → p ≡ q
-same_point p q h =
-    let parts = and_parts (int_eq p.x q.x) (int_eq p.y q.y) h in
-    let x : p.x ≡ q.x = (Decides-int_eq p.x q.x).0 parts.0 in
-    let y : p.y ≡ q.y = (Decides-int_eq p.y q.y).0 parts.1 in
-    λ i. record { x = x i; y = y i }
+same_point p q h = grind (arith, and_parts, Decides-int_eq)
 
 pub other_point : (p q : Point) → IsTrue (is_apart p q) → is_same_point p q ≡ false
 other_point p q apart = not-true (is_same_point p q) apart
@@ -221,28 +161,23 @@ other_point p q apart = not-true (is_same_point p q) apart
 -- ---- what is set
 
 pub dark_again : (dark : Bool) → is_dark (polarity_of dark) ≡ dark
-dark_again true = refl
-dark_again false = refl
+dark_again dark = grind arith
 
 pub mirror_again : (turn : Turn) → turn_of_mirror (mirroring_of (mirror_of turn)) ≡ mirror_of turn
-mirror_again R0 = refl
-mirror_again _ = refl
+mirror_again turn = grind arith
 
 pub rotation_again : (turn : Turn) → turn_of_angle (angle_of (rotation_of turn)) ≡ rotation_of turn
 unfolding turn_of_angle
-rotation_again R0 = refl
-rotation_again _ = refl
+rotation_again turn = grind arith
 
 pub by_quarters : (turn : Turn) → is_no_quarter (angle_of (rotation_of turn)) ≡ false
 unfolding is_no_quarter
-by_quarters R0 = refl
-by_quarters _ = refl
+by_quarters turn = grind arith
 
 -- a turn is its mirror, then its rotation
 pub both_parts : (turn : Turn) → after (mirror_of turn) (rotation_of turn) ≡ turn
 unfolding after
-both_parts R0 = refl
-both_parts _ = refl
+both_parts turn = grind arith
 
 -- ---- coordinates
 
@@ -251,14 +186,10 @@ millionth n = omega arith
 
 -- one of a million at a time
 millions : (m n : ℕ) → m ≡ suc n * 1000000 → nearest_of (neg_ℤ (pos m)) 1000000 ≡ negsuc n
-millions zero n e = absurd (omega (arith, e))
-millions (suc m) n e =
-    let r : rounded (suc m) 1000000 ≡ suc n = ap (λ (k : ℕ). rounded k 1000000) e ∙ millionth (suc n) in
-    ap (λ (k : ℕ). neg_ℤ (pos k)) r
+millions m n e = grind (arith, millionth)
 
 nm_again : (z : ℤ) → nearest_of (z *ℤ pos 1000000) 1000000 ≡ z
-nm_again (pos n) = ap pos (millionth n)
-nm_again (negsuc n) = millions (suc n * 1000000) n refl
+nm_again z = grind (arith, millionth, millions)
 
 pub coordinate_again : (format : Option Format) (unit : Option FileUnit) (z : ℤ)
     → format ≡ Some (record { integers = 4; decimals = 6 }) → unit ≡ Some Mm → coordinate_nm format unit z ≡ z

@@ -1,9 +1,9 @@
 -- Operations of canonical texts, lines and arcs: what they do, and that none of their faults holds; and the values in force
 -- behind the settings of an object.
-use Rattle.std.proofs.Common.{◌≡◌, ◌∷◌, ◌++◌, Bool, true, false, Some, None, refl, ap, ap₂, ◌∙◌, IsTrue, ℕ, [], cond}
-use Rattle.std.proofs.Common.{Option, is_some, nat_eq}
-use Rattle.std.specs.Prelude.{ℤ, ◌+ℤ◌, ◌-ℤ◌}
-use Rattle.std.specs.Map.{lookup}
+use Rattle.std.proofs.lemmas.Grind.{common_steps}
+use Rattle.std.proofs.Common.{arith, ◌≡◌, ◌∷◌, ◌++◌, Bool, true, false, Some, None, refl, ap, ap₂, ◌∙◌, IsTrue, ℕ, [], cond}
+use Rattle.std.proofs.Common.{Option}
+use Rattle.std.specs.Prelude.{ℤ, ◌-ℤ◌}
 use Rattle.cam_refusals.specs.declared.refusal.Refusal.{Refusal}
 use Rattle.cam_refusals.specs.Checks.{Checks, least}
 use Rattle.cam_refusals.specs.Refusals.{number_of}
@@ -17,14 +17,13 @@ use Rattle.cam_commands.specs.declared.parts.OperationCode.{OperationCode}
 use Rattle.cam_commands.specs.declared.parts.OperationCode.TheVariants.{Plot, Move}
 use Rattle.cam_gerber.specs.State.{Past, format_in, unit_in, in_region, point_in, arc_centre, has_arcs, mode_in}
 use Rattle.cam_gerber.specs.State.{dark_in, mirror_in, rotation_in, aperture_in}
-use Rattle.cam_gerber.specs.Faults.{faults, is_malformed, leading_faults, operated_faults, is_arc}
+use Rattle.cam_gerber.specs.Faults.{faults, is_malformed, leading_faults, operated_faults, is_arc, is_same_point, path_faults}
+use Rattle.cam_gerber.specs.Faults.{plot_faults, command_faults, is_defined, is_no_quarter}
 use Rattle.cam_objects.specs.Soundness.{is_on_board, is_apart}
-use Rattle.cam_gerber.specs.Faults.{is_same_point, path_faults, plot_faults, command_faults, is_defined}
-use Rattle.cam_gerber.specs.Faults.{is_no_quarter}
 use Rattle.cam_gerber.proofs.Paths.{on_board_test}
 use Rattle.cam_writers.proofs.Walks.{either, same_number}
-use Rattle.cam_writers.specs.Phrases.{Phrase, MoveTo, operation_to, said, angle_of, mirror_of, mirroring_of, polarity_of}
-use Rattle.cam_writers.specs.Phrases.{rotation_of, UseAperture, UseMirror, UseMode, UsePolarity, UseRotation}
+use Rattle.cam_writers.specs.Phrases.{Phrase, MoveTo, operation_to, said, angle_of, mirror_of, mirroring_of}
+use Rattle.cam_writers.specs.Phrases.{rotation_of, UseMirror, UseMode, UseRotation}
 use Rattle.cam_writers.proofs.GerberPlaces.{Stands, coordinate_again, across_and_back, other_point, Kept, kept_all}
 use Rattle.cam_writers.proofs.GerberPlaces.{grown_by, kept_on, same_polarity, same_turn, same_mode}
 use Rattle.cam_writers.proofs.GerberPlaces.{same_point, dark_again, mirror_again, rotation_again, by_quarters}
@@ -35,9 +34,8 @@ use Rattle.cam_commands.specs.declared.parts.Mode.{Mode}
 use Rattle.cam_commands.specs.declared.parts.Mode.TheVariants.{Linear}
 use Rattle.cam_gerber.specs.Statements.{Statement, Says}
 use Rattle.cam_gerber.specs.Making.{segment, made}
-use Rattle.cam_writers.specs.GerberTexts.{Phrases, arc_mode, said_by, with_mode, with_segment}
-use Rattle.cam_writers.specs.GerberTexts.{is_same_polarity, is_same_turn, is_selected, is_same_mode, with_aperture}
-use Rattle.cam_writers.specs.GerberTexts.{with_mirror, with_polarity, with_rotation, with_start}
+use Rattle.cam_writers.specs.GerberTexts.{Phrases, arc_mode, said_by, with_mode, with_segment, is_same_turn, is_same_mode}
+use Rattle.cam_writers.specs.GerberTexts.{with_aperture, with_mirror, with_polarity, with_rotation, with_start}
 use Rattle.cam_units.specs.declared.turn.Turn.{Turn}
 use Rattle.cam_commands.specs.Commands.{Command, SetPolarity, SetMirror, SetRotation, Select, SetMode}
 
@@ -57,20 +55,12 @@ operation to across up code =
 -- it goes to its point
 pub point_after : (past : Past) (to : Point) (across up : Slot ℤ) (code : OperationCode) → Scales past
     → point_in (operation_to to across up code ∷ past) ≡ to
-point_after past to across up code s =
-    let x = coordinate_again (format_in past) (unit_in past) to.x s.format s.unit in
-    let y = coordinate_again (format_in past) (unit_in past) to.y s.format s.unit in
-    ap₂ (λ a b. record { x = a; y = b }) x y
+point_after past to across up code s = grind (arith, coordinate_again)
 
 -- the centre that offsets from a point give
 pub centre_after : (past : Past) (here to centre : Point) → Scales past → point_in past ≡ here
     → arc_centre past (operation to (Written (centre.x -ℤ here.x)) (Written (centre.y -ℤ here.y)) Plot) ≡ centre
-centre_after past here to centre s e =
-    let x = coordinate_again (format_in past) (unit_in past) (centre.x -ℤ here.x) s.format s.unit in
-    let y = coordinate_again (format_in past) (unit_in past) (centre.y -ℤ here.y) s.format s.unit in
-    ap₂ (λ a b. record { x = a; y = b })
-    (ap₂ (λ (p : Point) (z : ℤ). p.x +ℤ z) e x ∙ across_and_back here.x centre.x)
-    (ap₂ (λ (p : Point) (z : ℤ). p.y +ℤ z) e y ∙ across_and_back here.y centre.y)
+centre_after past here to centre s e = grind (arith, coordinate_again, across_and_back)
 
 -- ---- faults
 
@@ -84,10 +74,7 @@ pub unrefused : (past : Past) (to : Point) (across up : Slot ℤ) (code : Operat
     → is_malformed across ≡ false → is_malformed up ≡ false → in_region past ≡ region
     → least number_of (operated_faults code region past (operation to across up code)) ≡ None
     → least number_of (faults past (operation_to to across up code)) ≡ None
-unrefused past to across up code region s a u inside none =
-    let now = operation to across up code in
-    leading_none past to across up code (operated_faults code (in_region past) past now) s a u
-    ∙ ap (λ b. least number_of (operated_faults code b past now)) inside ∙ none
+unrefused past to across up code region s a u inside none = grind (arith, leading_none)
 
 pub on_board_after : (past : Past) (to : Point) (across up : Slot ℤ) (code : OperationCode) → Scales past
     → IsOnBoard to → is_on_board (point_in (operation_to to across up code ∷ past)) ≡ true
@@ -122,8 +109,7 @@ plot_to here seg = operation_to (end_of seg) (across_of here seg) (up_of here se
 
 pub segment_is_plot : (here : Point) (seg : Seg) (phrases : Phrases)
     → said_by (with_segment here seg phrases) ≡ plot_to here seg ∷ said_by (with_mode (mode_of seg) phrases)
-segment_is_plot here (Line to) phrases = refl
-segment_is_plot here (Curve to centre ccw) phrases = refl
+segment_is_plot here seg phrases = grind arith
 
 -- ---- a segment that may be plotted
 
@@ -149,8 +135,7 @@ arc_none : (arcs : Bool) (from to centre : Point) (rest : Checks Refusal) → ar
 arc_none arcs from to centre rest a radius on within = rw (a, radius, on, within) refl
 
 both_arcs : (ccw : Bool) → is_arc (arc_mode ccw) ≡ true
-both_arcs true = refl
-both_arcs false = refl
+both_arcs ccw = grind arith
 
 -- the segment is an arc
 abbrev pub curves : Seg → Bool
@@ -158,8 +143,7 @@ curves (Line to) = false
 curves (Curve to centre ccw) = true
 
 pub curved : (seg : Seg) → is_arc (mode_of seg) ≡ curves seg
-curved (Line to) = refl
-curved (Curve to centre ccw) = both_arcs ccw
+curved seg = grind (arith, both_arcs)
 
 module _ (past : Past) (here : Point) where
   pub end_is : (seg : Seg) → MayPlot past here seg → point_in (plot_to here seg ∷ past) ≡ end_of seg
@@ -193,24 +177,12 @@ module _ (past : Past) (here : Point) where
 
   -- it is the one that was written
   pub segment_again : (seg : Seg) → MayPlot past here seg → segment_read seg ≡ seg
-  segment_again (Line to) m =
-      λ i. segment (m.mode i) (end_is (Line to) m i) (arc_centre past (plot_along here (Line to)))
-  segment_again (Curve to centre ccw) m =
-      let middle = centre_after past here to centre m.scaled m.point in
-      (λ i. segment (m.mode i) (end_is (Curve to centre ccw) m i) (middle i)) ∙ curved ccw to centre
-    where
-      curved : (ccw : Bool) (to centre : Point) → segment (arc_mode ccw) to centre ≡ Curve to centre ccw
-      curved true to centre = refl
-      curved false to centre = refl
+  segment_again seg m = grind (arith, end_is, centre_after, curved)
 
   pub plot_unrefused : (seg : Seg) (region : Bool) → MayPlot past here seg → in_region past ≡ region
       → least number_of (operated_faults Plot region past (plot_along here seg)) ≡ None
       → least number_of (faults past (plot_to here seg)) ≡ None
-  plot_unrefused (Line to) region m inside none =
-      unrefused past to Omitted Omitted Plot region m.scaled refl refl inside none
-  plot_unrefused (Curve to centre ccw) region m inside none =
-      let seg = Curve to centre ccw in
-      unrefused past to (across_of here seg) (up_of here seg) Plot region m.scaled refl refl inside none
+  plot_unrefused seg region m inside none = grind (arith, unrefused)
 
 -- ---- one setting
 
@@ -225,22 +197,12 @@ IsSetting past _ = ⊥
 
 no_fault : (past : Past) (command : Command) → IsSetting past command → in_region past ≡ false
     → least number_of (command_faults past command) ≡ None
-no_fault past (SetPolarity polarity) h out = rw out refl
-no_fault past (SetMirror mirroring) h out = rw out refl
-no_fault past (SetRotation (Some angle)) h out = rw (h, out) refl
-no_fault past (Select (Some n)) h out = rw h refl
-no_fault past (SetMode mode) h out = refl
-no_fault past _ h out = absurd h
+no_fault past command h out = grind arith
 
 -- it makes nothing, and what stands between objects still stands
 pub setting : (past : Past) (command : Command) → IsSetting past command → Stands past
     → Kept past (Says command ∷ past) × Stands (Says command ∷ past)
-setting past (SetPolarity polarity) h s = (search (kept_all past), search (no_fault past (SetPolarity polarity) h))
-setting past (SetMirror mirroring) h s = (search (kept_all past), search (no_fault past (SetMirror mirroring) h))
-setting past (SetRotation (Some angle)) h s = (search (kept_all past), search (no_fault past (SetRotation (Some angle)) h))
-setting past (Select (Some n)) h s = (search (kept_all past), search (no_fault past (Select (Some n)) h))
-setting past (SetMode mode) h s = (search (kept_all past), search)
-setting past _ h s = absurd h
+setting past command h s = grind (arith, common_steps, kept_all, no_fault)
 
 -- ---- the values in force
 
@@ -292,11 +254,7 @@ module _ (older : Past) (phrases : Phrases) (v : Values) (set : Set older (said_
   unless w same phrase = either (λ (ps : Phrases). Set older (said_by ps) w) same phrases (phrase ∷ phrases)
 
   pub polarity_set : (dark : Bool) → Set older (said_by (with_polarity dark phrases)) (record v { dark = dark })
-  polarity_set dark =
-      let says : Command = SetPolarity (polarity_of dark) in
-      unless (record v { dark = dark }) (is_same_polarity (dark_in past) dark) (UsePolarity dark)
-      (λ e. search (same_polarity (dark_in past) dark e, set))
-      (λ e. search (behind says tt, dark_again dark, set))
+  polarity_set dark = grind (arith, unless, same_polarity, behind, dark_again)
 
   pub mirror_set : (turn : Turn) → Set older (said_by (with_mirror turn phrases)) (record v { mirror = mirror_of turn })
   mirror_set turn =
@@ -314,11 +272,7 @@ module _ (older : Past) (phrases : Phrases) (v : Values) (set : Set older (said_
 
   pub aperture_set : (n : ℕ) → is_defined older n ≡ true
       → Set older (said_by (with_aperture n phrases)) (record v { aperture = Some n })
-  aperture_set n known =
-      let still : is_defined past n ≡ true = ap (λ entries. is_some (lookup (nat_eq n) entries)) set.kept.entries ∙ known in
-      unless (record v { aperture = Some n }) (is_selected (aperture_in past) n) (UseAperture n)
-      (λ e. search (same_number (aperture_in past) n e, set))
-      (λ e. search (behind (Select (Some n)) still, set))
+  aperture_set n known = grind (arith, unless, same_number, behind)
 
   pub mode_set : (mode : Mode) → Set older (said_by (with_mode mode phrases)) (record v { mode = mode })
   mode_set mode =

@@ -6,7 +6,7 @@ use Rattle.std.specs.List.{flat_map, AllByRecursion}
 use Rattle.std.proofs.lemmas.List.{reverse-append, map-append}
 use Rattle.cam_refusals.specs.Checks.{least}
 use Rattle.cam_refusals.specs.Refusals.{number_of}
-use Rattle.cam_words.specs.Cutting.{Command, WordCommand, ExtendedCommand, Piece, Blank, Whole, bytes_of_command}
+use Rattle.cam_words.specs.Cutting.{Command, Piece, Blank, Whole, bytes_of_command}
 use Rattle.cam_words.specs.Cutting.{bytes_of, IsPiece, IsApart, AreApart, IsCutting, word_of, words_of}
 use Rattle.cam_words.specs.Reading.{WordAnswer, words_told}
 use Rattle.cam_words.proofs.Cuttings.{reads_its_words}
@@ -23,7 +23,6 @@ use Rattle.cam_writers.specs.Phrases.{said, spelled, line_of, Finish}
 use Rattle.cam_writers.specs.GerberTexts.{Phrases, text_of, said_by, phrases_before_end, gerber_text}
 use Rattle.cam_writers.specs.Laws.{IsToldByPhrases, TellsItsCommands, GerberReadsBack, GerberWritesAgain}
 use Rattle.cam_writers.proofs.GerberSayings.{Spells, says}
-use Rattle.cam_objects.specs.Contents.{Content}
 use Rattle.cam_writers.proofs.GerberSpelling.{all_spell, all_spelled, endless, spells}
 use Rattle.cam_writers.proofs.Walks.{same_answer}
 use Rattle.cam_writers.proofs.GerberItems.{past_is_faultless, end_is_faultless, past_is_layer}
@@ -53,19 +52,14 @@ apart [] after all first = all
 apart (phrase ∷ older) after all first = apart older (Whole (spelled phrase) ∷ Blank (codes "\n") ∷ after) (tt, (first, all)) tt
 
 cutting : (phrases : Phrases) → AllByRecursion Spells phrases → IsCutting (text_of phrases) (before phrases [])
-cutting phrases spell = record {
-  joined = sym (joined phrases [] ∙ append-nil (text_of phrases));
-  each = each phrases [] spell tt;
-  apart = apart phrases [] tt tt;
-}
+cutting phrases spell = grind (arith, joined, append-nil, each, apart)
 
 -- ---- what is read
 
 -- wherever it stands, a command says the same
 said_anywhere : (k : ℕ) (command : Command) → statement_said (command_of (word_of k command)) ≡ says command
 unfolding command_of
-said_anywhere k (WordCommand text) = refl
-said_anywhere k (ExtendedCommand text tail) = refl
+said_anywhere k command = grind arith
 
 abbrev says_of : WordAnswer → Statement
 says_of answer = (told_of answer).says
@@ -83,8 +77,7 @@ record AreRead (phrases : Phrases) (after : List Piece) (at : ℕ) : Type 0 wher
 
 read : (phrases : Phrases) (after : List Piece) → AllByRecursion Spells phrases → IsFaultless (said_by phrases)
     → AreEndless (said_by phrases) → (at : ℕ) × AreRead phrases after at
-read [] after spell none endless =
-    (0, record { lead = λ len. refl; told = sym (append-nil (map says_of (reverse (answers_from 0 after)))) })
+read [] after spell none endless = grind (arith, append-nil)
 read (phrase ∷ older) after spell none endless =
     let rest = read older (Whole (spelled phrase) ∷ Blank (codes "\n") ∷ after) spell.1 none.1 endless.1 in
     let answer : WordAnswer = Ok (word_of rest.0 (spelled phrase)) in
@@ -120,11 +113,7 @@ front_told (suc left) [] spell none endless = phrases_told [] spell none endless
 front_told (suc left) (phrase ∷ older) spell none endless = front_told left older spell.1 none.1 endless.1
 
 pub tells_its_commands : TellsItsCommands
-tells_its_commands layer left set sound =
-    let phrases : Phrases = phrases_before_end layer.attributes layer.entries layer.items in
-    let spelled_all = (all_spelled layer.attributes layer.entries layer.items set sound).each in
-    front_told left phrases (all_spell phrases spelled_all)
-    (past_is_faultless layer.attributes layer.entries layer.items set sound) (endless phrases spelled_all)
+tells_its_commands layer left set sound = grind (arith, all_spelled, each, front_told, all_spell, past_is_faultless, endless)
 
 -- the phrases, and the end behind them
 pub gerber_reads_back : GerberReadsBack
@@ -148,6 +137,4 @@ gerber_reads_back layer set sound =
     ∙ ap Ok (past_is_layer layer.attributes layer.entries layer.items set sound)
 
 pub gerber_writes_again : GerberWritesAgain
-gerber_writes_again layer again set sound read =
-    ap (λ (c : Content). gerber_text c.attributes c.entries c.items)
-    (same_answer again layer read (gerber_reads_back layer set sound))
+gerber_writes_again layer again set sound read = grind (arith, same_answer, read, gerber_reads_back)

@@ -1,14 +1,13 @@
 -- How settings are spelled: their bytes are all printed and neither `%` nor `*`, the cutter finds each command, and it
 -- says its statement.
-use Rattle.std.proofs.Common.{◌≡◌, ◌≢◌, ℕ, suc, ◌^◌, ◌<◌, List, [], ◌∷◌, ◌++◌, Bool, true, false, refl, ap, ◌∙◌}
+use Rattle.std.proofs.Common.{◌≡◌, ◌≢◌, ℕ, ◌^◌, ◌<◌, List, ◌∷◌, ◌++◌, Bool, true, false, refl, ap, ◌∙◌}
 use Rattle.std.proofs.Common.{arith, decimal, ◌≤◌, None, Some, codes, eqb, ne_eqb}
-use Rattle.std.specs.Prelude.{ℤ, pos, negsuc, not, ◌&&◌, nat_le, ◌==◌, unsigned_abs, if◌then◌else◌}
+use Rattle.std.specs.Prelude.{ℤ, not, ◌&&◌, nat_le, ◌==◌, unsigned_abs, if◌then◌else◌}
 use Rattle.std.specs.List.{list_all, list_any}
 use Rattle.std.proofs.lemmas.List.Folds.{list_all-append}
 use Rattle.std.proofs.lemmas.Bool.{and_parts, le-ltb}
 use Rattle.std.proofs.lemmas.Bool.Decides.{nat_tests}
-use Rattle.cam_words.specs.Bytes.{star, percent, is_star, is_skipped, is_control, is_forbidden_in_code}
-use Rattle.cam_words.specs.Bytes.{is_forbidden_in_plain}
+use Rattle.cam_words.specs.Bytes.{star, percent, is_star, is_skipped, is_control, is_forbidden_in_code, is_forbidden_in_plain}
 use Rattle.cam_words.specs.Heads.{packed, begins_as_comment, is_comment, is_free_text, behind_head}
 use Rattle.cam_words.specs.Cutting.{Command, IsCommand, word_of}
 use Rattle.cam_numbers.specs.Numbers.{is_numeric, natural, value_of, billionths, unsigned_decimal}
@@ -25,9 +24,8 @@ use Rattle.cam_gerber.specs.Statements.{Statement, Says}
 use Rattle.cam_gerber.specs.Computing.{statement_said}
 use Rattle.cam_writers.specs.Lengths.{mm, whole}
 use Rattle.cam_writers.specs.Phrases.{Phrase, angle_of, extended, mirror_letters, mirror_of, mirroring_of, rotation_letters}
-use Rattle.cam_writers.specs.Phrases.{rotation_of, said, spelled, word, UseFormat, UseMillimetres, UseArcs}
-use Rattle.cam_writers.specs.Phrases.{UsePolarity, UseMirror, UseRotation, UseAperture, UseMode, EnterRegion}
-use Rattle.cam_writers.specs.Phrases.{LeaveRegion, Finish}
+use Rattle.cam_writers.specs.Phrases.{rotation_of, said, spelled, word, UseFormat, UseMillimetres, UseArcs, UsePolarity}
+use Rattle.cam_writers.specs.Phrases.{UseMirror, UseRotation, UseAperture, UseMode, EnterRegion, LeaveRegion, Finish}
 use Rattle.cam_writers.proofs.Runs.{all_pass, each_of, none_left_out, none_passes}
 use Rattle.cam_writers.proofs.Decimals.{decimal_run, mm_numeric, natural_again}
 use Rattle.cam_units.specs.declared.turn.Turn.{Turn}
@@ -59,15 +57,7 @@ pub record IsCodeByte (byte : ℕ) : Type 0 where
   pub plain : is_forbidden_in_plain byte ≡ false
 
 pub code_byte : (byte : ℕ) → is_code byte ≡ true → IsCodeByte byte
-code_byte byte h = record {
-  skipped = grind (arith, nat_tests);
-  ends = grind (arith, nat_tests);
-  no_star = grind (arith, nat_tests);
-  no_percent = grind (arith, nat_tests);
-  control = grind (arith, nat_tests);
-  code = grind (arith, nat_tests);
-  plain = grind (arith, nat_tests);
-}
+code_byte byte h = grind (arith, nat_tests)
 
 pub code_append : (xs ys : List ℕ) → IsCode xs → IsCode ys → IsCode (xs ++ ys)
 code_append xs ys h k = list_all-append is_code xs ys ∙ rw (h, k) refl
@@ -90,23 +80,17 @@ no_stars text all = none_passes is_code is_star (λ b h. (code_byte b h).ends) t
 -- a byte of a word command, which is a comment or not
 fits_words : (comment : Bool) (byte : ℕ) → is_code byte ≡ true
     → (byte ≢ star) × ((if comment then is_control else is_forbidden_in_plain) byte ≡ false)
-fits_words true byte h = let is = code_byte byte h in (is.no_star, is.control)
-fits_words false byte h = let is = code_byte byte h in (is.no_star, is.plain)
+fits_words comment byte h = grind (arith, code_byte)
 
 -- and of an extended command, which is of free text or not
 abbrev pub Fits : Bool → ℕ → Type 0
 Fits free byte = (byte ≢ percent) × ((if free then is_control else is_forbidden_in_code) byte ≡ false)
 
 pub fits_extended : (free : Bool) (byte : ℕ) → is_code byte ≡ true → Fits free byte
-fits_extended true byte h = let is = code_byte byte h in (is.no_percent, is.control)
-fits_extended false byte h = let is = code_byte byte h in (is.no_percent, is.code)
+fits_extended free byte h = grind (arith, code_byte)
 
 word_found : (text : List ℕ) → IsCode text → IsCommand (word text)
-word_found [] all = (tt, tt)
-word_found (byte ∷ text) all =
-    let k = and_parts (is_code byte) (list_all is_code text) all in
-    let is = code_byte byte k.0 in
-    ((is.skipped, is.no_percent), each_of is_code _ (fits_words (is_comment (byte ∷ text))) (byte ∷ text) all)
+word_found text all = grind (arith, and_parts, code_byte, each_of, fits_words)
 
 extended_found : (text : List ℕ) → IsCode text → IsCommand (extended text)
 extended_found text all = (each_of is_code (Fits (is_free_text text)) (fits_extended (is_free_text text)) text all, tt)
@@ -135,17 +119,13 @@ word_tells text statement all none e =
 pub extended_tells : (name : Name) (text : List ℕ) (statement : Statement) → IsCode (letters_of name) → IsCode text
     → statement_said (named_command name text) ≡ statement → Tells (extended (letters_of name ++ text)) statement
 unfolding command_of
-extended_tells name text statement letters all e = record {
-  means = ap statement_said (names_decide.known name text (no_stars text all)) ∙ e;
-  found = extended_found (letters_of name ++ text) (code_append (letters_of name) text letters all);
-}
+extended_tells name text statement letters all e = grind (arith, names_decide, no_stars, extended_found, code_append)
 
 -- ---- numbers
 
 pub whole_run : (z : ℤ) → unsigned_abs z < 2 ^ 63 → list_all is_numeric (whole z) ≡ true
 unfolding is_numeric
-whole_run (pos n) h = decimal_run n (omega arith)
-whole_run (negsuc n) h = decimal_run (suc n) (omega arith)
+whole_run z h = grind (arith, decimal_run)
 
 pub decimal_code : (n : ℕ) → n < 2 ^ 64 → IsCode (decimal n)
 decimal_code n h = run_code (decimal n) (decimal_run n h)

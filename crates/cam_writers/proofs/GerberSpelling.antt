@@ -1,6 +1,6 @@
 -- Each phrase of a canonical text of a sound layer can be spelled, none is its end, and none behind the file attributes
 -- sets one.
-use Rattle.std.proofs.Common.{◌≡◌, ℕ, ◌*◌, ◌<◌, ◌≤◌, zero, suc, List, [], ◌∷◌, take, Bool, false, cond, refl}
+use Rattle.std.proofs.Common.{◌≡◌, ℕ, ◌*◌, ◌<◌, ◌≤◌, List, [], ◌∷◌, take, Bool, false, cond, refl}
 use Rattle.std.proofs.Common.{◌∙◌, arith, slice_index_or, get_or}
 use Rattle.std.specs.Prelude.{fold}
 use Rattle.std.specs.List.{All, AllByRecursion, flat_map}
@@ -11,8 +11,6 @@ use Rattle.cam_units.specs.Board.{IsOnBoard}
 use Rattle.cam_shapes.specs.declared.segments.Seg.{Seg}
 use Rattle.cam_shapes.specs.declared.segments.Seg.TheVariants.{Line, Curve}
 use Rattle.cam_numbers.specs.Numbers.{IsApertureNumber}
-use Rattle.cam_apertures.specs.declared.aperture.Aperture.{Aperture as Template}
-use Rattle.cam_apertures.specs.declared.aperture.Aperture.TheVariants.{Prims}
 use Rattle.cam_apertures.specs.Primitives.{IsSoundPrim}
 use Rattle.cam_apertures.specs.Soundness.{IsSoundAperture}
 use Rattle.cam_objects.proofs.SoundItems.{HasNumber, IsKnown, meets}
@@ -28,26 +26,24 @@ use Rattle.cam_objects.specs.Attributes.{AreAttributes, IsAttribute}
 use Rattle.cam_objects.specs.Soundness.{points_of, points_of_seg, IsSoundContent, IsSoundDictionary, IsSoundItem, MayAddEntry}
 use Rattle.cam_commands.specs.declared.parts.Mode.{Mode}
 use Rattle.cam_commands.specs.declared.parts.Mode.TheVariants.{Linear}
-use Rattle.cam_gerber.specs.State.{aperture_in, dark_in, mirror_in, mode_in, point_in, rotation_in}
+use Rattle.cam_gerber.specs.State.{aperture_in, dark_in, mode_in, point_in}
 use Rattle.cam_gerber.specs.Attributes.{attributes_in}
 use Rattle.cam_gerber.specs.Faults.{is_same_point}
 use Rattle.cam_gerber.specs.Reading.{is_end}
 use Rattle.cam_gerber.proofs.SoundParts.{Pairs}
-use Rattle.cam_writers.specs.Phrases.{Phrase, mirror_of, rotation_of, said, UseFormat, UseMillimetres, Attach, UseArcs}
-use Rattle.cam_writers.specs.Phrases.{UsePolarity, UseMirror, UseRotation, UseAperture, UseMode, MoveTo, FlashAt, LineTo}
-use Rattle.cam_writers.specs.Phrases.{ArcTo, EnterRegion, LeaveRegion, NameMacro, NameAperture, EnterBlock, LeaveBlock}
-use Rattle.cam_writers.specs.Phrases.{EnterRepeat, LeaveRepeat, Finish}
-use Rattle.cam_writers.specs.GerberTexts.{Phrases, said_by, arc_mode, is_same_mode, is_same_polarity, is_same_turn}
+use Rattle.cam_writers.specs.Phrases.{Phrase, said, UseFormat, UseMillimetres, Attach, UseArcs, UsePolarity, UseMirror}
+use Rattle.cam_writers.specs.Phrases.{UseRotation, UseAperture, UseMode, MoveTo, FlashAt, LineTo, ArcTo, EnterRegion, LeaveRegion}
+use Rattle.cam_writers.specs.Phrases.{NameMacro, NameAperture, EnterBlock, LeaveBlock, EnterRepeat, LeaveRepeat, Finish}
+use Rattle.cam_writers.specs.GerberTexts.{Phrases, said_by, arc_mode, is_same_mode, is_same_polarity}
 use Rattle.cam_writers.specs.GerberTexts.{is_selected, opening, phrases_before_end, units, with_aperture, with_attribute_of}
-use Rattle.cam_writers.specs.GerberTexts.{with_entry, with_item, with_macro, with_mirror, with_mode, with_object}
+use Rattle.cam_writers.specs.GerberTexts.{with_entry, with_item, with_mode, with_object}
 use Rattle.cam_writers.specs.GerberTexts.{with_objects, with_polarity, with_segments, with_start, with_turn}
 use Rattle.cam_writers.proofs.Walks.{by_number, either, kept_by}
 use Rattle.cam_writers.proofs.GerberAttributes.{attribute_spells, opens}
 use Rattle.cam_writers.proofs.GerberDefinitions.{definition_spells}
 use Rattle.cam_writers.proofs.GerberMacros.{macro_spells}
 use Rattle.cam_writers.proofs.GerberOperations.{arc_spells, flash_spells, line_spells, move_spells, IsWritableRepeat}
-use Rattle.cam_writers.proofs.GerberOperations.{block_begun_spells, block_ended_spells, repeat_begun_spells}
-use Rattle.cam_writers.proofs.GerberOperations.{repeat_ended_spells}
+use Rattle.cam_writers.proofs.GerberOperations.{block_begun_spells, block_ended_spells, repeat_begun_spells, repeat_ended_spells}
 use Rattle.cam_writers.proofs.GerberSayings.{Spells, arcs_spell, aperture_spells, end_spells, format_spells}
 use Rattle.cam_writers.proofs.GerberSayings.{mirror_spells, mode_spells, polarity_spells, region_begun_spells}
 use Rattle.cam_writers.proofs.GerberSayings.{region_ended_spells, rotation_spells, unit_spells}
@@ -133,35 +129,20 @@ record IsFit (o : Object) : Type 0 where
   number : HasOwnNumber o
 
 fits : (es : Pairs) (o : Object) → AreNumbered es → All IsOnBoard (points_of o) → IsKnown es o → IsFit o
-fits es o numbers on known = record { points = recursion_from_All IsOnBoard (points_of o) on; number = by o known }
-  where
-    by : (o : Object) → IsKnown es o → HasOwnNumber o
-    by (Flash n at turn dark) known = numbers n known
-    by (Draw n from to turn dark) known = numbers n known
-    by (Arc ccw dark n from to centre) known = numbers n known
-    by (Region contour dark) known = tt
+fits es o numbers on known = grind (arith, recursion_from_All, IsKnown)
 
 one_fits : (es : Pairs) (o : Object) → AreNumbered es → IsSoundItem es (One o) → IsFit o
-one_fits es o numbers sound =
-    let met = meets es (One o) sound in
-    fits es o numbers (All-head (λ o. All IsOnBoard (points_of o)) o [] met.inside.points)
-    (All-head (IsKnown es) o [] met.known)
+one_fits es o numbers sound = grind (arith, meets, fits, All-head, IsKnown)
 
 some_of_both : (columns rows : ℕ) → 1 < columns * rows → (0 < columns) × (0 < rows)
-some_of_both zero rows h = absurd (omega (arith, h))
-some_of_both (suc columns) zero h = absurd (omega (arith, h))
-some_of_both (suc columns) (suc rows) h = (omega arith, omega arith)
+some_of_both columns rows h = grind arith
 
 abbrev IsFitEntry : ℕ × Entry → Type 0
 IsFitEntry (n, Aperture a) = IsApertureNumber n × IsSoundAperture a
 IsFitEntry (n, Block objects) = IsApertureNumber n × All IsFit objects
 
 entry_fits : (before : Pairs) (e : ℕ × Entry) → AreNumbered before → MayAddEntry before e.0 e.1 → IsFitEntry e
-entry_fits before (n, Aperture a) numbers may = ((may.least, may.greatest), may.sound)
-entry_fits before (n, Block objects) numbers may = (
-  (may.least, may.greatest),
-  λ k d below. one_fits before (get_or objects k d) numbers (may.sound.each k d below),
-)
+entry_fits before e numbers may = grind (arith, one_fits)
 
 entries_fit : (es : Pairs) → IsSoundDictionary es → All IsFitEntry es
 entries_fit es sound k d below =
@@ -191,10 +172,7 @@ module _ (kept : List Attribute) where
   polarity dark ps h = unless (is_same_polarity (dark_in (said_by ps)) dark) (UsePolarity dark) ps (tt, refl) refl h
 
   turned : (turn : Turn) (ps : Phrases) → IsSpelled kept ps → IsSpelled kept (with_turn turn ps)
-  turned turn ps h =
-      let mirrored : Phrases = with_mirror turn ps in
-      unless (is_same_turn (rotation_in (said_by mirrored)) (rotation_of turn)) (UseRotation turn) mirrored (tt, refl) refl
-      (unless (is_same_turn (mirror_in (said_by ps)) (mirror_of turn)) (UseMirror turn) ps (tt, refl) refl h)
+  turned turn ps h = grind (arith, unless)
 
   selected : (n : ℕ) (ps : Phrases) → IsApertureNumber n → IsSpelled kept ps → IsSpelled kept (with_aperture n ps)
   selected n ps number h = unless (is_selected (aperture_in (said_by ps)) n) (UseAperture n) ps (number, refl) refl h
@@ -218,19 +196,10 @@ module _ (kept : List Attribute) where
       (more (ArcTo here to centre) _ ((on, all.0, all.1.0), refl) refl (moded (arc_mode ccw) ps h))
 
   object : (ps : Phrases) (o : Object) → IsFit o → IsSpelled kept ps → IsSpelled kept (with_object ps o)
-  object ps (Flash n at turn dark) fit h =
-      more (FlashAt at) _ (fit.points.0, refl) refl (selected n _ fit.number (turned turn _ (polarity dark ps h)))
-  object ps (Draw n from to turn dark) fit h =
-      more (LineTo to) _ (fit.points.1.0, refl) refl
-      (started from _ fit.points.0
-      (moded Linear _ (selected n _ fit.number (turned turn _ (polarity dark ps h)))))
-  object ps (Arc ccw dark n from to centre) fit h =
-      more (ArcTo from to centre) _ ((fit.points.0, fit.points.1.0, fit.points.1.1.0), refl) refl
-      (started from _ fit.points.0 (moded (arc_mode ccw) _ (selected n _ fit.number (polarity dark ps h))))
-  object ps (Region contour dark) fit h =
-      more LeaveRegion _ (tt, refl) refl
-      (segments contour.start contour.segs _ fit.points.0 fit.points.1
-      (more (MoveTo contour.start) _ (fit.points.0, refl) refl (more EnterRegion _ (tt, refl) refl (polarity dark ps h))))
+  object ps (Flash n at turn dark) fit h = grind (arith, more, selected, turned, polarity)
+  object ps (Draw n from to turn dark) fit h = grind (arith, more, started, moded, selected, turned, polarity)
+  object ps (Arc ccw dark n from to centre) fit h = grind (arith, more, started, moded, selected, polarity)
+  object ps (Region contour dark) fit h = grind (arith, more, segments, polarity)
 
   objects : (ps : Phrases) (all : List Object) → All IsFit all → IsSpelled kept ps → IsSpelled kept (with_objects ps all)
   objects = kept_by with_object (IsSpelled kept) IsFit object
@@ -238,13 +207,7 @@ module _ (kept : List Attribute) where
   -- ---- entries and items
 
   entry : (ps : Phrases) (e : ℕ × Entry) → IsFitEntry e → IsSpelled kept ps → IsSpelled kept (with_entry ps e)
-  entry ps (n, Aperture a) fit h = more (NameAperture n a) _ ((fit.0.1, fit.1), refl) refl (named a fit.1)
-    where
-      named : (a : Template) → IsSoundAperture a → IsSpelled kept (with_macro n a ps)
-      named (Prims prims) sound = more (NameMacro n prims) ps ((fit.0.1, sound), refl) refl h
-      named _ sound = h
-  entry ps (n, Block all) fit h =
-      more LeaveBlock _ (tt, refl) refl (objects _ all fit.1 (more (EnterBlock n) ps (fit.0, refl) refl h))
+  entry ps e fit h = grind (arith, more, objects)
 
   entries : (ps : Phrases) (es : Pairs) → All IsFitEntry es → IsSpelled kept ps → IsSpelled kept (fold with_entry ps es)
   entries = kept_by with_entry (IsSpelled kept) IsFitEntry entry

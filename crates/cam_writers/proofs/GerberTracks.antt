@@ -1,10 +1,8 @@
 -- The running state of the writer after one phrase more.
-use Rattle.std.proofs.Common.{◌≡◌, ℕ, ◌+◌, ◌<◌, ◌≤◌, List, [], ◌∷◌, ◌++◌, length, take, Bool, true, false, Option, Some, None}
-use Rattle.std.proofs.Common.{append-nil, append_assoc, get_or, slice_index_or, nat_eq, refl, sym, subst, ap, ap₂, ◌∙◌}
-use Rattle.std.specs.Prelude.{ℤ, pos, if◌then◌else◌, not}
-use mathlib.Core.Bool.{beq}
+use Rattle.std.proofs.Common.{arith, ◌≡◌, ℕ, ◌+◌, ◌<◌, ◌≤◌, List, [], ◌∷◌, ◌++◌, length, take, Bool, true, false, Some, None}
+use Rattle.std.proofs.Common.{append-nil, append_assoc, get_or, slice_index_or, refl, sym, subst, ap, ap₂, ◌∙◌}
+use Rattle.std.specs.Prelude.{ℤ, pos, if◌then◌else◌}
 use Rattle.std.specs.List.{fold, flat_map, All, AllByRecursion}
-use Rattle.std.specs.Option.{option_eq}
 use Rattle.std.specs.Global.{Vec}
 use Rattle.std.proofs.lemmas.List.{take_all, take_more}
 use Rattle.std.proofs.lemmas.List.Elements.{All-cons, All-head, All-nil, All-tail}
@@ -16,32 +14,27 @@ use Rattle.cam_shapes.specs.Contour.{end_of}
 use Rattle.cam_shapes.specs.declared.segments.Seg.{Seg}
 use Rattle.cam_shapes.specs.declared.segments.Seg.TheVariants.{Line, Curve}
 use Rattle.cam_apertures.specs.declared.aperture.Aperture.{Aperture as Shape}
-use Rattle.cam_apertures.specs.declared.aperture.Aperture.TheVariants.{Circle, Rect, Obround, Prims}
 use Rattle.cam_objects.specs.declared.attribute.Attribute.{Attribute}
 use Rattle.cam_objects.specs.declared.entry.Entry.{Entry}
 use Rattle.cam_objects.specs.declared.entry.Entry.TheVariants.{Aperture, Block}
 use Rattle.cam_objects.specs.declared.item.Item.{Item}
 use Rattle.cam_objects.specs.declared.item.Item.TheVariants.{One}
 use Rattle.cam_objects.specs.Attributes.{AreAttributes}
-use Rattle.cam_objects.specs.Soundness.{IsSoundContent, IsSoundDictionary, IsSoundItem, MayAddEntry, objects_of, points_of_seg}
+use Rattle.cam_objects.specs.Soundness.{IsSoundContent, IsSoundDictionary, MayAddEntry, objects_of, points_of_seg}
 use Rattle.cam_objects.proofs.SoundItems.{meets}
-use Rattle.cam_commands.specs.declared.parts.Mode.{Mode}
 use Rattle.cam_commands.specs.declared.parts.Mode.TheVariants.{Linear}
 use Rattle.cam_commands.specs.declared.parts.OperationCode.{OperationCode}
 use Rattle.cam_commands.specs.declared.parts.Slot.{Slot}
-use Rattle.cam_gerber.specs.State.{Past, format_in, point_in, unit_in}
+use Rattle.cam_gerber.specs.State.{Past}
 use Rattle.cam_writers.specs.declared.gerber_state.GerberText.{GerberText}
 use Rattle.cam_writers.specs.Phrases.{Phrase, line_of, mirror_of, operation_to, rotation_of, said, spelled, UseFormat}
 use Rattle.cam_writers.specs.Phrases.{UseMillimetres, Attach, UseArcs, UsePolarity, UseMirror, UseRotation}
-use Rattle.cam_writers.specs.Phrases.{UseAperture, UseMode, MoveTo, FlashAt, LineTo, ArcTo, NameMacro, NameAperture, Finish}
-use Rattle.cam_writers.specs.GerberTexts.{Phrases, gerber_text, is_same_mode, is_same_polarity, is_same_turn}
-use Rattle.cam_writers.specs.GerberTexts.{is_selected, opening, phrases_before_end, said_by, text_of, units, with_aperture, with_entry}
-use Rattle.cam_writers.specs.GerberTexts.{with_attribute_of, with_mirror, with_mode, with_polarity, with_rotation}
-use Rattle.cam_writers.specs.GerberTexts.{with_segment, with_segments}
-use Rattle.cam_writers.specs.Machinery.Tracking.{attribute_lines}
-use Rattle.cam_writers.specs.Machinery.Tracking.{AreEntryPoints, ArePoints, TracksPast, TracksPhrases}
+use Rattle.cam_writers.specs.Phrases.{UseAperture, UseMode, MoveTo, FlashAt, LineTo, ArcTo, Finish}
+use Rattle.cam_writers.specs.GerberTexts.{Phrases, gerber_text, is_same_turn, opening, phrases_before_end, said_by, text_of}
+use Rattle.cam_writers.specs.GerberTexts.{units, with_entry, with_attribute_of, with_rotation, with_segment, with_segments}
+use Rattle.cam_writers.specs.Machinery.Tracking.{attribute_lines, AreEntryPoints, ArePoints, TracksPast, TracksPhrases}
 use Rattle.cam_writers.proofs.GerberAttributes.{opens}
-use Rattle.cam_writers.proofs.Walks.{other_number, sound_in}
+use Rattle.cam_writers.proofs.Walks.{sound_in}
 use Rattle.cam_writers.proofs.GerberPlaces.{coordinate_again, dark_again, mirror_again, rotation_again}
 
 -- ---- one phrase more
@@ -67,12 +60,7 @@ module _ (past : Past) (w : GerberText) (text : Vec ℕ) (h : TracksPast past w)
   -- an operation goes to its point
   moved : (to : Point) (across up : Slot ℤ) (code : OperationCode)
       → TracksPast (operation_to to across up code ∷ past) (record w { text = text; point = to })
-  moved to across up code =
-      let x = coordinate_again (format_in past) (unit_in past) to.x h.format h.unit in
-      let y = coordinate_again (format_in past) (unit_in past) to.y h.format h.unit in
-      let there : to ≡ point_in (operation_to to across up code ∷ past) =
-      λ i. record { x = sym x i; y = sym y i } in
-      search (there, h)
+  moved to across up code = grind (arith, coordinate_again)
 
   values_after : (phrase : Phrase) → TracksPast (said phrase ∷ past) (after phrase w text)
   values_after (UsePolarity dark) = search (sym (dark_again dark), h)
@@ -99,16 +87,7 @@ written phrase phrases w text h longer = record {
 pub defined : (phrases : Phrases) (w : GerberText) (text : Vec ℕ) (n : ℕ) (a : Shape) → TracksPhrases phrases w
     → text.items ≡ w.text.items ++ text_of (with_entry [] (n, Aperture a))
     → TracksPhrases (with_entry phrases (n, Aperture a)) (record w { text = text })
-defined phrases w text n (Prims prims) h longer =
-    let one = line_of (spelled (NameMacro n prims)) in
-    let two = line_of (spelled (NameAperture n (Prims prims))) in
-    record {
-      text = longer ∙ (sym (append_assoc w.text.items one two) ∙ ap (λ (front : List ℕ). (front ++ one) ++ two) h.text);
-      values = search h;
-    }
-defined phrases w text n (Circle diameter hole) h longer = written (NameAperture n _) phrases w text h longer
-defined phrases w text n (Rect width height hole) h longer = written (NameAperture n _) phrases w text h longer
-defined phrases w text n (Obround width height hole) h longer = written (NameAperture n _) phrases w text h longer
+defined phrases w text n a h longer = grind (arith, append_assoc, written)
 
 -- ---- settings of another value
 
@@ -119,25 +98,6 @@ setting_written true phrase phrases w text other h longer = absurd cc
 setting_written false phrase phrases w text other h longer = written phrase phrases w text h longer
 
 module _ (phrases : Phrases) (w : GerberText) (text : Vec ℕ) (h : TracksPhrases phrases w) where
-  other_polarity : (dark other : Bool) → not (beq dark other) ≡ true → is_same_polarity dark other ≡ false
-  other_polarity true false h = refl
-  other_polarity false true h = refl
-  other_polarity _ _ h = absurd cc
-
-  pub polarity_written : (dark : Bool) → not (beq w.dark dark) ≡ true → IsLonger (UsePolarity dark) w text
-      → TracksPhrases (with_polarity dark phrases) (record w { text = text; dark = dark })
-  polarity_written dark other =
-      setting_written _ (UsePolarity dark) phrases w text
-      (ap (λ (d : Bool). is_same_polarity d dark) (sym h.values.dark) ∙ other_polarity w.dark dark other) h
-
-  pub mirror_written : (turn mirror : Turn) → mirror ≡ mirror_of turn → is_same_turn w.mirror mirror ≡ false
-      → IsLonger (UseMirror turn) w text
-      → TracksPhrases (with_mirror turn phrases) (record w { text = text; mirror = mirror })
-  mirror_written turn mirror is other longer =
-      subst (λ (m : Turn). TracksPhrases (with_mirror turn phrases) (record w { text = text; mirror = m })) (sym is)
-      (setting_written _ (UseMirror turn) phrases w text
-      (ap₂ is_same_turn (sym h.values.mirror) (sym is) ∙ other) h longer)
-
   pub rotation_written : (turn rotation : Turn) → rotation ≡ rotation_of turn
       → is_same_turn w.rotation rotation ≡ false → IsLonger (UseRotation turn) w text
       → TracksPhrases (with_rotation turn phrases) (record w { text = text; rotation = rotation })
@@ -145,18 +105,6 @@ module _ (phrases : Phrases) (w : GerberText) (text : Vec ℕ) (h : TracksPhrase
       subst (λ (r : Turn). TracksPhrases (with_rotation turn phrases) (record w { text = text; rotation = r })) (sym is)
       (setting_written _ (UseRotation turn) phrases w text
       (ap₂ is_same_turn (sym h.values.rotation) (sym is) ∙ other) h longer)
-
-  pub aperture_written : (n : ℕ) → option_eq nat_eq w.aperture (Some n) ≡ false → IsLonger (UseAperture n) w text
-      → TracksPhrases (with_aperture n phrases) (record w { text = text; aperture = Some n })
-  aperture_written n other =
-      setting_written _ (UseAperture n) phrases w text
-      (ap (λ (a : Option ℕ). is_selected a n) (sym h.values.aperture) ∙ other_number w.aperture n other) h
-
-  pub mode_written : (mode : Mode) → is_same_mode w.mode mode ≡ false → IsLonger (UseMode mode) w text
-      → TracksPhrases (with_mode mode phrases) (record w { text = text; mode = mode })
-  mode_written mode other =
-      setting_written _ (UseMode mode) phrases w text
-      (ap (λ (m : Mode). is_same_mode m mode) (sym h.values.mode) ∙ other) h
 
 -- ---- segments, one more
 
@@ -176,8 +124,7 @@ after_last here [] seg = refl
 after_last here (first ∷ segs) seg = after_last (end_of first) segs seg
 
 pub ends_on_board : (seg : Seg) → All IsOnBoard (points_of_seg seg) → IsOnBoard (end_of seg)
-ends_on_board (Line to) on = All-head IsOnBoard to [] on
-ends_on_board (Curve to centre ccw) on = All-head IsOnBoard to (centre ∷ []) on
+ends_on_board seg on = grind (arith, All-head)
 
 pub end_more : (here : Point) (segs : List Seg) (place : ℕ) (seg : Seg) → place < length segs
     → where_after here (take (place + 1) segs) ≡ end_of (get_or segs place seg)
@@ -227,8 +174,7 @@ entry_points entries sound k d below =
 pub item_points : (entries : List (ℕ × Entry)) (items listed : List Item) (place : ℕ) (item : Item)
     → IsSoundContent entries listed → items ≡ listed → place < length items → item ≡ get_or items place item
     → All ArePoints (objects_of item)
-item_points entries items listed place item sound same below is =
-    (meets entries item (sound_in (IsSoundItem entries) items listed place item sound.items same below is)).inside.points
+item_points entries items listed place item sound same below is = grind (arith, meets, sound_in)
 
 -- ---- the beginning and the end of a text
 
@@ -267,7 +213,4 @@ pub ended : (attributes : List Attribute) (entries : List (ℕ × Entry)) (items
     (text : Vec ℕ) → TracksPhrases (phrases_before_end attributes entries (take n items)) w → length items ≤ n
     → items ≡ listed → IsLonger Finish w text → text.items ≡ gerber_text attributes entries listed
 unfolding gerber_text
-ended attributes entries items listed n w text h all same longer =
-    longer
-    ∙ ap (λ (front : List ℕ). front ++ line_of (spelled Finish))
-    (h.text ∙ ap (λ (is : List Item). text_of (phrases_before_end attributes entries is)) (take_all n items all ∙ same))
+ended attributes entries items listed n w text h all same longer = grind (arith, take_all)

@@ -1,25 +1,22 @@
 -- The running state of the writer of drill texts, after one line more.
-use Rattle.std.proofs.Common.{◌≡◌, ℕ, ◌<◌, ◌≤◌, ◌-◌, List, [], ◌∷◌, ◌++◌, length, take, drop, get_or, slice_get, Bool, true}
-use Rattle.std.proofs.Common.{false, eqb, Option, Some, None, refl, sym, ap, ◌∙◌, subst, arith, ne_eqb, codes, decimal, nat_eq, ◌+◌}
-use Rattle.std.specs.Prelude.{pos, if◌then◌else◌}
+use Rattle.std.proofs.Common.{◌≡◌, ℕ, ◌<◌, ◌≤◌, ◌-◌, List, [], ◌∷◌, ◌++◌, length, take, drop, get_or, slice_get, true}
+use Rattle.std.proofs.Common.{false, Option, Some, None, refl, sym, ◌∙◌, arith, codes, ◌+◌}
+use Rattle.std.specs.Prelude.{pos}
 use Rattle.std.specs.List.{fold}
-use Rattle.std.specs.Option.{option_eq, option_or, unwrap_or}
+use Rattle.std.specs.Option.{option_or, unwrap_or}
 use Rattle.std.specs.Global.{Vec}
 use Rattle.std.proofs.lemmas.List.{take_all}
 use Rattle.cam_units.specs.declared.length.Nm.{Nm}
 use Rattle.cam_units.specs.declared.point.Point.{Point}
 use Rattle.cam_objects.specs.declared.drill_item.DrillItem.{DrillItem}
 use Rattle.cam_xnc.specs.declared.statement.Statement.{Statement}
-use Rattle.cam_xnc.specs.declared.statement.Statement.TheVariants.{Select, RoutTo, Lower}
-use Rattle.cam_xnc.specs.declared.modes.Mode.TheVariants.{Drilling}
-use Rattle.cam_xnc.specs.DrillState.{tool_in_force, tool_told, drill_mode_told, newest_drill}
+use Rattle.cam_xnc.specs.DrillState.{tool_in_force, tool_told, drill_mode_told}
 use Rattle.cam_xnc.specs.Faults.{is_drilling}
 use Rattle.cam_writers.specs.declared.drill_text.DrillText.{DrillText}
-use Rattle.cam_writers.specs.DrillTexts.{Line, Lines, text_of, said_by, line_at, with_tool, opening, with_selected, with_cut}
+use Rattle.cam_writers.specs.DrillTexts.{Line, Lines, text_of, said_by, with_tool, opening, with_cut}
 use Rattle.cam_writers.specs.DrillTexts.{with_rout, point_line, declaration, lines_before_end, drill_text}
-use Rattle.cam_writers.specs.GerberTexts.{is_selected}
 use Rattle.cam_writers.specs.Machinery.Tracking.{Tracks}
-use Rattle.cam_writers.proofs.Walks.{one_more, other_number}
+use Rattle.cam_writers.proofs.Walks.{one_more}
 
 -- a value that a statement tells, or else the value before it
 abbrev told_or : {A B : Type 0} → (A → B) → Option A → B → B
@@ -28,8 +25,7 @@ told_or f (Some told) before = f told
 
 newest_is : {A B : Type 0} (f : A → B) (told older : Option A) (a : A) (before : B) → before ≡ f (unwrap_or older a)
     → told_or f told before ≡ f (unwrap_or (option_or told older) a)
-newest_is f None older a before e = e
-newest_is f (Some told) older a before e = refl
+newest_is f told older a before e = grind arith
 
 -- the state behind a statement, with its text
 abbrev pub after : Statement → DrillText → Vec ℕ → DrillText
@@ -45,25 +41,7 @@ IsLonger line old text = text.items ≡ old.items ++ (line ++ codes "\n")
 
 pub written : (line : Line) (lines : Lines) (w : DrillText) (text : Vec ℕ) → Tracks lines w → IsLonger line.0 w.text text
     → Tracks (line ∷ lines) (after line.1 w text)
-written line lines w text h longer = record {
-  text = longer ∙ ap (λ (front : List ℕ). front ++ (line.0 ++ codes "\n")) h.text;
-  tool = newest_is (λ tool. tool) (tool_told line.1) (newest_drill tool_told (said_by lines)) None w.tool h.tool;
-  is_drilling = newest_is is_drilling (drill_mode_told line.1) (newest_drill drill_mode_told (said_by lines)) Drilling w.is_drilling h.is_drilling;
-}
-
-pub setting_written : (same : Bool) (line : Line) (lines : Lines) (w : DrillText) (text : Vec ℕ) → same ≡ false → Tracks lines w
-    → IsLonger line.0 w.text text → Tracks (if same then lines else line ∷ lines) (after line.1 w text)
-setting_written true line lines w text other h longer = absurd cc
-setting_written false line lines w text other h longer = written line lines w text h longer
-
-pub tool_written : (tool : ℕ) (lines : Lines) (w : DrillText) (text : Vec ℕ) → Tracks lines w → 1 ≤ tool
-    → option_eq nat_eq w.tool (Some tool) ≡ false → IsLonger (codes "T" ++ decimal tool) w.text text
-    → Tracks (with_selected tool lines) (record w { text = text; tool = Some tool })
-tool_written tool lines w text h some other longer =
-    let no : eqb tool 0 ≡ false = ne_eqb tool 0 (λ (z : tool ≡ 0). omega (arith, some)) in
-    subst (λ (b : Bool). Tracks (with_selected tool lines) (record w { text = text; tool = if b then None else Some tool })) no
-    (setting_written _ (codes "T" ++ decimal tool, Select (Some tool)) lines w text
-    (ap (λ (o : Option ℕ). is_selected o tool) (sym h.tool) ∙ other_number w.tool tool other) h longer)
+written line lines w text h longer = grind (arith, newest_is)
 
 -- lines that select no tool keep it
 tool_kept : {A : Type 0} (add : Lines → A → Lines) → ((lines : Lines) (a : A) → tool_in_force (said_by (add lines a)) ≡ tool_in_force (said_by lines))
@@ -81,31 +59,16 @@ pub rout_written : (points : List Point) (lines : Lines) (w : DrillText) (starte
     → IsLonger (codes "M15") started lowered
     → ((older : Lines) → lowered.items ≡ text_of older → cut.items ≡ text_of (fold with_cut older (take (length points - 1) (drop 1 points))))
     → IsLonger (codes "M16") cut raised → Tracks (with_rout points lines) (record w { text = raised; is_drilling = false })
-rout_written [] lines w started lowered cut raised h some e1 e2 e3 e4 = absurd (omega (arith, some))
-rout_written (start ∷ points) lines w started lowered cut raised h some e1 e2 e3 e4 =
-    let begun : Line = line_at (codes "G00") RoutTo start in
-    let before : Lines = (codes "M15", Lower) ∷ begun ∷ lines in
-    let down = written (codes "M15", Lower) (begun ∷ lines) _ lowered (written begun lines w started h e1) e2 in
-    record {
-      text = e4 ∙ ap (λ (front : List ℕ). front ++ (codes "M16" ++ codes "\n"))
-          (e3 before down.text ∙ ap (λ (ps : List Point). text_of (fold with_cut before ps))
-          (take_all (length (start ∷ points) - 1) points (omega arith)));
-      tool = down.tool ∙ sym (tool_kept with_cut (λ lines p. refl) points before);
-      is_drilling = refl;
-    }
+rout_written points lines w started lowered cut raised h some e1 e2 e3 e4 = grind (arith, written, take_all, tool_kept)
 
 pub tool_added : (tools : List (ℕ × Nm)) (place : ℕ) (t : ℕ × Nm) (lines : Lines) (old new : Vec ℕ) → place < length tools
     → slice_get tools place ≡ Some t → old.items ≡ text_of (fold with_tool lines (take place tools)) → IsLonger (declaration t) old new
     → new.items ≡ text_of (fold with_tool lines (take (place + 1) tools))
-tool_added tools place t lines old new below is e more =
-    more ∙ ap (λ (front : List ℕ). front ++ (declaration t ++ codes "\n")) e
-    ∙ ap text_of (sym (one_more with_tool lines tools place t below is))
+tool_added tools place t lines old new below is e more = grind (arith, one_more)
 
 -- the end of the text
 pub ended : (tools : List (ℕ × Nm)) (items all : List DrillItem) (n : ℕ) (w : DrillText) (text : Vec ℕ)
     → Tracks (lines_before_end tools (take n items)) w → length items ≤ n → items ≡ all → IsLonger (codes "M30") w.text text
     → text.items ≡ drill_text tools all
 unfolding drill_text
-ended tools items all n w text h le same longer =
-    longer ∙ ap (λ (front : List ℕ). front ++ (codes "M30" ++ codes "\n"))
-    (h.text ∙ ap (λ (is : List DrillItem). text_of (lines_before_end tools is)) (take_all n items le ∙ same))
+ended tools items all n w text h le same longer = grind (arith, take_all)

@@ -1,15 +1,13 @@
 -- Canonical drill texts are read back: their lines are cut as they were written, and read one after the other.
-use Rattle.std.proofs.Common.{◌≡◌, ℕ, zero, suc, ◌+◌, drop, map, reverse, List, [], ◌∷◌, ◌++◌, length, true, false, Ok}
-use Rattle.std.proofs.Common.{None, refl, sym, ap, ◌∙◌, append_assoc, append-nil, codes, not}
+use Rattle.std.proofs.Common.{arith, ◌≡◌, ℕ, zero, suc, ◌+◌, drop, map, reverse, List, [], ◌∷◌, ◌++◌, length, true, false, Ok}
+use Rattle.std.proofs.Common.{None, refl, sym, ap, ◌∙◌, append_assoc, append-nil, codes}
 use Rattle.std.specs.Prelude.{filter}
 use Rattle.std.specs.List.{AllByRecursion, flat_map, list_any}
 use Rattle.std.proofs.lemmas.List.{map-append, reverse-append}
 use Rattle.cam_refusals.specs.Checks.{first_holding}
-use Rattle.cam_objects.specs.Contents.{DrillContent}
 use Rattle.cam_xnc.specs.declared.statement.Statement.{Statement}
 use Rattle.cam_xnc.specs.declared.statement.Statement.TheVariants.{End}
-use Rattle.cam_xnc.specs.Bytes.{is_bad, is_blank, code_of, line_packed}
-use Rattle.cam_xnc.specs.Syntax.{statement_of}
+use Rattle.cam_xnc.specs.Bytes.{is_bad, code_of}
 use Rattle.cam_xnc.specs.Lines.{TextLine, LineFeed, line_bytes, IsLine, AreEnded, FoundLine, found_at, cut}
 use Rattle.cam_xnc.specs.DrillState.{drill_layer_in}
 use Rattle.cam_xnc.specs.Faults.{checks}
@@ -58,11 +56,7 @@ record IsFound (line : Line) (here : FoundLine) : Type 0 where
   says : line_said here ≡ line.1
 
 found : (line : Line) (at : ℕ) → Says line → IsFound line (record { text = line.0; at = at })
-found line at s = record {
-  told = ap (λ (code : List ℕ). not (is_blank code)) s.plain.whole ∙ ap not s.some;
-  good = ap (list_any is_bad) s.plain.whole ∙ s.plain.good;
-  says = ap (λ (code : List ℕ). statement_of (line_packed code)) s.plain.whole ∙ ap statement_of s.plain.unskipped ∙ s.means;
-}
+found line at s = grind arith
 
 -- the lines that are read, up to the first M30
 abbrev told_of : List FoundLine → List FoundLine
@@ -109,8 +103,7 @@ told (suc left) [] each none = lines_told [] each none
 told (suc left) (line ∷ older) each none = told left older each.1 none.2
 
 pub tells_its_lines : TellsItsLines
-tells_its_lines layer left sound =
-    let s = all_stand layer sound in told left (lines_before_end layer.tools layer.items) s.each s.faultless
+tells_its_lines layer left sound = grind (arith, all_stand, told)
 
 -- the lines, and M30 behind them
 pub reads_back : DrillReadsBack
@@ -132,5 +125,4 @@ reads_back layer sound =
     ∙ rw (s.tools, s.items) refl
 
 pub writes_again : DrillWritesAgain
-writes_again layer again sound read =
-    ap (λ (c : DrillContent). drill_text c.tools c.items) (same_answer again layer read (reads_back layer sound))
+writes_again layer again sound read = grind (arith, same_answer, read, reads_back)

@@ -80,6 +80,4 @@ pub cut_all : {A : Type 0} (c : ℕ) (f : A → List ℕ) (first : List ℕ) (mo
     → AllByRecursion (λ a. IsWithout c (f a)) more
     → slice_split (λ b. b == c) (first ++ flat_map (λ a. c ∷ f a) more) ≡ first ∷ map f more
 cut_all c f first [] none each = ap (slice_split (λ b. b == c)) (append-nil first) ∙ cut_alone c first none
-cut_all c f first (a ∷ more) none each =
-    cut_front c first (f a ++ flat_map (λ a. c ∷ f a) more) none
-    ∙ ap (λ (all : List (List ℕ)). first ∷ all) (cut_all c f (f a) more each.0 each.1)
+cut_all c f first (a ∷ more) none each = grind (arith, cut_front, cut_all c f (f a) more each.0 each.1)

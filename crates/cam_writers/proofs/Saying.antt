@@ -1,7 +1,7 @@
 -- What the lines of a canonical text say.
 use Rattle.std.proofs.Common.{◌≡◌, ℕ, ◌^◌, ◌<◌, ◌≤◌, List, [], ◌∷◌, ◌++◌, Bool, true, false, eqb, Some, refl}
 use Rattle.std.proofs.Common.{ap, ◌∙◌, arith, codes, decimal}
-use Rattle.std.specs.Prelude.{ℤ, pos, negsuc, not, ◌&&◌, nat_le, ◌==◌, ◌≤ℤ◌, unsigned_abs}
+use Rattle.std.specs.Prelude.{ℤ, pos, not, ◌&&◌, nat_le, ◌==◌, ◌≤ℤ◌, unsigned_abs}
 use Rattle.std.specs.List.{list_all, list_any, AllByRecursion}
 use Rattle.std.proofs.lemmas.Int.{ints}
 use Rattle.std.proofs.lemmas.List.Folds.{list_all-append}
@@ -14,15 +14,14 @@ use Rattle.cam_objects.specs.DrillSoundness.{IsSoundTool}
 use Rattle.cam_xnc.specs.declared.statement.Statement.TheVariants.{BeginHeader, SetUnit, Declare, EndHeader, Select}
 use Rattle.cam_xnc.specs.declared.statement.Statement.TheVariants.{DrillMode, HitAt, RoutTo, Lower, CutTo, Raise, End}
 use Rattle.cam_xnc.specs.declared.statement.Coordinate.TheVariants.{Written}
-use Rattle.cam_xnc.specs.Bytes.{is_line_end, is_line_blank, is_semicolon, is_bad, code_of, line_packed, is_blank}
+use Rattle.cam_xnc.specs.Bytes.{is_line_end, is_bad, code_of, line_packed, is_blank}
 use Rattle.cam_numbers.specs.Numbers.{is_numeric}
 use Rattle.cam_xnc.specs.Syntax.{line_field, coordinate, coordinates_of, with_coordinates, slot_statement, hit_or, tool_by}
 use Rattle.cam_xnc.specs.Syntax.{tool_statement, rout_statement, other_statement, statement_of}
 use Rattle.cam_writers.specs.Lengths.{mm, scaled}
 use Rattle.cam_writers.specs.DrillTexts.{Line, declaration, line_at, point_line}
 use Rattle.cam_writers.proofs.Runs.{Stops, all_pass, each_of, none_left_out, none_passes, run_read, run_left, run_alone_read, run_alone_left}
-use Rattle.cam_writers.proofs.Decimals.{decimal_run, mm_again, mm_pointed, mm_numeric}
-use Rattle.cam_writers.proofs.Decimals.{selected_again, declared_again}
+use Rattle.cam_writers.proofs.Decimals.{decimal_run, mm_again, mm_pointed, mm_numeric, selected_again, declared_again}
 
 -- ---- runs
 
@@ -69,13 +68,7 @@ pub record IsPlain (text : List ℕ) : Type 0 where
   pub one : AllByRecursion (λ byte. is_line_end byte ≡ false) text
 
 plain : (text : List ℕ) → list_all is_plain text ≡ true → IsPlain text
-plain text all = record {
-  whole = run_alone_read (λ b. not (is_semicolon b)) text
-      (all_pass is_plain (λ b. not (is_semicolon b)) (λ b h. grind (arith, nat_tests)) text all);
-  unskipped = none_left_out is_plain (λ b. not (is_line_blank b)) (λ b h. grind (arith, nat_tests)) text all;
-  good = none_passes is_plain is_bad (λ b h. grind (arith, nat_tests)) text all;
-  one = each_of is_plain (λ b. is_line_end b ≡ false) (λ b h. grind (arith, nat_tests)) text all;
-}
+plain text all = grind (arith, run_alone_read, all_pass, nat_tests, none_left_out, none_passes, each_of)
 
 numeric_plain : (byte : ℕ) → is_numeric byte ≡ true → is_plain byte ≡ true
 unfolding is_numeric
@@ -85,10 +78,7 @@ run_plain : (run : List ℕ) → list_all is_numeric run ≡ true → list_all i
 run_plain run all = all_pass is_numeric is_plain numeric_plain run all
 
 point_plain : (p : Point) → IsOnBoard p → list_all is_plain (mm p.x ++ 89 ∷ mm p.y) ≡ true
-point_plain p on =
-    let x = run_plain (mm p.x) (mm_numeric p.x (omega (arith, on.x))) in
-    let y = run_plain (mm p.y) (mm_numeric p.y (omega (arith, on.y))) in
-    list_all-append is_plain (mm p.x) (89 ∷ mm p.y) ∙ rw (x, y) refl
+point_plain p on = grind (arith, run_plain, mm_numeric, list_all-append)
 
 -- ---- what the lines say
 
@@ -144,8 +134,7 @@ declared_by run size all sizes =
 
 -- a diameter is written
 size_small : (z : ℤ) → pos 1 ≤ℤ z → z ≤ℤ pos 200000000 → unsigned_abs z < 10 ^ 12
-size_small (pos n) low high = omega (arith, ints)
-size_small (negsuc n) low high = absurd (omega (arith, ints))
+size_small z low high = grind (arith, ints)
 
 pub declaration_says : (n : ℕ) (d : Nm) → IsSoundTool n d → Says (declaration (n, d), Declare (Some n) (Some (scaled d.0)))
 unfolding declaration statement_of tool_by

@@ -1,7 +1,7 @@
 -- The lines of a canonical drill text, one after another: none has a fault, and they make the tools and the items so far.
-use Rattle.std.proofs.Common.{◌≡◌, ℕ, ◌<◌, ◌≤◌, List, [], ◌∷◌, ◌++◌, length, Bool, true, false, eqb, ltb, leb, refl}
-use Rattle.std.proofs.Common.{Option, Some, None, arith, is_some, nat_eq, sum_by, subst, sym, ◌+◌, ne_eqb, codes}
-use Rattle.std.specs.Prelude.{ℤ, pos, negsuc, ◌≤ℤ◌, unsigned_abs}
+use Rattle.std.proofs.Common.{◌≡◌, ℕ, ◌<◌, ◌≤◌, List, [], ◌∷◌, ◌++◌, length, Bool, true, false, ltb, leb, refl}
+use Rattle.std.proofs.Common.{Option, Some, None, arith, is_some, nat_eq, sum_by, subst, sym, ◌+◌, codes}
+use Rattle.std.specs.Prelude.{ℤ, pos, ◌≤ℤ◌, unsigned_abs}
 use Rattle.std.specs.List.{All, AllByRecursion, IsDistinct, fold}
 use Rattle.std.specs.Map.{keys_of}
 use Rattle.std.proofs.lemmas.Int.{ints}
@@ -19,17 +19,15 @@ use Rattle.cam_objects.specs.declared.drill_item.DrillItem.{DrillItem}
 use Rattle.cam_objects.specs.declared.drill_item.DrillItem.TheVariants.{Hit, Rout}
 use Rattle.cam_objects.specs.Contents.{DrillContent}
 use Rattle.cam_objects.specs.Drilling.{diameter_of}
-use Rattle.cam_objects.specs.DrillSoundness.{IsSoundDrillContent, IsSoundDrillItem, IsSoundTool}
-use Rattle.cam_objects.specs.DrillSoundness.{drill_count_from, drill_count_of}
+use Rattle.cam_objects.specs.DrillSoundness.{IsSoundDrillContent, IsSoundDrillItem, IsSoundTool, drill_count_from, drill_count_of}
 use Rattle.cam_xnc.specs.declared.modes.Part.{Part}
 use Rattle.cam_xnc.specs.declared.modes.Part.TheVariants.{Header, Body}
-use Rattle.cam_xnc.specs.declared.statement.Statement.TheVariants.{BeginHeader, SetUnit, Declare, EndHeader, Select}
+use Rattle.cam_xnc.specs.declared.statement.Statement.TheVariants.{BeginHeader, SetUnit, Declare, EndHeader}
 use Rattle.cam_xnc.specs.declared.statement.Statement.TheVariants.{DrillMode, HitAt, RoutTo, Lower, CutTo, Raise}
 use Rattle.cam_xnc.specs.DrillState.{DrillPast, part_in, drill_unit_in, drill_mode_in, tool_in_force, tools_in, drill_items_in, rout_points_in, length_nm}
 use Rattle.cam_xnc.specs.Faults.{checks, is_drilling, is_lowered, is_diameter}
 use Rattle.cam_xnc.specs.Reading.{is_end_statement}
 use Rattle.cam_writers.specs.Lengths.{scaled}
-use Rattle.cam_writers.specs.GerberTexts.{is_selected}
 use Rattle.cam_writers.specs.DrillTexts.{Line, Lines, said_by, line_at, with_tool, opening, with_selected, with_drill_mode}
 use Rattle.cam_writers.specs.DrillTexts.{with_cut, with_rout, with_item, lines_before_end}
 use Rattle.cam_writers.proofs.Decimals.{scaled_again}
@@ -65,20 +63,13 @@ record IsPoint (past : DrillPast) (p : Point) : Type 0 where
   high : ltb (unsigned_abs p.y) 1000000000 ≡ true
 
 point_read : (past : DrillPast) (p : Point) → drill_unit_in past ≡ Some Mm → IsOnBoard p → IsPoint past p
-point_read past p e on = record {
-  x = same_nm (drill_unit_in past) p.x e;
-  y = same_nm (drill_unit_in past) p.y e;
-  wide = lt-ltb (unsigned_abs p.x) 1000000000 on.x;
-  high = lt-ltb (unsigned_abs p.y) 1000000000 on.y;
-}
+point_read past p e on = grind (arith, same_nm, lt-ltb)
 
 -- ---- the header
 
 sound_diameter : (d : ℤ) → pos 1 ≤ℤ d → d ≤ℤ pos 200000000 → is_diameter d ≡ true
 unfolding is_diameter
-sound_diameter (pos n) low high =
-    rw (le-leb 1 n (omega (arith, ints)), le-leb n 200000000 (omega (arith, ints))) refl
-sound_diameter (negsuc n) low high = absurd (omega (arith, ints))
+sound_diameter d low high = grind (arith, le-leb, ints)
 
 -- a number that stands apart from those before it is new
 apart_from : (n : ℕ) (front : List (ℕ × Nm)) (t : ℕ × Nm) (rest : List (ℕ × Nm))
@@ -134,8 +125,7 @@ module _ (ts : List (ℕ × Nm)) (sound : All IsSoundPair ts) (distinct : IsDist
 
 drilling : (lines : Lines) (ts : List (ℕ × Nm)) (is : List DrillItem) → Stands lines Body false ts is
     → Stands ((codes "G05", DrillMode) ∷ lines) Body false ts is
-drilling lines ts is h =
-    let none : first_holding (checks (said_by lines) DrillMode) ≡ None = rw (h.part, h.lowered) refl in search (drill_says, none, h)
+drilling lines ts is h = grind (arith, drill_says)
 
 opened : (ts : List (ℕ × Nm)) → All IsSoundPair ts → IsDistinct nat_eq (keys_of ts) → Stands (opening ts) Body false ts []
 opened ts sound distinct =
@@ -157,12 +147,7 @@ module _ (ts : List (ℕ × Nm)) (is : List DrillItem) (n : ℕ) where
 
   tool_set : (lines : Lines) → Stands lines Body false ts is → is_some (diameter_of ts n) ≡ true → IsInRange n
       → HasTool (with_selected n lines) false
-  tool_set lines h known range =
-      let some : eqb n 0 ≡ false = ne_eqb n 0 (λ (z : n ≡ 0). omega (arith, range.0)) in
-      let none : first_holding (checks (said_by lines) (Select (Some n))) ≡ None = rw (h.part, h.tools, known, some, h.lowered) refl in
-      either (λ (ls : Lines). HasTool ls false) (is_selected (tool_in_force (said_by lines)) n) lines _
-      (λ e. record { stands = h; tool = same_number (tool_in_force (said_by lines)) n e })
-      (λ e. record { stands = search (tool_says n range.1, none, h); tool = rw some refl })
+  tool_set lines h known range = grind (arith, either, same_number, tool_says)
 
   hit : (lines : Lines) (p : Point) → HasTool lines false → IsOnBoard p → HasRoom is 1
       → Stands (line_at [] HitAt p ∷ with_drill_mode lines) Body false ts (is ++ Hit n p ∷ [])

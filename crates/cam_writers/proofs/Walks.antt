@@ -1,11 +1,10 @@
 -- Walks along lists, the element at which a walk stands, and small facts that writers of both kinds of text use.
 use Rattle.std.proofs.Common.{◌≡◌, ℕ, ◌+◌, ◌<◌, ◌≤◌, List, [], ◌∷◌, ◌++◌, length, Bool, true, false, cond, Option, Some, None}
-use Rattle.std.proofs.Common.{append-nil, append_assoc, length-append, nat_eq, sum_by, is_some, Result, Ok, Err, sym, subst}
-use Rattle.std.proofs.Common.{ap, ◌∙◌, arith, refl, take, get_or, slice_get}
+use Rattle.std.proofs.Common.{append-nil, append_assoc, length-append, nat_eq, sum_by, is_some, Result, Ok, sym, subst}
+use Rattle.std.proofs.Common.{ap, ◌∙◌, arith, take, get_or, slice_get}
 use Rattle.std.specs.Prelude.{OnOk}
 use Rattle.std.specs.List.{All, fold}
 use Rattle.std.specs.Map.{lookup}
-use Rattle.std.specs.Option.{option_eq}
 use Rattle.std.proofs.lemmas.Bool.{eqb-true}
 use Rattle.std.proofs.lemmas.List.Elements.{All-head, All-tail}
 use Rattle.std.proofs.lemmas.List.Sums.{fold_more, sum_by-append, sum_by-cons}
@@ -29,8 +28,7 @@ kept_by add P Q step s (a ∷ all) each h =
 
 -- a state or another
 pub either : {S : Type 0} (P : S → Type 0) (b : Bool) (s t : S) → (b ≡ true → P s) → (b ≡ false → P t) → P (cond b s t)
-either P true s t first second = first refl
-either P false s t first second = second refl
+either P b s t first second = grind arith
 
 -- ---- the element at which a walk stands
 
@@ -48,8 +46,7 @@ fewer all front a rest e = omega (arith, ap length e, length-append front (a ∷
 -- their sum and that of the one do not pass the sum of all
 pub lighter : {A : Type 0} (f : A → ℕ) (all front : List A) (a : A) (rest : List A) → front ++ a ∷ rest ≡ all
     → sum_by f front + f a ≤ sum_by f all
-lighter f all front a rest e =
-    omega (arith, ap (sum_by f) e, sum_by-append f front (a ∷ rest), sum_by-cons f a rest)
+lighter f all front a rest e = grind (arith, sum_by-append, sum_by-cons)
 
 pub is_at : {A : Type 0} (all : List A) (place : ℕ) (a : A) → place < length all → slice_get all place ≡ Some a → get_or all place a ≡ a
 is_at all place a below is = same_Some (get_or all place a) a (sym (slice_get-get_or all place a below) ∙ is)
@@ -75,27 +72,16 @@ pub by_number : {X : Type 0} (P : ℕ → Type 0) (n : ℕ) (table : List (ℕ �
     → is_some (lookup (nat_eq n) table) ≡ true → P n
 by_number P n [] each known = absurd cc
 by_number {X} P n (e ∷ table) each known =
-    by (nat_eq n e.0) refl (by_number P n table (All-tail (λ (e : ℕ × X). P e.0) e table each)) known
-  where
-    by : (b : Bool) → nat_eq n e.0 ≡ b → (is_some (lookup (nat_eq n) table) ≡ true → P n)
-        → is_some (cond b (Some e.1) (lookup (nat_eq n) table)) ≡ true → P n
-    by true same rest h = subst P (sym (eqb-true n e.0 same)) (All-head (λ (e : ℕ × X). P e.0) e table each)
-    by false other rest h = rest h
+    grind (arith, All-tail, eqb-true, All-head, by_number P n table (All-tail (λ (e : ℕ × X). P e.0) e table each))
 
 pub same_number : (old : Option ℕ) (n : ℕ) → is_selected old n ≡ true → old ≡ Some n
-same_number None n h = absurd cc
-same_number (Some m) n h = ap Some (eqb-true m n h)
-
-pub other_number : (old : Option ℕ) (n : ℕ) → option_eq nat_eq old (Some n) ≡ false → is_selected old n ≡ false
-other_number None n h = refl
-other_number (Some m) n h = h
+same_number old n h = grind (arith, eqb-true)
 
 -- ---- results
 
 -- what holds where a call succeeds
 pub on_ok : {A E : Type 0} {P Q : Type 0} (r : Result A E) → (P → Q) → OnOk r P → OnOk r Q
-on_ok (Ok a) f h = f h
-on_ok (Err e) f h = tt
+on_ok r f h = grind arith
 
 pub same_answer : {A E : Type 0} (a b : A) {r : Result A E} → r ≡ Ok a → r ≡ Ok b → a ≡ b
 same_answer a b e f = cc

@@ -116,14 +116,12 @@ fn push_coordinates(text: &mut Vec<u8>, at: Point) -> Result<(), AllocError>
     push_whole(text, Nm(at.y))
 }
 
-/// Writes an operation at a point, by its D code.
-pub fn push_operation(text: &mut Vec<u8>, at: Point, code: &[u8]) -> Result<(), AllocError>
-    ensures { OnOk result
-        (text.new.items ≡ text.old.items ++ line_of (word (coordinates at ++ code.now))) }
+/// Writes an operation at a point: its coordinates, and what is left of its line, from its D code on.
+pub fn push_operation(text: &mut Vec<u8>, at: Point, rest: &[u8]) -> Result<(), AllocError>
+    ensures { OnOk result (text.new.items ≡ text.old.items ++ (coordinates at ++ rest.now)) }
 {
     push_coordinates(text, at)?;
-    text.extend_from_slice(code)?;
-    text.extend_from_slice(b"*\n")
+    text.extend_from_slice(rest)
 }
 
 /// How far one point lies from another, in each coordinate.

@@ -175,7 +175,7 @@ impl GerberText {
         ensures { (phrases : Phrases) → TracksPhrases phrases self.old
             → OnOk result (TracksPhrases (MoveTo to ∷ phrases) self.new) }
     {
-        push_operation(&mut self.text, to, b"D02")?;
+        push_operation(&mut self.text, to, b"D02*\n")?;
         self.point = to;
         Ok(())
     }
@@ -196,7 +196,7 @@ impl GerberText {
         ensures { (phrases : Phrases) → TracksPhrases phrases self.old
             → OnOk result (TracksPhrases (FlashAt at ∷ phrases) self.new) }
     {
-        push_operation(&mut self.text, at, b"D03")?;
+        push_operation(&mut self.text, at, b"D03*\n")?;
         self.point = at;
         Ok(())
     }
@@ -206,7 +206,7 @@ impl GerberText {
         ensures { (phrases : Phrases) → TracksPhrases phrases self.old
             → OnOk result (TracksPhrases (LineTo to ∷ phrases) self.new) }
     {
-        push_operation(&mut self.text, to, b"D01")?;
+        push_operation(&mut self.text, to, b"D01*\n")?;
         self.point = to;
         Ok(())
     }

@@ -1,18 +1,13 @@
-use Rattle.std.proofs.Common.{◌∙◌, ap, List, ℕ, subst, sym}
-use Rattle.std.specs.List.{All}
-use Rattle.cam_objects.specs.declared.entry.Entry.{Entry}
+use Rattle.std.proofs.Common.{arith, ◌∙◌, ap}
 use Rattle.cam_objects.specs.Contents.{content_of}
 use Rattle.cam_gerber.specs.Computing.{reading_of}
 use Rattle.cam_writers.specs.Phrases.{spelled}
-use Rattle.cam_writers.specs.Machinery.Tracking.{AreEntryPoints}
 use Rattle.cam_writers.proofs.GerberReadingBack.{gerber_reads_back}
 use Rattle.cam_writers.proofs.GerberTracks.{ended, entry_points, item_points}
 use Rattle.cam_writers.proofs.gerber_layers.gerber_text.Goals as goal
 
 pub write_entries-requires : goal.write_entries-requires
-write_entries-requires c =
-    subst (λ (es : List (ℕ × Entry)). All (λ e. AreEntryPoints e.1) es) (sym c.entries.ensures)
-    (entry_points c.args.layer.now.apertures c.requires.content.entries)
+write_entries-requires c = grind (arith, entry_points)
 
 pub write_item-requires : goal.write_item-requires
 write_item-requires c =

@@ -1,3 +1,4 @@
+use Rattle.std.proofs.Common.{append_assoc}
 use Rattle.cam_writers.specs.Phrases.{FlashAt, spelled}
 use Rattle.cam_writers.proofs.GerberTracks.{written}
 use Rattle.cam_writers.proofs.gerber_state.GerberText.flash.Goals as goal
@@ -5,4 +6,5 @@ use Rattle.cam_writers.proofs.gerber_state.GerberText.flash.Goals as goal
 pub returns : goal.returns
 unfolding spelled
 returns c =
-    λ phrases h. written (FlashAt c.args.at) phrases c.args.self.now c.push_operation.new.text h c.in_ok-push_operation.ensures
+    λ phrases h. written (FlashAt c.args.at) phrases c.args.self.now c.push_operation.new.text h
+    (simp append_assoc c.in_ok-push_operation.ensures)
