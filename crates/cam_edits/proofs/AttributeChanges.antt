@@ -1,6 +1,6 @@
 -- An edit of file attributes changes no picture and touches no box.
-use Rattle.std.proofs.Common.{◌≡◌, ℕ, zero, suc, ◌+◌, Bool, true, false, cond, not, nat_lt, List, [], ◌∷◌, length, map}
-use Rattle.std.proofs.Common.{Option, None, Some, Result, Ok, Err, refl, ap, sym, subst, ◌∙◌, arith}
+use Rattle.std.proofs.Common.{◌≡◌, ℕ, zero, suc, ◌+◌, Bool, true, false, cond, not, List, [], ◌∷◌, length, map}
+use Rattle.std.proofs.Common.{Option, None, Some, Result, Ok, refl, ap, sym, subst, ◌∙◌, arith}
 use Rattle.std.specs.Prelude.{position, remove, slice_get, slice_set}
 use Rattle.std.specs.List.{position_or_len}
 use Rattle.std.specs.Option.{option_map}
@@ -19,14 +19,14 @@ use Rattle.cam_edits.specs.AttributeEdits.{setting_step}
 use Rattle.cam_edits.specs.AttributeLaws.{AttributeLaw, ChangesAttributes, IsOfAttributes, attributes_of, with_attributes_of}
 use Rattle.cam_edits.specs.AttributeLaws.{without_attribute}
 use Rattle.cam_edits.specs.Boards.{changed_at, content_at, content_or_empty, place_named, with_content}
-use Rattle.cam_edits.specs.Editing.{edited, edited_at, edited_sheet, judged_change, judged_drill, drill_step_of, step_of}
-use Rattle.cam_edits.specs.Editing.{with_drill, with_gerber, with_step}
+use Rattle.cam_edits.specs.Editing.{edited, edited_at, edited_sheet, judged_change, drill_step_of, step_of}
+use Rattle.cam_edits.specs.Editing.{with_gerber, with_step}
 use Rattle.cam_edits.specs.Images.{sheet_leaves}
 use Rattle.cam_edits.specs.Machinery.PlaceLaws.{changed_is, element_at, get_changed}
-use Rattle.cam_edits.specs.Sheets.{Content, Gerber, Drill, Sheet, sheet}
+use Rattle.cam_edits.specs.Sheets.{Content, Gerber, Sheet, sheet}
 use Rattle.cam_edits.specs.Steps.{after_step}
 use Rattle.cam_edits.specs.Touched.{touched}
-use Rattle.cam_edits.specs.Touches.{boxes_in, boxes_of_step, touch_at, touch_of_edit}
+use Rattle.cam_edits.specs.Touches.{boxes_in, touch_at, touch_of_edit}
 use Rattle.cam_edits.proofs.AttributeSteps.{after_setting_at}
 use Rattle.cam_edits.proofs.FittingEdits.{change_accepted}
 
@@ -44,13 +44,10 @@ module _ (name : List ℕ) where
         ap (remove (a ∷ xs)) next ∙ ap (λ (rest : List Attribute). a ∷ rest) rest
 
   place_is : (t : Bool) (n k : ℕ) → cond t (Some n) None ≡ Some k → n ≡ k
-  place_is true n k e = cc
-  place_is false n k e = absurd cc
+  place_is t n k e = grind arith
 
   taken_at : (xs : List Attribute) (k : ℕ) → attribute_place name xs ≡ Some k → remove xs k ≡ without_attribute name xs
-  taken_at xs k e =
-      let n = position_or_len (has_name name) xs in
-      ap (remove xs) (sym (place_is (nat_lt n (length xs)) n k e)) ∙ taken xs
+  taken_at xs k e = grind (arith, place_is, taken)
 
 module _ (c : GerberContent) where
   abbrev with_attributes : List Attribute → GerberContent
@@ -62,16 +59,12 @@ module _ (c : GerberContent) where
   set_gives : (key fields : List ℕ) (place : Option ℕ) → attribute_place key c.attributes ≡ place
       → Gives (SetAttribute key fields) (setting_step key fields (length c.attributes) place)
   unfolding touched
-  set_gives key fields None e = (ap with_attributes (after_setting_at c.attributes key fields None e), refl)
-  set_gives key fields (Some k) e = (ap with_attributes (after_setting_at c.attributes key fields (Some k) e), refl)
+  set_gives key fields place e = grind (arith, after_setting_at)
 
   drop_gives : (key : List ℕ) (place : Option ℕ) → attribute_place key c.attributes ≡ place → (step : Step)
       → option_map TakeAttribute place ≡ Some step → Gives (DropAttribute key) step
   unfolding touched
-  drop_gives key None at step e = absurd cc
-  drop_gives key (Some k) at step e =
-      let same : TakeAttribute k ≡ step = cc in
-      subst (Gives (DropAttribute key)) same (ap with_attributes (taken_at key c.attributes k at), refl)
+  drop_gives key place at step e = grind (arith, taken_at)
 
   gives : (change : Change) → IsOfAttributes change → (step : Step) → step_of c.attributes change ≡ Some step
       → Gives change step
@@ -91,16 +84,7 @@ module _ (c : GerberContent) where
 
 -- a drill layer has none
 no_drill : (change : Change) → IsOfAttributes change → drill_step_of change ≡ None
-no_drill (Insert k item) is = absurd is
-no_drill (Delete k) is = absurd is
-no_drill (Move k dx dy) is = absurd is
-no_drill (Reorder k m) is = absurd is
-no_drill (Aperture k n) is = absurd is
-no_drill (Polarity k dark) is = absurd is
-no_drill (Tool k t) is = absurd is
-no_drill (Diameter t d) is = absurd is
-no_drill (SetAttribute key fields) is = refl
-no_drill (DropAttribute key) is = refl
+no_drill change is = grind arith
 
 -- ---- the sheets
 
@@ -109,8 +93,7 @@ same_leaves : (xs : List Sheet) (k other : ℕ) (s t : Sheet) → slice_get xs k
     → sheet_leaves t.content ≡ sheet_leaves s.content
     → sheet_leaves (content_at (slice_set xs k t) other) ≡ sheet_leaves (content_at xs other)
 same_leaves [] k other s t here same = absurd cc
-same_leaves (x ∷ xs) zero zero s t here same =
-    let is : s ≡ x = cc in same ∙ ap (λ (s : Sheet). sheet_leaves s.content) is
+same_leaves (x ∷ xs) zero zero s t here same = grind arith
 same_leaves (x ∷ xs) zero (suc other) s t here same = refl
 same_leaves (x ∷ xs) (suc k) zero s t here same = refl
 same_leaves (x ∷ xs) (suc k) (suc other) s t here same = same_leaves xs k other s t here same
@@ -121,8 +104,7 @@ name_of s = s.name
 same_names : (xs : List Sheet) (k : ℕ) (s t : Sheet) → slice_get xs k ≡ Some s → t.name ≡ s.name
     → map name_of (slice_set xs k t) ≡ map name_of xs
 same_names [] k s t here same = absurd cc
-same_names (x ∷ xs) zero s t here same =
-    let is : s ≡ x = cc in ap (λ (n : List ℕ). n ∷ map name_of xs) (same ∙ ap name_of is)
+same_names (x ∷ xs) zero s t here same = grind arith
 same_names (x ∷ xs) (suc k) s t here same = ap (λ (ns : List (List ℕ)). x.name ∷ ns) (same_names xs k s t here same)
 
 module _ (change : Change) (is : IsOfAttributes change) (sheets after : List Sheet) (place : ℕ) (s : Sheet)
@@ -156,17 +138,10 @@ module _ (change : Change) (is : IsOfAttributes change) (sheets after : List She
 
   stepped : (c : GerberContent) → s.content ≡ Gerber c → (r : Result Step EditFault) → judged_change c change ≡ r
       → with_step (with_gerber c) sheets place r ≡ Ok after → HasChanged (Gerber c)
-  stepped c holds (Ok step) judgement e =
-      let told = change_accepted c change step judgement in
-      let made = gives c change is step told.0 in
-      let set : changed_at (λ _. Gerber (after_step step c)) place sheets ≡ after = cc in
-      put c holds (after_step step c) made.0 (ap (λ (o : Option Step). boxes_of_step o c) told.0 ∙ made.1) set
-  stepped c holds (Err fault) judgement e = absurd cc
+  stepped c holds r judgement e = grind (arith, change_accepted, gives, put)
 
   sheet_edited : (c : Content) → s.content ≡ c → edited_sheet change sheets place c ≡ Ok after → HasChanged c
-  sheet_edited (Gerber c) holds e = stepped c holds (judged_change c change) refl e
-  sheet_edited (Drill c) holds e =
-      let never = sym (ap (λ o. with_step (with_drill c) sheets place (judged_drill c o)) (no_drill change is)) ∙ e in absurd cc
+  sheet_edited c holds e = grind (arith, stepped, no_drill)
 
 module _ (change : Change) (is : IsOfAttributes change) (name : List ℕ) (sheets after : List Sheet) where
   edited_there : (o : Option ℕ) → position (λ (s : Sheet). bytes_eq s.name name) sheets ≡ o

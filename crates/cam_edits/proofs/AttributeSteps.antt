@@ -1,7 +1,7 @@
 -- The steps of edits of attributes: they fit, and make of the attributes what the edits say.
-use Rattle.std.proofs.Common.{◌≡◌, ℕ, ◌<◌, ◌≤◌, Bool, true, false, ◌&&◌, not, nat_le, ◌+◌, List, [], ◌∷◌, length, get_or}
-use Rattle.std.proofs.Common.{Option, None, Some, Result, Ok, Err, refl, ap, sym, subst, ◌∙◌, arith}
-use Rattle.std.specs.Prelude.{is_none, slice_get, slice_set}
+use Rattle.std.proofs.Common.{◌≡◌, ℕ, ◌<◌, ◌≤◌, Bool, true, ◌&&◌, not, nat_le, ◌+◌, List, [], ◌∷◌, length, get_or}
+use Rattle.std.proofs.Common.{Option, None, Some, Result, Ok, Err, refl, sym, subst, arith}
+use Rattle.std.specs.Prelude.{is_none, slice_get}
 use Rattle.std.specs.Option.{option_map}
 use Rattle.std.proofs.lemmas.Bool.{false_from_ne_true, le-leb, leb-true}
 use Rattle.std.proofs.lemmas.List.Edits.{insert_end}
@@ -21,8 +21,8 @@ use Rattle.cam_edits.specs.declared.step.Step.{Step}
 use Rattle.cam_edits.specs.declared.step.Step.TheVariants.{PutAttribute, TakeAttribute, SetFields}
 use Rattle.cam_edits.specs.AttributeEdits.{are_fields, is_key, setting_step}
 use Rattle.cam_edits.specs.Editing.{judged, judged_change, judged_unless, step_checks}
-use Rattle.cam_edits.specs.Machinery.PlaceLaws.{changed_is, element_at}
-use Rattle.cam_edits.specs.Steps.{attributes_after, with_fields}
+use Rattle.cam_edits.specs.Machinery.PlaceLaws.{element_at}
+use Rattle.cam_edits.specs.Steps.{attributes_after}
 
 -- ---- where a name stands
 
@@ -47,12 +47,7 @@ module _ (xs : List Attribute) (key fields : List ℕ) where
   step_at place = setting_step key fields (length xs) place
 
   pub after_setting_at : (place : Option ℕ) → attribute_place key xs ≡ place → attributes_after (step_at place) xs ≡ with_attribute new xs
-  after_setting_at None e = insert_end xs new ∙ sym (added_last new xs e)
-  after_setting_at (Some k) e =
-      let at = named key xs k e in
-      changed_is xs k at.0 at.1 (with_fields fields)
-      ∙ ap (λ name. slice_set xs k (attribute_of name fields)) at.2
-      ∙ sym (kept_place new xs k e)
+  after_setting_at place e = grind (arith, insert_end, added_last, named, kept_place)
 
   pub after_setting : attributes_after (step_at (attribute_place key xs)) xs ≡ with_attribute new xs
   after_setting = after_setting_at (attribute_place key xs) refl
@@ -80,27 +75,19 @@ module _ (c : Content) (key fields : List ℕ) where
   module _ (good : is_key key ≡ true) where
     module _ (written : are_fields fields ≡ true) where
       by_room : (room : Bool) → has_room ≡ room → judged_change c (SetAttribute key fields) ≡ told true true room
-      by_room room e =
-          ap (λ named. told named (are_fields fields) has_room) good
-          ∙ (ap (λ written. told true written has_room) written ∙ ap (told true true) e)
+      by_room room e = grind (arith, named)
 
       made : (place : Option ℕ) → judged c (Some (set_step place)) ≡ Ok (set_step place)
       unfolding step_checks
-      made None = refl
-      made (Some k) = refl
+      made place = grind arith
 
       judged_with : has_room ≡ true → (place : Option ℕ) → place ≡ attribute_place key c.attributes
           → Ok (set_step place) ≡ judged_change c (SetAttribute key fields)
-      judged_with room place at =
-          sym (by_room true room ∙ (ap (λ place. judged c (Some (set_step place))) (sym at) ∙ made place))
+      judged_with room place at = grind (arith, by_room, made)
 
       pub filled : (k : ℕ) → Some k ≡ attribute_place key c.attributes → AreAttributes c.attributes
           → Ok (SetFields k fields) ≡ judged_change c (SetAttribute key fields)
-      filled k at h =
-          let n = as_many c.attributes key fields k (sym at) in
-          let few = h.few in
-          judged_with (le-leb (length (with_attribute (attribute_of key fields) c.attributes)) attribute_limit (omega arith))
-          (Some k) at
+      filled k at h = grind (arith, as_many, judged_with, le-leb)
 
       module _ (at : None ≡ attribute_place key c.attributes) where
         more : length (with_attribute (attribute_of key fields) c.attributes) ≡ length c.attributes + 1
@@ -108,17 +95,10 @@ module _ (c : Content) (key fields : List ℕ) where
 
         pub put : length c.attributes < attribute_limit
             → Ok (PutAttribute (length c.attributes) (attribute_of key fields)) ≡ judged_change c (SetAttribute key fields)
-        put few =
-            let n = more in
-            judged_with
-            (le-leb (length (with_attribute (attribute_of key fields) c.attributes)) attribute_limit (omega arith)) None at
+        put few = grind (arith, more, judged_with, le-leb)
 
         pub too_many : attribute_limit ≤ length c.attributes → Err TooMuch ≡ judged_change c (SetAttribute key fields)
-        too_many many =
-            let n = more in
-            sym (by_room false (false_from_ne_true has_room (λ e.
-            let few = leb-true (length (with_attribute (attribute_of key fields) c.attributes)) attribute_limit e in
-            omega arith)))
+        too_many many = grind (arith, more, by_room, false_from_ne_true, leb-true)
 
 module _ (c : Content) (key : List ℕ) where
   abbrev drop_told : Bool → Option ℕ → Result Step EditFault
@@ -129,8 +109,7 @@ module _ (c : Content) (key : List ℕ) where
   module _ (good : is_key key ≡ true) where
     by_place : (place : Option ℕ) → place ≡ attribute_place key c.attributes
         → judged_change c (DropAttribute key) ≡ drop_told true place
-    by_place place at =
-        ap (λ named. drop_told named (attribute_place key c.attributes)) good ∙ ap (drop_told true) (sym at)
+    by_place place at = grind (arith, named)
 
     pub dropped : (k : ℕ) → Some k ≡ attribute_place key c.attributes → Ok (TakeAttribute k) ≡ judged_change c (DropAttribute key)
     unfolding step_checks

@@ -1,6 +1,7 @@
 -- Room on the sheets of a board, for what a group of steps inserts there.
-use Rattle.std.proofs.Common.{◌≡◌, ℕ, ◌<◌, ◌+◌, ◌≤◌, Bool, true, false, ◌&&◌, cond, eqb, List, [], ◌∷◌}
-use Rattle.std.proofs.Common.{◌++◌, length, count_by, Option, None, Some, refl, ap, subst, ◌∙◌, arith}
+use Rattle.std.proofs.lemmas.Grind.{common_steps}
+use Rattle.std.proofs.Common.{◌≡◌, ℕ, ◌<◌, ◌+◌, ◌≤◌, Bool, ◌&&◌, cond, eqb, List, [], ◌∷◌}
+use Rattle.std.proofs.Common.{◌++◌, length, count_by, Option, None, Some, refl, ap, ◌∙◌, arith}
 use Rattle.std.proofs.lemmas.Bool.{eq-eqb}
 use Rattle.std.proofs.lemmas.List.Sums.{sum_by-cons}
 use Rattle.std.proofs.lemmas.Option.{slice_get_within}
@@ -26,8 +27,7 @@ use Rattle.cam_units.specs.declared.bounds.Bounds.{Bounds}
 -- ---- room for what is counted is room for the steps
 joined_count : {X : Type 0} (p : X → Bool) (b : Bool) (x : X) (xs : List X)
     → count_by p (joined_if b x xs) ≡ cond (b && p x) 1 0 + count_by p xs
-joined_count p true x xs = sum_by-cons (λ y. cond (p y) 1 0) x xs
-joined_count p false x xs = omega arith
+joined_count p b x xs = grind (arith, common_steps, sum_by-cons)
 
 -- there are places for what the group inserts and puts on the sheet at a place
 abbrev HasCountedPlaces : ℕ → List BoardStep → SheetContent → Type 0
@@ -72,9 +72,7 @@ module _ (place : ℕ) where
       omega (arith, put_total_is (steps.Drill at step boxes) group, puts_counted group)
 
   room_counted : (group : List BoardStep) (c : SheetContent) → HasCountedPlaces place group c → HasRoomOn place group c
-  room_counted group (kept.Gerber layer) h =
-      (omega (arith, counted group, h.0), omega (arith, puts_counted group, h.1))
-  room_counted group (kept.Drill layer) h = let few = drill_counted group in omega arith
+  room_counted group c h = grind (arith, counted, puts_counted, drill_counted)
 
 -- the sheets before a place have room for what a group inserts on each
 abbrev pub HasPlacesBefore : ℕ → List BoardStep → List KeptSheet → Type 0
@@ -118,9 +116,7 @@ module _ (place : ℕ) (rest : List BoardStep) (boxes : Vec Bounds) where
       → content_of new ≡ after_on step (content_of old)
       → ((group : List Step) → HasPlacesFor (group ++ step ∷ []) old → HasPlacesFor group new)
       → HasRoomOn place (rest ++ steps.Gerber place step boxes ∷ []) old → HasRoomOn place rest new
-  room_here step (kept.Gerber old) (kept.Gerber new) fit is room h =
-      room (steps_on place rest)
-      (subst (λ (l : List Step). HasPlacesFor l (kept.Gerber old)) (steps_then step) h)
+  room_here step (kept.Gerber old) (kept.Gerber new) fit is room h = grind (arith, steps_then)
   room_here step (kept.Gerber old) (kept.Drill new) fit is room h = absurd cc
   room_here step (kept.Drill old) new fit is room h = absurd fit
 
@@ -130,9 +126,7 @@ module _ (place : ℕ) (rest : List BoardStep) (boxes : Vec Bounds) where
       → HasRoomOn place (rest ++ steps.Drill place step boxes ∷ []) old → HasRoomOn place rest new
   drill_room_here step (kept.Gerber old) new fit is room h = absurd fit
   drill_room_here step (kept.Drill old) (kept.Gerber new) fit is room h = absurd cc
-  drill_room_here step (kept.Drill old) (kept.Drill new) fit is room h =
-      room (drill_steps_on place rest)
-      (subst (λ (l : List DrillStep). HasDrillPlacesFor l (kept.Drill old)) (drill_steps_then step) h)
+  drill_room_here step (kept.Drill old) (kept.Drill new) fit is room h = grind (arith, drill_steps_then)
 
 pub room_for_rest : (rest : List BoardStep) (step : BoardStep) (xs : List KeptSheet) (k : ℕ) (s : KeptSheet)
     (new : SheetContent) → slice_get xs k ≡ Some s

@@ -8,11 +8,10 @@ use Rattle.std.specs.List.{slice_get, slice_set}
 use Rattle.std.specs.Option.{MatchOption, option_map}
 use Rattle.cam_edits.specs.declared.board.Sheet.{Sheet as KeptSheet}
 use Rattle.cam_edits.specs.declared.board.SheetContent.{SheetContent}
-use Rattle.cam_edits.specs.Boards.{changed_at, content_at, content_or_empty, with_content}
-use Rattle.cam_edits.specs.Machinery.BoardStepLaws.{of_each}
-use Rattle.cam_edits.specs.Machinery.PlaceLaws.{changed_is, found, within}
+use Rattle.cam_edits.specs.Boards.{changed_at, content_at, content_or_empty}
+use Rattle.cam_edits.specs.Machinery.PlaceLaws.{found, within}
 use Rattle.cam_edits.specs.Places.{HasAt}
-use Rattle.cam_edits.specs.Sheets.{Content, Sheet, content_of, sheet, sheet_of}
+use Rattle.cam_edits.specs.Sheets.{Content, Sheet, content_of, sheet_of}
 
 abbrev pub holding : KeptSheet → SheetContent → KeptSheet
 holding s content = record { name = s.name; content = content }
@@ -35,8 +34,7 @@ module _ (xs : List KeptSheet) (k : ℕ) (s : KeptSheet) where
   -- the same content with other room
   pub sheets_kept : (new : SheetContent) → s ≡ get_or xs k s → content_of new ≡ content_of s.content
       → map sheet_of (slice_set xs k (holding s new)) ≡ map sheet_of xs
-  sheets_kept new read same =
-      map-set_same sheet_of xs k (holding s new) s (ap (sheet s.name) same ∙ ap sheet_of read)
+  sheets_kept new read same = grind (arith, map-set_same)
 
   module _ (e : slice_get xs k ≡ Some s) where
     seen : slice_get (map sheet_of xs) k ≡ Some (sheet_of s)
@@ -51,10 +49,7 @@ module _ (xs : List KeptSheet) (k : ℕ) (s : KeptSheet) where
     pub sheets_changed : (change : Content → Content) (new : SheetContent)
         → content_of new ≡ change (content_of s.content)
         → map sheet_of (slice_set xs k (holding s new)) ≡ changed_at change k (map sheet_of xs)
-    sheets_changed change new is =
-        map-set sheet_of xs k (holding s new)
-        ∙ ap (λ (c : Content). slice_set (map sheet_of xs) k (sheet s.name c)) is
-        ∙ sym (changed_is (map sheet_of xs) k (sheet_of s) seen (with_content change))
+    sheets_changed change new is = grind (arith, map-set, seen)
 
 -- what holds of each element by its place, after one of them changes
 pub each_changed : {X : Type 0} (P Q : ℕ → X → Type 0) (xs : List X) (k : ℕ) (x y : X) → slice_get xs k ≡ Some x
@@ -63,8 +58,7 @@ pub each_changed : {X : Type 0} (P Q : ℕ → X → Type 0) (xs : List X) (k : 
     → (at : ℕ) → MatchOption (slice_get (slice_set xs k y) at) (Unit {0}) (Q at)
 each_changed P Q [] k x y e here others h at = absurd cc
 each_changed P Q (z ∷ xs) zero x y e here others h zero = let same : z ≡ x = cc in here (rw same at (h zero))
-each_changed P Q (z ∷ xs) zero x y e here others h (suc at) =
-    of_each (P (suc at)) (Q (suc at)) (λ w. others (suc at) w (omega arith)) (slice_get xs at) (h (suc at))
+each_changed P Q (z ∷ xs) zero x y e here others h (suc at) = grind arith
 each_changed P Q (z ∷ xs) (suc k) x y e here others h zero = others zero z (omega arith) (h zero)
 each_changed P Q (z ∷ xs) (suc k) x y e here others h (suc at) =
     each_changed (λ i. P (suc i)) (λ i. Q (suc i)) xs k x y e here

@@ -1,5 +1,5 @@
 -- Items with another aperture, polarity or tool: what they keep of the items before.
-use Rattle.std.proofs.Common.{◌≡◌, ℕ, ◌≤◌, Bool, List, [], length, Option, None, Some, reverse, refl, sym, subst, ◌∙◌}
+use Rattle.std.proofs.Common.{arith, ◌≡◌, ℕ, ◌≤◌, Bool, List, length, Option, refl, sym, subst}
 use Rattle.std.specs.List.{All}
 use Rattle.std.specs.Prelude.{IsTrue, is_some}
 use Rattle.std.proofs.lemmas.List.Elements.{All-cons, All-head, All-nil}
@@ -13,7 +13,6 @@ use Rattle.cam_objects.specs.declared.entry.Entry.{Entry}
 use Rattle.cam_objects.specs.declared.item.Item.{Item}
 use Rattle.cam_objects.specs.declared.item.Item.TheVariants.{One, Repeat}
 use Rattle.cam_objects.specs.declared.object.Object.{Object}
-use Rattle.cam_objects.specs.declared.object.Object.TheVariants.{Flash, Draw, Arc, Region}
 use Rattle.cam_objects.specs.Bounds.{bounds_of, box_of_shape}
 use Rattle.cam_objects.specs.Drilling.{diameter_of}
 use Rattle.cam_objects.specs.DrillSoundness.{IsSoundDrillItem, drill_count_of}
@@ -29,8 +28,7 @@ use Rattle.cam_objects.specs.Leaves.{
   origin,
   round_width,
 }
-use Rattle.cam_objects.specs.Soundness.{IsInside, IsSoundItem}
-use Rattle.cam_objects.specs.Soundness.{objects_of, points_of, segs_of}
+use Rattle.cam_objects.specs.Soundness.{IsInside, IsSoundItem, objects_of, points_of, segs_of}
 use Rattle.cam_objects.specs.Weights.{Weight, item_count, object_count, weight_in}
 use Rattle.cam_objects.proofs.BoardLeaves.{board_alike}
 use Rattle.cam_objects.proofs.PlacedBoxes.{box_of_leaves, flash_placed}
@@ -44,8 +42,7 @@ use Rattle.cam_objects.proofs.SoundItems.{HasRadius, IsDrawable, IsFormed, IsKno
 -- what holds of each object, changed
 each_kept : (f : Object → Object) (P : Object → Type 0) → ((o : Object) → P o → P (f o)) → (item : Item)
     → All P (objects_of item) → All P (objects_of (with_object f item))
-each_kept f P kept (One o) h = All-cons P (f o) [] (kept o (All-head P o [] h)) (All-nil P)
-each_kept f P kept (Repeat columns rows i j objects) h = h
+each_kept f P kept item h = grind (arith, All-cons, All-head, All-nil)
 
 -- ---- another polarity
 
@@ -56,25 +53,18 @@ module _ (dark : Bool) where
   module _ (m : Shape → Bounds) (so : IsPlacedSo m) (es : List (ℕ × Entry)) where
     drawn_box : (tip : Option Tip) (t : Turn) (from to : Point) (before : Bool)
         → box_of_leaves m (draw_leaves tip t from to dark) ≡ box_of_leaves m (draw_leaves tip t from to before)
-    drawn_box None t from to before = refl
-    drawn_box (Some tip) t from to before = refl
+    drawn_box tip t from to before = grind arith
 
     swept_box : (w : Option Nm) (from to centre : Point) (ccw before : Bool)
         → box_of_leaves m (arc_leaves w from to centre ccw dark)
         ≡ box_of_leaves m (arc_leaves w from to centre ccw before)
-    swept_box None from to centre ccw before = refl
-    swept_box (Some w) from to centre ccw before = refl
+    swept_box w from to centre ccw before = grind arith
 
     -- what paints the same shapes has the same box
     inked_box : (o : Object)
         → box_of_leaves m (object_leaves (meaning_in es) origin (inked o))
         ≡ box_of_leaves m (object_leaves (meaning_in es) origin o)
-    inked_box (Flash n at t before) =
-        flash_placed m so (reverse es) n (flashed origin at t dark)
-        ∙ sym (flash_placed m so (reverse es) n (flashed origin at t before))
-    inked_box (Draw n from to t before) = drawn_box (meaning_in es n).tip _ _ _ before
-    inked_box (Arc ccw before n from to centre) = swept_box (round_width (meaning_in es n).tip) _ _ _ _ before
-    inked_box (Region contour before) = refl
+    inked_box o = grind (arith, flash_placed, drawn_box, swept_box)
 
   pub box_with_polarity : (es : List (ℕ × Entry)) (item : Item)
       → bounds_of (item_leaves (meaning_in es) (with_object inked item)) ≡ bounds_of (item_leaves (meaning_in es) item)
@@ -82,50 +72,28 @@ module _ (dark : Bool) where
   box_with_polarity es (Repeat columns rows i j objects) = refl
 
   formed : (o : Object) → IsFormed o → IsFormed (inked o)
-  formed (Flash n at t before) h = refl
-  formed (Draw n from to t before) h = refl
-  formed (Arc ccw before n from to centre) h = refl
-  formed (Region contour before) h = h
+  formed o h = grind arith
 
   known : (es : List (ℕ × Entry)) (o : Object) → IsKnown es o → IsKnown es (inked o)
-  known es (Flash n at t before) h = h
-  known es (Draw n from to t before) h = h
-  known es (Arc ccw before n from to centre) h = h
-  known es (Region contour before) h = refl
+  known es o h = grind arith
 
   drawable : (means : ℕ → Meaning) (o : Object) → IsDrawable means o → IsDrawable means (inked o)
-  drawable means (Flash n at t before) h = refl
-  drawable means (Draw n from to t before) h = h
-  drawable means (Arc ccw before n from to centre) h = h
-  drawable means (Region contour before) h = refl
+  drawable means o h = grind arith
 
   radius : (o : Object) → HasRadius o → HasRadius (inked o)
-  radius (Flash n at t before) h = refl
-  radius (Draw n from to t before) h = refl
-  radius (Arc ccw before n from to centre) h = h
-  radius (Region contour before) h = h
+  radius o h = grind arith
 
   stands : (o : Object) → All IsOnBoard (points_of o) → All IsOnBoard (points_of (inked o))
-  stands (Flash n at t before) h = h
-  stands (Draw n from to t before) h = h
-  stands (Arc ccw before n from to centre) h = h
-  stands (Region contour before) h = h
+  stands o h = grind arith
 
   few_segs : (o : Object) → length (segs_of o) ≤ 1000000 → length (segs_of (inked o)) ≤ 1000000
-  few_segs (Flash n at t before) h = h
-  few_segs (Draw n from to t before) h = h
-  few_segs (Arc ccw before n from to centre) h = h
-  few_segs (Region contour before) h = h
+  few_segs o h = grind arith
 
   counted : (w : ℕ → Weight) (o : Object) → object_count w (inked o) ≡ object_count w o
-  counted w (Flash n at t before) = refl
-  counted w (Draw n from to t before) = refl
-  counted w (Arc ccw before n from to centre) = refl
-  counted w (Region contour before) = refl
+  counted w o = grind arith
 
   pub count_with_polarity : (w : ℕ → Weight) (item : Item) → item_count w (with_object inked item) ≡ item_count w item
-  count_with_polarity w (One o) = counted w o
-  count_with_polarity w (Repeat columns rows i j objects) = refl
+  count_with_polarity w item = grind (arith, counted)
 
   inside : (es : List (ℕ × Entry)) (o : Object) → IsInside es (One o) → IsInside es (One (inked o))
   inside es o h =
@@ -157,14 +125,12 @@ module _ (dark : Bool) where
 
   pub sound_with_polarity : (es : List (ℕ × Entry)) (item : Item) → IsSoundItem es item
       → IsSoundItem es (with_object inked item)
-  sound_with_polarity es (One o) h = object_with_polarity es o h
-  sound_with_polarity es (Repeat columns rows i j objects) h = h
+  sound_with_polarity es item h = grind (arith, object_with_polarity)
 
 -- ---- another tool
 
 pub count_with_tool : (t : ℕ) (item : DrillItem) → drill_count_of (with_tool t item) ≡ drill_count_of item
-count_with_tool t (Hit before at) = refl
-count_with_tool t (Rout before points) = refl
+count_with_tool t item = grind arith
 
 -- a sound item with another tool that there is is sound
 pub sound_with_tool : (ts : List (ℕ × Nm)) (t : ℕ) (item : DrillItem) → IsTrue (is_some (diameter_of ts t))

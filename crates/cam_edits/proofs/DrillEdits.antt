@@ -1,6 +1,6 @@
 -- How edits of a drill layer are judged, and that those without a refusal fit.
-use Rattle.std.proofs.Common.{◌≡◌, ◌↔◌, ℕ, ◌≤◌, Bool, true, false, not, cond, nat_le, nat_lt, IsTrue, List, [], ◌∷◌, ◌++◌}
-use Rattle.std.proofs.Common.{length, max, sum_by, Option, None, Some, Result, Ok, Err, ap, sym, subst, ◌∙◌, arith}
+use Rattle.std.proofs.Common.{◌≡◌, ◌↔◌, ℕ, ◌≤◌, Bool, true, false, not, cond, nat_le, IsTrue, List, [], ◌∷◌, ◌++◌}
+use Rattle.std.proofs.Common.{length, max, sum_by, Option, None, Some, Result, Ok, Err, ap, sym, ◌∙◌, arith}
 use Rattle.std.specs.Prelude.{insert, slice_get}
 use Rattle.std.specs.List.{All}
 use Rattle.std.proofs.lemmas.Bool.{false_from_ne_true, leb-true}
@@ -12,7 +12,7 @@ use Rattle.cam_units.specs.Board.{IsOnBoard}
 use Rattle.cam_units.specs.declared.point.Point.{Point}
 use Rattle.cam_objects.specs.Contents.{DrillContent}
 use Rattle.cam_objects.specs.DrillSoundness.{IsSoundDrillContent, IsSoundDrillItem, KeepsDrillLimits, drill_count_of}
-use Rattle.cam_objects.specs.DrillSoundness.{drill_item_checks, drill_points_of, keeps_drill_limits, tool_of}
+use Rattle.cam_objects.specs.DrillSoundness.{drill_item_checks, drill_points_of, keeps_drill_limits}
 use Rattle.cam_objects.specs.Soundness.{are_on_board}
 use Rattle.cam_objects.specs.Shifting.{IsMove, shifted_drill_item}
 use Rattle.cam_objects.specs.declared.drill_item.DrillItem.{DrillItem}
@@ -21,7 +21,7 @@ use Rattle.cam_edits.specs.declared.drill_step.DrillStep.{DrillStep}
 use Rattle.cam_edits.specs.declared.drill_step.DrillStep.TheVariants.{Insert, Delete, Move, Reorder, Tool, Diameter}
 use Rattle.cam_edits.specs.declared.fault.EditFault.TheVariants.{NoItem, OutOfBoard}
 use Rattle.cam_edits.specs.DrillSteps.{IsDrillFit}
-use Rattle.cam_edits.specs.Editing.{drill_step_checks, has_tool, move_drill_checks}
+use Rattle.cam_edits.specs.Editing.{drill_step_checks, move_drill_checks}
 use Rattle.cam_edits.specs.Machinery.Judging.{drill_step_answer, item_answer, place_answer}
 use Rattle.cam_edits.specs.Moving.{IsMovableDrillItem, way}
 use Rattle.cam_objects.proofs.SoundItems.{none_told}
@@ -38,22 +38,11 @@ module _ (xs : List DrillItem) (k : ℕ) (item : DrillItem) (within : k ≤ leng
   same_length = omega (arith, length-append xs (item ∷ []), length-insert xs k item within)
 
   same_count : sum_by drill_count_of (xs ++ item ∷ []) ≡ sum_by drill_count_of (insert xs k item)
-  same_count =
-      let count : DrillItem → ℕ = drill_count_of in
-      omega (arith, sum_by-append count xs (item ∷ []), sum_by-cons count item [], sum_by-insert count xs k item)
+  same_count = grind (arith, sum_by-append, sum_by-cons, sum_by-insert)
 
   -- they do not depend on its place
   limits_anywhere : KeepsDrillLimits (xs ++ item ∷ []) ↔ KeepsDrillLimits (insert xs k item)
-  limits_anywhere = (
-    λ h. record {
-      few = subst (λ n. n ≤ 1000000) same_length h.few;
-      leaves = subst (λ n. n ≤ 4000000) same_count h.leaves;
-    },
-    λ h. record {
-      few = subst (λ n. n ≤ 1000000) (sym same_length) h.few;
-      leaves = subst (λ n. n ≤ 4000000) (sym same_count) h.leaves;
-    },
-  )
+  limits_anywhere = grind (arith, same_length, same_count)
 
 module _ (c : DrillContent) where
   -- ---- insertions
@@ -65,21 +54,11 @@ module _ (c : DrillContent) where
 
     insertion_is : drill_step_answer c (Insert k item) ≡ item_answer told has_place room_there
     unfolding drill_step_checks drill_item_checks
-    insertion_is =
-        let points = drill_points_of item in
-        ap answer_of
-        (in_one_drill_order (nat_lt 0 (length points)) (nat_le k (length c.items)) (has_tool c (tool_of item))
-        (are_on_board points) (nat_le (length points) 1000000) room_there)
-        ∙ (ap (λ r. item_answer r (nat_le k (length c.items)) room_there) (sym tells)
-        ∙ ap (λ p. item_answer told p room_there) (sym at))
+    insertion_is = grind (arith, in_one_drill_order)
 
     module _ (room : Bool) (kept : IsTrue room ↔ KeepsDrillLimits (c.items ++ item ∷ [])) where
       same_room : has_place ≡ true → room_there ≡ room
-      same_room there =
-          let within : k ≤ length c.items = leb-true k (length c.items) (sym at ∙ there) in
-          let anywhere = limits_anywhere c.items k item within in
-          let law = limit_law.drill_layer (insert c.items k item) in
-          same_test room_there room (λ t. anywhere.1 (law.0 t), λ h. law.1 (anywhere.0 h)) kept
+      same_room there = grind (arith, leb-true, limits_anywhere, limit_law, same_test)
 
       pub inserted : item_answer told has_place room ≡ drill_step_answer c (Insert k item)
       inserted = sym (insertion_is ∙ by_room told has_place room_there room same_room)
@@ -93,9 +72,7 @@ module _ (c : DrillContent) where
   pub reordered : (count k m : ℕ) → count ≡ length c.items
       → place_answer count (max k m) ≡ drill_step_answer c (Reorder k m)
   unfolding drill_step_checks
-  reordered count k m e =
-      ap (λ n. place_answer n (max k m)) e
-      ∙ ap (λ b. answer_of (first_holding ((NoItem, not b) ∷ []))) (farther_place k m (length c.items))
+  reordered count k m e = grind (arith, farther_place)
 
   -- ---- moves
 

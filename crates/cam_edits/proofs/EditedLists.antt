@@ -45,14 +45,7 @@ module _ {X : Type 0} where
 
   module _ (before after : List X) where
     pub length_behind : (x : X) → length (before ++ x ∷ after) ≡ length ((before ++ after) ++ x ∷ [])
-    length_behind x =
-        omega (
-          arith,
-          length-append before (x ∷ after),
-          length-append before after,
-          length-append (before ++ after)
-              (x ∷ []),
-        )
+    length_behind x = grind (arith, length-append)
 
     pub length_of_other : (x y : X) → length (before ++ x ∷ after) ≡ length (before ++ y ∷ after)
     length_of_other x y = omega (arith, length-append before (x ∷ after), length-append before (y ∷ after))

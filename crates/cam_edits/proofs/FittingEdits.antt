@@ -1,12 +1,9 @@
 -- Edits of a Gerber layer that are not refused: their steps fit.
-use Rattle.std.proofs.Common.{◌≡◌, true}
-use Rattle.std.proofs.Common.{Option, None, Some, Ok, refl}
+use Rattle.std.proofs.Common.{arith, ◌≡◌, true, Option, None, Some, Ok, refl}
 use Rattle.cam_refusals.specs.Checks.{first_holding}
 use Rattle.cam_objects.specs.Contents.{Content}
 use Rattle.cam_objects.specs.Soundness.{IsSoundContent, IsSoundItem}
 use Rattle.cam_objects.specs.declared.item.Item.{Item}
-use Rattle.cam_objects.specs.declared.item.Item.TheVariants.{One, Repeat}
-use Rattle.cam_objects.specs.declared.object.Object.TheVariants.{Flash, Draw, Arc, Region}
 use Rattle.cam_objects.proofs.SoundItems.{none_told}
 use Rattle.cam_edits.specs.declared.edit.Change.{Change}
 use Rattle.cam_edits.specs.declared.fault.EditFault.{EditFault}
@@ -14,8 +11,7 @@ use Rattle.cam_edits.specs.declared.step.Step.{Step}
 use Rattle.cam_edits.specs.declared.step.Step.TheVariants.{Insert, Delete, Move, Reorder, Aperture, Polarity}
 use Rattle.cam_edits.specs.declared.step.Step.TheVariants.{PutAttribute, TakeAttribute, SetFields}
 use Rattle.cam_edits.specs.AttributeEdits.{attribute_checks}
-use Rattle.cam_edits.specs.Editing.{has_aperture, has_polarity, judged, judged_change}
-use Rattle.cam_edits.specs.Editing.{judged_unless, step_checks, step_of}
+use Rattle.cam_edits.specs.Editing.{has_aperture, has_polarity, judged, judged_change, judged_unless, step_checks, step_of}
 use Rattle.cam_edits.specs.Machinery.Judging.{IsItemStep, step_answer}
 use Rattle.cam_edits.specs.Moving.{IsMovableItem, way}
 use Rattle.cam_edits.specs.Steps.{HasAperture, IsFit, IsOne}
@@ -28,15 +24,10 @@ module _ (c : Content) where
   -- ---- an edit of items
 
   one_aperture : (x : Item) → has_aperture x ≡ true → IsOne HasAperture x
-  one_aperture (One (Flash m at t dark)) e = tt
-  one_aperture (One (Draw m from to t dark)) e = tt
-  one_aperture (One (Arc ccw dark m from to centre)) e = tt
-  one_aperture (One (Region contour dark)) e = absurd cc
-  one_aperture (Repeat columns rows i j objects) e = absurd cc
+  one_aperture x e = grind arith
 
   one_object : (x : Item) → has_polarity x ≡ true → IsOne (λ _. Unit {0}) x
-  one_object (One object) e = tt
-  one_object (Repeat columns rows i j objects) e = absurd cc
+  one_object x e = grind arith
 
   fits : (step : Step) → IsItemStep step → IsSoundContent c.entries c.items → IsMet c step → IsFit step c
   fits (Insert k item) is h m = m.0
@@ -65,12 +56,10 @@ module _ (c : Content) where
     answered : (o : Option EditFault) → first_holding (attribute_checks c.attributes change) ≡ o
         → judged_unless c o (step_of c.attributes change) ≡ Ok step
         → (o ≡ None) × (judged c (step_of c.attributes change) ≡ Ok step)
-    answered None is e = (refl, e)
-    answered (Some fault) is e = absurd cc
+    answered o is e = grind arith
 
     pub not_refused : first_holding (attribute_checks c.attributes change) ≡ None
     not_refused = (answered (first_holding (attribute_checks c.attributes change)) refl e).0
 
     pub change_accepted : (step_of c.attributes change ≡ Some step) × (first_holding (step_checks c step) ≡ None)
-    change_accepted =
-        accepted (step_checks c) (step_of c.attributes change) step (answered (first_holding (attribute_checks c.attributes change)) refl e).1
+    change_accepted = grind (arith, accepted, answered)

@@ -1,6 +1,6 @@
 -- How edits of a Gerber layer are judged.
 use Rattle.std.proofs.Common.{◌≡◌, ◌↔◌, ℕ, ◌≤◌, Bool, true, false, ◌&&◌, not, cond, nat_le, IsTrue, List, [], ◌∷◌, ◌++◌}
-use Rattle.std.proofs.Common.{length, max, sum_by, Option, None, Some, Result, Ok, Err, refl, ap, sym, subst, ◌∙◌, arith}
+use Rattle.std.proofs.Common.{length, max, sum_by, Option, None, Some, Result, Ok, Err, ap, sym, ◌∙◌, arith}
 use Rattle.std.specs.Prelude.{insert, slice_get, slice_set}
 use Rattle.std.proofs.lemmas.Bool.{false_from_ne_true, leb-true}
 use Rattle.std.proofs.lemmas.List.{length-append}
@@ -15,18 +15,14 @@ use Rattle.cam_objects.specs.Soundness.{is_formed_item, is_inside, is_known_item
 use Rattle.cam_objects.specs.Weights.{item_count, weight_in}
 use Rattle.cam_objects.specs.declared.entry.Entry.{Entry}
 use Rattle.cam_objects.specs.declared.item.Item.{Item}
-use Rattle.cam_objects.specs.declared.item.Item.TheVariants.{One, Repeat}
 use Rattle.cam_objects.specs.declared.item_fault.ItemFault.{ItemFault}
-use Rattle.cam_objects.specs.declared.object.Object.TheVariants.{Flash, Draw, Arc, Region}
 use Rattle.cam_edits.specs.declared.fault.EditFault.{EditFault}
 use Rattle.cam_edits.specs.declared.fault.EditFault.TheVariants.{NoItem, HasNone, NoAperture, WrongAperture, SizeRefused}
 use Rattle.cam_edits.specs.declared.fault.EditFault.TheVariants.{OutOfBoard, TooMuch}
 use Rattle.cam_edits.specs.declared.step.Step.{Step}
 use Rattle.cam_edits.specs.declared.step.Step.TheVariants.{Insert, Delete, Move, Reorder, Aperture, Polarity}
-use Rattle.cam_edits.specs.Editing.{aperture_checks, has_aperture, has_polarity, move_checks, polarity_checks}
-use Rattle.cam_edits.specs.Editing.{step_checks}
-use Rattle.cam_edits.specs.Machinery.Judging.{item_answer, other_aperture}
-use Rattle.cam_edits.specs.Machinery.Judging.{place_answer, step_answer}
+use Rattle.cam_edits.specs.Editing.{aperture_checks, has_aperture, has_polarity, move_checks, polarity_checks, step_checks}
+use Rattle.cam_edits.specs.Machinery.Judging.{item_answer, other_aperture, place_answer, step_answer}
 use Rattle.cam_edits.specs.Places.{changed, changed_to}
 use Rattle.cam_edits.specs.Steps.{with_aperture, with_object}
 use Rattle.cam_objects.proofs.TestLaws.{inside_law, limit_law, same_test}
@@ -44,52 +40,26 @@ module _ (es : List (ℕ × Entry)) (xs : List Item) (k : ℕ) (item : Item) (wi
   same_length = omega (arith, length-append xs (item ∷ []), length-insert xs k item within)
 
   same_weight : sum_by weight (xs ++ item ∷ []) ≡ sum_by weight (insert xs k item)
-  same_weight =
-      omega (arith, sum_by-append weight xs (item ∷ []), sum_by-cons weight item [], sum_by-insert weight xs k item)
+  same_weight = grind (arith, sum_by-append, sum_by-cons, sum_by-insert)
 
   -- they do not depend on its place
   limits_anywhere : KeepsLimits es (xs ++ item ∷ []) ↔ KeepsLimits es (insert xs k item)
-  limits_anywhere = (
-    λ h. record {
-      few = subst (λ n. n ≤ 1000000) same_length h.few;
-      leaves = subst (λ n. n ≤ 4000000) same_weight h.leaves;
-    },
-    λ h. record {
-      few = subst (λ n. n ≤ 1000000) (sym same_length) h.few;
-      leaves = subst (λ n. n ≤ 4000000) (sym same_weight) h.leaves;
-    },
-  )
+  limits_anywhere = grind (arith, same_length, same_weight)
 
 -- ---- items with another aperture
 
 set_is : (n : ℕ) (x y : Item) → other_aperture n x ≡ Some y → y ≡ with_object (with_aperture n) x
-set_is n (One (Flash m at t dark)) y e = cc
-set_is n (One (Draw m from to t dark)) y e = cc
-set_is n (One (Arc ccw dark m from to centre)) y e = cc
-set_is n (One (Region contour dark)) y e = absurd cc
-set_is n (Repeat columns rows i j objects) y e = absurd cc
+set_is n x y e = grind arith
 
 has_one : (n : ℕ) (x y : Item) → other_aperture n x ≡ Some y → has_aperture x ≡ true
-has_one n (One (Flash m at t dark)) y e = refl
-has_one n (One (Draw m from to t dark)) y e = refl
-has_one n (One (Arc ccw dark m from to centre)) y e = refl
-has_one n (One (Region contour dark)) y e = absurd cc
-has_one n (Repeat columns rows i j objects) y e = absurd cc
+has_one n x y e = grind arith
 
 has_none : (n : ℕ) (x : Item) → other_aperture n x ≡ None → has_aperture x ≡ false
-has_none n (One (Flash m at t dark)) e = absurd cc
-has_none n (One (Draw m from to t dark)) e = absurd cc
-has_none n (One (Arc ccw dark m from to centre)) e = absurd cc
-has_none n (One (Region contour dark)) e = refl
-has_none n (Repeat columns rows i j objects) e = refl
+has_none n x e = grind arith
 
 -- it is not malformed
 pub set_formed : (n : ℕ) (x : Item) → has_aperture x ≡ true → is_formed_item (with_object (with_aperture n) x) ≡ true
-set_formed n (One (Flash m at t dark)) e = refl
-set_formed n (One (Draw m from to t dark)) e = refl
-set_formed n (One (Arc ccw dark m from to centre)) e = refl
-set_formed n (One (Region contour dark)) e = absurd cc
-set_formed n (Repeat columns rows i j objects) e = absurd cc
+set_formed n x e = grind arith
 
 module _ (c : Content) where
   -- ---- insertions
@@ -101,13 +71,7 @@ module _ (c : Content) where
 
     insertion_is : step_answer c (Insert k item) ≡ item_answer told has_place room_there
     unfolding step_checks item_checks
-    insertion_is =
-        ap answer_of
-        (in_one_order (is_formed_item item) (nat_le k (length c.items)) (is_known_item c.entries item)
-        (is_drawable_item c.entries item) (has_radii item) (is_inside c.entries item) (is_within_limits c.entries item)
-        room_there)
-        ∙ (ap (λ r. item_answer r (nat_le k (length c.items)) room_there) (sym tells)
-        ∙ ap (λ p. item_answer told p room_there) (sym at))
+    insertion_is = grind (arith, in_one_order)
 
     module _ (room : Bool) (kept : IsTrue room ↔ KeepsLimits c.entries (c.items ++ item ∷ [])) where
       same_room : has_place ≡ true → room_there ≡ room
@@ -128,9 +92,7 @@ module _ (c : Content) where
 
   pub reordered : (count k m : ℕ) → count ≡ length c.items → place_answer count (max k m) ≡ step_answer c (Reorder k m)
   unfolding step_checks
-  reordered count k m e =
-      ap (λ n. place_answer n (max k m)) e
-      ∙ ap (λ b. answer_of (first_holding ((NoItem, not b) ∷ []))) (farther_place k m (length c.items))
+  reordered count k m e = grind (arith, farther_place)
 
   -- ---- moves
 
@@ -236,8 +198,7 @@ module _ (c : Content) where
 
         pub aperture_changed : (room : Bool) → IsTrue room ↔ KeepsLimits c.entries set
             → item_answer told true room ≡ step_answer c aperture
-        aperture_changed room kept =
-            sym (aperture_is ∙ ap (by_check told) (same_test _ room (limit_law.layer c.entries set) kept))
+        aperture_changed room kept = grind (arith, aperture_is, same_test, limit_law)
 
   -- ---- polarities
 

@@ -104,13 +104,7 @@ module _ (by : Point) where
   -- an object of the board that is moved on the board goes no long way
   short_object : (o : Object) → All IsOnBoard (points_of o) → All IsOnBoard (points_of (shifted_object by o))
       → IsMove by
-  short_object (Flash n at t dark) h k = short_first at [] [] h k
-  short_object (Draw n from to t dark) h k = short_first from (to ∷ []) (shifted_point by to ∷ []) h k
-  short_object (Arc ccw dark n from to centre) h k =
-      short_first from (to ∷ centre ∷ []) (shifted_point by to ∷ shifted_point by centre ∷ []) h k
-  short_object (Region contour dark) h k =
-      short_first contour.start (flat_map points_of_seg contour.segs)
-      (flat_map points_of_seg (map (shifted_seg by) contour.segs)) h k
+  short_object o h k = grind arith
 
   -- ---- items
 
@@ -129,24 +123,18 @@ module _ (by : Point) where
   short_objects : (os : List Object) → 0 < length os → All AreStanding os → All AreStanding (map (shifted_object by) os)
       → IsMove by
   short_objects [] some h k = absurd (omega arith)
-  short_objects (o ∷ os) some h k =
-      short_object o (All-head AreStanding o os h)
-      (All-head AreStanding (shifted_object by o) (map (shifted_object by) os) k)
+  short_objects (o ∷ os) some h k = grind (arith, short_object, All-head)
 
   module _ (es : List (ℕ × Entry)) where
     -- a sound item that is moved on the board goes no long way
     pub short_item : (item : Item) → IsSoundItem es item → IsInside es (shifted_item by item) → IsMove by
     short_item (One o) h inside = short_objects (o ∷ []) (omega arith) (meets es (One o) h).inside.points inside.points
-    short_item (Repeat columns rows i j os) h inside =
-        let m = meets es (Repeat columns rows i j os) h in short_objects os m.repeated.1 m.inside.points inside.points
+    short_item (Repeat columns rows i j os) h inside = grind (arith, meets, short_objects)
 
     -- and can be moved back
     pub movable_item : (item : Item) → IsSoundItem es item → IsInside es (shifted_item by item) → IsMovableItem by item
-    movable_item (One o) h inside =
-        movable_object o (All-head AreStanding o [] (meets es (One o) h).inside.points)
-        (All-head AreStanding (shifted_object by o) [] inside.points)
-    movable_item (Repeat columns rows i j os) h inside =
-        movable_objects os (meets es (Repeat columns rows i j os) h).inside.points inside.points
+    movable_item (One o) h inside = grind (arith, movable_object, All-head, meets)
+    movable_item (Repeat columns rows i j os) h inside = grind (arith, movable_objects, meets)
 
   -- ---- drill items
 

@@ -1,6 +1,6 @@
 -- the tools of items, kept beside a drill layer, and what a tool's diameter changes
-use Rattle.std.proofs.Common.{◌≡◌, ◌∙◌, ℕ, ℤ, ◌+◌, ◌<◌, ◌≤◌, ◌⊎◌, inl, inr, List, length, get_or, insert, remove, slice_index, slice_set, take, None, Some}
-use Rattle.std.proofs.Common.{zero, suc, Option, false, cond, nat_eq, ap, refl, subst, sym, arith}
+use Rattle.std.proofs.Common.{◌≡◌, ◌∙◌, ℕ, ◌+◌, ◌<◌, ◌≤◌, ◌⊎◌, inl, inr, List, length, get_or, insert, remove, slice_index, slice_set, take, None, Some}
+use Rattle.std.proofs.Common.{zero, suc, false, cond, nat_eq, ap, refl, subst, sym, arith}
 use Rattle.std.specs.Prelude.{IsSome}
 use Rattle.std.specs.Cmp.{nat_eq_equiv}
 use Rattle.std.specs.Map.{set_value}
@@ -12,12 +12,9 @@ use Rattle.std.proofs.lemmas.List.Edits.{get_or-insert_at, length-insert, length
 use Rattle.cam_units.specs.declared.bounds.Bounds.{Bounds}
 use Rattle.cam_units.specs.declared.bounds.Bounds.TheVariants.{Empty}
 use Rattle.cam_units.specs.declared.length.Nm.{Nm}
-use Rattle.cam_units.specs.declared.point.Spot.{Spot}
-use Rattle.cam_objects.specs.Cells.{AreBeside, AreCellsOf, IsSide, Reaches, bottom_of, box_at, drill_item_boxes, left_of}
-use Rattle.cam_objects.specs.Cells.{right_of, top_of}
-use Rattle.cam_objects.specs.Bounds.{bounds_of}
+use Rattle.cam_objects.specs.Cells.{AreCellsOf, Reaches, box_at, drill_item_boxes}
 use Rattle.cam_objects.specs.DrillSoundness.{tool_of}
-use Rattle.cam_objects.specs.Drilling.{diameter_of, leaves_with}
+use Rattle.cam_objects.specs.Drilling.{diameter_of}
 use Rattle.cam_objects.specs.declared.drill_item.DrillItem.{DrillItem}
 use Rattle.cam_objects.specs.declared.drill_layer.DrillLayer.{DrillLayer}
 use Rattle.cam_objects.proofs.KeptBoxes.{beside_carried, beside_inserted, beside_removed, beside_set}
@@ -51,30 +48,19 @@ module _ (old xs ys : List ℕ) (known : AreToolsOf xs old) where
   pub tools_carried : (from to v : ℕ) (new : List ℕ) → IsEdited (Some from) (Some to) xs ys → v ≡ get_or ys to 0
       → (from < length old → to < length old → new ≡ insert (remove old from) to v)
       → ((length old ≤ from) ⊎ (length old ≤ to) → new ≡ take to (take from old)) → AreToolsOf ys new
-  tools_carried from to v new edit read came behind =
-      let x = edit.2.0 in
-      let fewer = length-remove xs from edit.0 in
-      let fits : to ≤ length (remove xs from) = omega (arith, fewer, edit.1) in
-      let here : v ≡ x = read ∙ ap (λ l. get_or l to 0) edit.2.1 ∙ get_or-insert_at (remove xs from) to x 0 fits in
-      subst (λ l. AreToolsOf l new) (sym edit.2.1)
-      (beside_carried Is 0 xs old known from to x v new edit.0 edit.1 here came behind)
+  tools_carried from to v new edit read came behind = grind (arith, length-remove, get_or-insert_at, beside_carried)
 
   pub tools_inserted : (to v : ℕ) (new : List ℕ) → IsEdited None (Some to) xs ys → v ≡ get_or ys to 0
       → (new ≡ take (length new) (insert old to v)) × ((length old < to) → new ≡ old) → AreToolsOf ys new
-  tools_inserted to v new edit read came =
-      let x = edit.1.0 in
-      let here : v ≡ x = read ∙ ap (λ l. get_or l to 0) edit.1.1 ∙ get_or-insert_at xs to x 0 edit.0 in
-      subst (λ l. AreToolsOf l new) (sym edit.1.1) (beside_inserted Is 0 xs old known to x v new edit.0 here came)
+  tools_inserted to v new edit read came = grind (arith, get_or-insert_at, beside_inserted)
 
   pub tools_removed : (from : ℕ) (new : List ℕ) → IsEdited (Some from) None xs ys
       → ((from < length old → new ≡ remove old from) × (length old ≤ from → new ≡ old)) → AreToolsOf ys new
-  tools_removed from new edit went =
-      subst (λ l. AreToolsOf l new) (sym edit.1) (beside_removed Is 0 xs old known from new edit.0 went)
+  tools_removed from new edit went = grind (arith, beside_removed)
 
 pub were_tools : (shift : Shift) (xs ys : List DrillItem) (numbers : List ℕ) → IsShift shift xs ys
     → AreToolsOf (tools_of xs) numbers → WereTools shift numbers (tools_of ys)
-were_tools shift xs ys numbers shifted known =
-    record { before = tools_of xs; known = known; edit = edit_read tool_of shift.from shift.to xs ys shifted }
+were_tools shift xs ys numbers shifted known = grind (arith, edit_read)
 
 pub new_within : (to : ℕ) (xs ys : List ℕ) → IsEdited None (Some to) xs ys → to < length ys
 new_within to xs ys edit = omega (arith, length-insert xs to edit.1.0 edit.0, ap length edit.1.1, edit.0)
@@ -84,8 +70,7 @@ new_within to xs ys edit = omega (arith, length-insert xs to edit.1.0 edit.0, ap
 pub other_tools : (tools numbers : List ℕ) (place next t : ℕ) → AreToolsOf tools numbers
     → ((k : ℕ) → place ≤ k → k < next → (k < length numbers) × (slice_index numbers k ≡ t → ⊥))
     → (k : ℕ) → place ≤ k → k < next → k < length tools → slice_index tools k ≡ t → ⊥
-other_tools tools numbers place next t known passed k from until listed is =
-    let p = passed k from until in p.1 (known.each k listed p.0 ∙ is)
+other_tools tools numbers place next t known passed k from until listed is = grind arith
 
 -- ---- the items of a tool are read anew
 
@@ -138,21 +123,7 @@ module _ (t : ℕ) (layer : DrillLayer) (cells : Reaches) (place : ℕ) (was : A
       }
 
   pub renewed_all : length layer.items.items ≤ place → AreCellsOf (boxes_in layer) cells
-  renewed_all past =
-      let side : (f : Spot → Spot → ℤ) (ns : List ℕ) → AreBeside (IsSide f) Empty was.boxes ns
-      → AreBeside (IsSide f) Empty (boxes_in layer) ns =
-      λ f ns before. record {
-        each = λ k listed there.
-            let item : k < length layer.items.items = omega (arith, listed, length-map {B = Bounds} layer.items.items) in
-            subst (λ b. IsSide f b (get_or ns k 0)) (was.until k (omega (arith, item, past)) item)
-            (before.each k (omega (arith, item, was.many)) there);
-      } in
-      record {
-        left = side left_of cells.left was.known.left;
-        bottom = side bottom_of cells.bottom was.known.bottom;
-        right = side right_of cells.right was.known.right;
-        top = side top_of cells.top was.known.top;
-      }
+  renewed_all past = grind (arith, length-map)
 
 -- ---- what a diameter leaves alone
 
@@ -165,11 +136,7 @@ other_diameter ts t k d there other =
 
 other_box : (ts : List (ℕ × Nm)) (t : ℕ) (d : Nm) (item : DrillItem) → IsSome (diameter_of ts t) → (tool_of item ≡ t → ⊥)
     → drill_box ts item ≡ drill_box (set_value (nat_eq t) ts d) item
-other_box ts t d item there other =
-    let after = set_value (nat_eq t) ts d in
-    ap bounds_of (leaves_of_item ts item
-    ∙ ap (λ (o : Option Nm). leaves_with o item) (sym (other_diameter ts t (tool_of item) d there other))
-    ∙ sym (leaves_of_item after item))
+other_box ts t d item there other = grind (arith, leaves_of_item, other_diameter)
 
 pub unsized_cells : (kept : Kept) (t : ℕ) (d : Nm) (layer : DrillLayer) → WasKeptUnsized kept t d layer
     → AreRenewedUntil 0 t layer kept.cells
@@ -198,8 +165,7 @@ pub boxes_past : (ts : List (ℕ × Nm)) (t : ℕ) (d : Nm) (items : List DrillI
     → m ≤ length items → ((k : ℕ) → n ≤ k → k < m → slice_index (tools_of items) k ≡ t → ⊥)
     → (boxes : List Bounds) → boxes ≡ boxes_of_items ts t d (take n items)
     → boxes ≡ boxes_of_items ts t d (take m items)
-boxes_past ts t d items zero n m is few others boxes so_far =
-    let e : n ≡ m = omega (arith, is) in so_far ∙ ap (λ k. boxes_of_items ts t d (take k items)) e
+boxes_past ts t d items zero n m is few others boxes so_far = grind (arith, boxes_of_items)
 boxes_past ts t d items (suc gap) n m is few others boxes so_far =
     let below : n < length items = omega (arith, is, few) in
     let x = get_or items n (element_at items n below).0 in

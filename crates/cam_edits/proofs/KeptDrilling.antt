@@ -1,13 +1,10 @@
 -- what is kept of a drill layer whose items shift with a step, or one of whose tools gets another diameter
-use Rattle.std.proofs.Common.{◌≡◌, ℕ, List, Option, None, Some, sum_by, ap, sym, subst, ◌∙◌}
+use Rattle.std.proofs.Common.{arith, ◌≡◌, ℕ, List, Option, None, Some, ap, sym, subst, ◌∙◌}
 use Rattle.std.specs.Prelude.{IfNone, IfSome}
-use Rattle.cam_units.specs.declared.bounds.Bounds.{Bounds}
 use Rattle.cam_units.specs.declared.length.Nm.{Nm}
-use Rattle.cam_objects.specs.Bounds.{bounds_of}
 use Rattle.cam_objects.specs.Cells.{AreCellsOf, Reaches, drill_item_boxes}
 use Rattle.cam_objects.specs.Contents.{DrillContent, drill_content_of}
-use Rattle.cam_objects.specs.DrillSoundness.{IsSoundDrillContent, drill_count_of}
-use Rattle.cam_objects.specs.Drilling.{drill_item_leaves}
+use Rattle.cam_objects.specs.DrillSoundness.{IsSoundDrillContent}
 use Rattle.cam_objects.specs.declared.drill_layer.DrillLayer.{DrillLayer}
 use Rattle.cam_edits.specs.declared.indexed.Kept.{Kept}
 use Rattle.cam_edits.specs.declared.drill_step.DrillStep.{DrillStep}
@@ -22,30 +19,13 @@ module _ (before layer : DrillLayer) (shift : Shift) (tools : before.tools ≡ l
     (shifted : IsShift shift before.items.items layer.items.items) where
   pub shifted_cells : (cells : Reaches) → AreCellsOf (drill_item_boxes before.tools before.items.items) cells
       → WereCells shift cells (drill_item_boxes layer.tools layer.items.items)
-  shifted_cells cells known =
-      were_cells (λ item. bounds_of (drill_item_leaves layer.tools item)) shift before.items.items layer.items.items
-      cells shifted
-      (subst (λ ts. AreCellsOf (drill_item_boxes ts before.items.items) cells) tools known)
+  shifted_cells cells known = grind (arith, were_cells)
 
 -- the holes of a layer of which something was kept before so many left and so many came
 pub drill_leaves : (kept : Kept) (shift : Shift) (gone come : ℕ) (layer : DrillLayer)
     → WasKeptOfDrill kept shift gone layer → come ≡ drill_leaves_at layer shift.to
     → Follows (drill_leaves_in layer) kept.leaves gone come
-drill_leaves kept shift gone come layer was came =
-    leaves_follow drill_count_of shift was.before.items.items layer.items.items kept.leaves gone come was.shifted
-    was.known.leaves was.left came was.known.sound.limits.leaves was.sound.limits.leaves
-
--- what is kept of a layer is kept of one that lists the same
-pub kept_alike : (l m : DrillLayer) (kept : Kept) (cells : Reaches) → IsKeptOfDrill l kept → cells ≡ kept.cells
-    → m.tools ≡ l.tools → m.items.items ≡ l.items.items
-    → IsKeptOfDrill m (record { cells = cells; leaves = kept.leaves })
-kept_alike l m kept cells known same tools items = record {
-  sound = subst (λ ts. IsSoundDrillContent ts m.items.items) (sym tools)
-      (subst (IsSoundDrillContent l.tools) (sym items) known.sound);
-  leaves = known.leaves ∙ sym (λ i. sum_by drill_count_of (items i));
-  cells = subst (λ (those : List Bounds). AreCellsOf those cells) (sym (λ i. drill_item_boxes (tools i) (items i)))
-      (subst (AreCellsOf (drill_item_boxes l.tools l.items.items)) (sym same) known.cells);
-}
+drill_leaves kept shift gone come layer was came = grind (arith, leaves_follow)
 
 abbrev AreSound : DrillContent → Type 0
 AreSound c = IsSoundDrillContent c.tools c.items

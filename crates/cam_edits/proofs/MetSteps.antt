@@ -1,6 +1,5 @@
 -- What a step of a layer meets that is not refused.
-use Rattle.std.proofs.Common.{◌≡◌, ℕ, ◌<◌, ◌≤◌, Bool, true, false, ◌&&◌, ℤ, ◌≤ℤ◌, nat_le, nat_lt, List, length, Option}
-use Rattle.std.proofs.Common.{None, Some, refl, arith}
+use Rattle.std.proofs.Common.{◌≡◌, ℕ, ◌<◌, ◌≤◌, Bool, true, ◌&&◌, ℤ, ◌≤ℤ◌, nat_lt, List, length, Option, None, Some, arith}
 use Rattle.std.specs.Prelude.{insert, slice_get}
 use Rattle.std.specs.Int.RustNames.{int_le}
 use Rattle.std.specs.List.{All}
@@ -11,10 +10,8 @@ use Rattle.cam_units.specs.Board.{IsOnBoard}
 use Rattle.cam_units.specs.declared.point.Point.{Point}
 use Rattle.cam_objects.specs.Contents.{Content as GerberContent, DrillContent}
 use Rattle.cam_objects.specs.DrillSoundness.{IsSoundDrillItem, KeepsDrillLimits, drill_item_checks, drill_points_of}
-use Rattle.cam_objects.specs.DrillSoundness.{keeps_drill_limits, tool_of}
 use Rattle.cam_objects.specs.Shifting.{shifted_drill_item, shifted_item}
-use Rattle.cam_objects.specs.Soundness.{IsInside, IsSoundItem, KeepsLimits, are_on_board, has_radii, is_drawable_item}
-use Rattle.cam_objects.specs.Soundness.{is_formed_item, is_inside, is_known_item, is_within_limits, item_checks, keeps_limits}
+use Rattle.cam_objects.specs.Soundness.{IsInside, IsSoundItem, KeepsLimits, is_formed_item, item_checks}
 use Rattle.cam_objects.specs.declared.drill_item.DrillItem.{DrillItem}
 use Rattle.cam_objects.specs.declared.item.Item.{Item}
 use Rattle.cam_objects.proofs.SoundItems.{passed}
@@ -31,8 +28,7 @@ use Rattle.cam_edits.specs.Steps.{with_aperture, with_object}
 use Rattle.cam_edits.proofs.GerberEdits.{of_item, set_formed}
 
 pub both : (a b : Bool) → (a && b) ≡ true → (a ≡ true) × (b ≡ true)
-both true b h = (refl, h)
-both false b h = absurd cc
+both a b h = grind arith
 
 pub at_most_signed : (a b : ℤ) → int_le a b ≡ true → a ≤ℤ b
 at_most_signed a b e = grind (arith, ints)
@@ -64,50 +60,23 @@ module _ (c : GerberContent) where
   item_met : (item : Item) (items : List Item) → is_formed_item item ≡ true
       → of_item c item items ≡ None → IsSoundItem c.entries item × KeepsLimits c.entries items
   unfolding item_checks
-  item_met item items formed none =
-      let a = passed _ (is_known_item c.entries item) _ none in
-      let b = passed _ (is_drawable_item c.entries item) _ a.1 in
-      let d = passed _ (has_radii item) _ b.1 in
-      let e = passed _ (is_inside c.entries item) _ d.1 in
-      let f = passed _ (is_within_limits c.entries item && keeps_limits c.entries items) _ e.1 in
-      let g = both (is_within_limits c.entries item) (keeps_limits c.entries items) f.0 in
-      (rw (formed, a.0, b.0, d.0, e.0, g.0) refl, (limit_law.layer c.entries items).0 g.1)
+  item_met item items formed none = grind (arith, passed, both, limit_law)
 
   moved : (k : ℕ) (by : Point) (o : Option Item) → slice_get c.items k ≡ o → first_holding (move_checks c by o) ≡ None
       → IsThere c.items k (λ x. IsInside c.entries (shifted_item by x))
-  moved k by None at none = absurd cc
-  moved k by (Some x) at none =
-      let item = shifted_item by x in
-      (x, at, (inside_law c.entries item).0 (passed _ (is_inside c.entries item) _ none).0)
+  moved k by o at none = grind (arith, inside_law, passed)
 
   set : (k n : ℕ) (o : Option Item) → slice_get c.items k ≡ o → first_holding (aperture_checks c k n o) ≡ None
       → IsMet (steps.Aperture k n)
-  set k n None at none = absurd cc
-  set k n (Some x) at none =
-      let a = passed _ (has_aperture x) _ none in
-      let item = with_object (with_aperture n) x in
-      let b = item_met item (changed (with_object (with_aperture n)) c.items k) (set_formed n x a.0) a.1 in
-      (x, at, (a.0, b.0, b.1))
+  set k n o at none = grind (arith, passed, item_met, set_formed)
 
   inked : (k : ℕ) (o : Option Item) → slice_get c.items k ≡ o → first_holding (polarity_checks c o) ≡ None
       → IsThere c.items k (λ x. has_polarity x ≡ true)
-  inked k None at none = absurd cc
-  inked k (Some x) at none = (x, at, (passed _ (has_polarity x) _ none).0)
+  inked k o at none = grind (arith, passed)
 
   pub met : (step : Step) → first_holding (step_checks c step) ≡ None → IsMet step
   unfolding step_checks
-  met (steps.Insert k item) none =
-      let a = passed _ (is_formed_item item) _ none in
-      let b = passed _ (nat_le k (length c.items)) _ a.1 in
-      let d = item_met item (insert c.items k item) a.0 b.1 in (leb-true k (length c.items) b.0, d.0, d.1)
-  met (steps.Delete k) none = ltb-true k (length c.items) (passed _ (nat_lt k (length c.items)) _ none).0
-  met (steps.Move k dx dy) none = moved k (way dx dy) (slice_get c.items k) refl none
-  met (steps.Reorder k m) none = both_there k m (length c.items) (passed _ _ _ none).0
-  met (steps.Aperture k n) none = set k n (slice_get c.items k) refl none
-  met (steps.Polarity k dark) none = inked k (slice_get c.items k) refl none
-  met (steps.PutAttribute k a) none = tt
-  met (steps.TakeAttribute k) none = tt
-  met (steps.SetFields k fields) none = tt
+  met step none = grind (arith, passed, item_met, leb-true, ltb-true, moved, both_there, set, inked)
 
 -- ---- drill layers
 
@@ -125,31 +94,8 @@ module _ (c : DrillContent) where
   drill_moved : (k : ℕ) (by : Point) (o : Option DrillItem) → slice_get c.items k ≡ o
       → first_holding (move_drill_checks c by o) ≡ None
       → IsThere c.items k (λ x. All IsOnBoard (drill_points_of (shifted_drill_item by x)))
-  drill_moved k by None at none = absurd cc
-  drill_moved k by (Some x) at none =
-      let points = drill_points_of (shifted_drill_item by x) in
-      (x, at, (all_on_board points).0 (passed _ (are_on_board points) _ none).0)
+  drill_moved k by o at none = grind (arith, all_on_board, passed)
 
   pub drill_met : (step : DrillStep) → first_holding (drill_step_checks c step) ≡ None → IsDrillMet step
   unfolding drill_step_checks drill_item_checks
-  drill_met (drill_steps.Insert k item) none =
-      let points = drill_points_of item in
-      let a = passed _ (nat_lt 0 (length points)) _ none in
-      let b = passed _ (nat_le k (length c.items)) _ a.1 in
-      let d = passed _ (has_tool c (tool_of item)) _ b.1 in
-      let e = passed _ (are_on_board points) _ d.1 in
-      let f = passed _ (nat_le (length points) 1000000 && keeps_drill_limits (insert c.items k item)) _ e.1 in
-      let g = both (nat_le (length points) 1000000) (keeps_drill_limits (insert c.items k item)) f.0 in (
-        leb-true k (length c.items) b.0,
-        rw (a.0, d.0, e.0, g.0) refl,
-        (limit_law.drill_layer (insert c.items k item)).0 g.1,
-      )
-  drill_met (drill_steps.Delete k) none = ltb-true k (length c.items) (passed _ (nat_lt k (length c.items)) _ none).0
-  drill_met (drill_steps.Move k dx dy) none = drill_moved k (way dx dy) (slice_get c.items k) refl none
-  drill_met (drill_steps.Reorder k m) none = both_there k m (length c.items) (passed _ _ _ none).0
-  drill_met (drill_steps.Tool k t) none =
-      let a = passed _ (nat_lt k (length c.items)) _ none in
-      let b = passed _ (has_tool c t) _ a.1 in (ltb-true k (length c.items) a.0, b.0)
-  drill_met (drill_steps.Diameter t d) none =
-      let a = passed _ (has_tool c t) _ none in
-      let b = passed _ (is_tool_size d) _ a.1 in (a.0, b.0)
+  drill_met step none = grind (arith, passed, both, leb-true, limit_law, ltb-true, drill_moved, both_there)

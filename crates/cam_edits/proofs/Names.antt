@@ -1,6 +1,6 @@
 -- Where the sheet of a name stands.
-use Rattle.std.proofs.Common.{◌≡◌, ℕ, ◌<◌, Bool, List, [], ◌∷◌, ◌+◌, cond, length, map, None}
-use Rattle.std.proofs.Common.{Option, Some, nat_lt, not, IfSome, refl, ap, sym, subst, ◌∙◌}
+use Rattle.std.proofs.Common.{arith, ◌≡◌, ℕ, ◌<◌, Bool, List, [], ◌∷◌, ◌+◌, cond, length, map, Option, not, IfSome, refl, ap, sym}
+use Rattle.std.proofs.Common.{◌∙◌}
 use Rattle.std.specs.Prelude.{position}
 use Rattle.std.specs.List.{position_or_len}
 use Rattle.std.specs.Str.{bytes_eq}
@@ -17,10 +17,7 @@ front_map f test (x ∷ xs) = ap (λ k. cond (not (test (f x))) (1 + k) 0) (fron
 
 pub position_map : {X Y : Type 0} (f : X → Y) (test : Y → Bool) (xs : List X)
     → position test (map f xs) ≡ position (λ x. test (f x)) xs
-position_map f test xs =
-    ap (λ k. cond (nat_lt k (length (map f xs))) (Some k) None) (front_map f test xs)
-    ∙ ap (λ n. cond (nat_lt (position_or_len (λ x. test (f x)) xs) n) (Some (position_or_len (λ x. test (f x)) xs)) None)
-    (length-map xs f)
+position_map f test xs = grind (arith, front_map, length-map)
 
 pub named_place : (sheets : List Sheet) (name : List ℕ) (result : Option ℕ)
     → result ≡ position (λ s. bytes_eq s.name name) sheets → result ≡ place_named name (map sheet_of sheets)
@@ -29,5 +26,4 @@ named_place sheets name result e = e ∙ sym (position_map sheet_of (λ s. bytes
 
 pub place_within : (sheets : List Sheet) (result : Option ℕ) → IfSome result (λ k. k < length sheets)
     → IfSome result (λ k. k < length (map sheet_of sheets))
-place_within sheets None h = h
-place_within sheets (Some k) h = subst (λ n. k < n) (sym (length-map sheets sheet_of)) h
+place_within sheets result h = grind (arith, length-map)

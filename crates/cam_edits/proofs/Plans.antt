@@ -1,6 +1,6 @@
 -- What a plan of an edit is, by what its sheet holds.
-use Rattle.std.proofs.Common.{◌≡◌, ℕ, ◌<◌, List, length, None, Some, Result, Ok, Err, Global, refl, ap, sym, subst, ◌∙◌}
-use Rattle.std.specs.Prelude.{slice_get, slice_set}
+use Rattle.std.proofs.Common.{arith, ◌≡◌, ℕ, ◌<◌, List, length, None, Some, Result, Ok, Err, Global, refl, ap, sym, subst, ◌∙◌}
+use Rattle.std.specs.Prelude.{slice_get}
 use Rattle.std.specs.declared.vec.Vec.{Vec}
 use Rattle.cam_units.specs.declared.bounds.Bounds.{Bounds}
 use Rattle.cam_objects.specs.Contents.{Content as GerberContent, DrillContent}
@@ -13,12 +13,11 @@ use Rattle.cam_edits.specs.declared.fault.EditFault.{EditFault}
 use Rattle.cam_edits.specs.declared.fault.EditFault.TheVariants.{NoLayer, Memory}
 use Rattle.cam_edits.specs.declared.step.Step.{Step}
 use Rattle.cam_edits.specs.BoardSteps.{IsDrillFitOn, IsFitOn, after_drill_on, after_on}
-use Rattle.cam_edits.specs.Boards.{changed_at, content_at, content_or_empty, place_named, with_content}
+use Rattle.cam_edits.specs.Boards.{changed_at, content_at, content_or_empty, place_named}
 use Rattle.cam_edits.specs.DrillSteps.{IsDrillFit, IsSoundDrillStep}
 use Rattle.cam_edits.specs.Editing.{drill_step_checks, drill_step_of, edited, edited_at, edited_sheet, judged_change}
 use Rattle.cam_edits.specs.Editing.{judged_drill, with_drill, with_gerber, with_step}
 use Rattle.cam_edits.specs.Machinery.PlaceLaws.{element_at}
-use Rattle.cam_edits.specs.Places.{changed_to}
 use Rattle.cam_edits.specs.Planning.{IsPlan, IsRefused, IsStepOf}
 use Rattle.cam_edits.specs.Sheets.{AreSound, Content, Gerber, Drill, IsSound, Sheet, sheet}
 use Rattle.cam_edits.specs.Steps.{IsFit, IsSoundStep}
@@ -54,10 +53,7 @@ module _ (edit : Edit) (sheets : List Sheet) where
     -- two changes that make the same of what the sheet holds
     same_change : (f g : Content → Content) → f there.0.content ≡ g there.0.content
         → changed_at f place sheets ≡ changed_at g place sheets
-    same_change f g same =
-        ap (changed_to (with_content f) sheets place) there.1
-        ∙ (ap (λ content. slice_set sheets place (sheet there.0.name content)) same
-        ∙ sym (ap (changed_to (with_content g) sheets place) there.1))
+    same_change f g same = grind (arith, there)
 
     -- ---- a layer of either kind, by how the edit is judged
 

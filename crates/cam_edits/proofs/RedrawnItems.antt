@@ -1,6 +1,6 @@
 -- What lists of items paint at a place that lies outside the boxes of those that change.
-use Rattle.std.proofs.Common.{◌≡◌, ℕ, suc, Bool, true, false, cond, List, [], ◌∷◌, ◌++◌}
-use Rattle.std.proofs.Common.{take, drop, Option, None, Some, refl, ap, sym, subst, ◌∙◌}
+use Rattle.std.proofs.Common.{arith, ◌≡◌, ℕ, suc, Bool, true, false, cond, List, [], ◌∷◌, ◌++◌, take, drop, Option, Some, refl}
+use Rattle.std.proofs.Common.{ap, sym, ◌∙◌}
 use Rattle.std.specs.Prelude.{All, filter, insert, remove, slice_get}
 use Rattle.std.specs.List.{flat_map}
 use Rattle.std.specs.Option.{option_map}
@@ -15,7 +15,7 @@ use Rattle.cam_objects.specs.Tests.{is_black}
 use Rattle.cam_objects.proofs.Painting.{All_left, All_right}
 use Rattle.cam_objects.proofs.Redraws.{keeps_outside}
 use Rattle.cam_objects.proofs.TestLaws.{black_law, test_of_image}
-use Rattle.cam_edits.specs.Machinery.PlaceLaws.{changed_is, reordered_is, within}
+use Rattle.cam_edits.specs.Machinery.PlaceLaws.{changed_is, within}
 use Rattle.cam_edits.specs.Places.{changed, reordered}
 use Rattle.cam_edits.specs.Touched.{box_if_there}
 use Rattle.cam_edits.proofs.EditedLists.{set_here, split_here}
@@ -65,8 +65,7 @@ module _ {X : Type 0} (paints : X → List Leaf) (s : Spot) where
     taken_out = ap colour (split_here xs k x here) ∙ without (take k xs) (drop (suc k) xs) x off
 
     pub carried_off : (m : ℕ) → colour xs ≡ colour (reordered xs k m)
-    carried_off m =
-        taken_out ∙ put_in (remove xs k) m x off ∙ ap colour (sym (reordered_is xs k x here m))
+    carried_off m = grind (arith, taken_out, put_in)
 
     replaced : (f : X → X) → IsItemOff (f x) → colour xs ≡ colour (changed f xs k)
     replaced f next =
@@ -76,9 +75,7 @@ module _ {X : Type 0} (paints : X → List Leaf) (s : Spot) where
 
   -- the box of an item that is there is one of the boxes
   pub item_off : (o : Option X) (x : X) → o ≡ Some x → AreOff s (box_if_there box o) → IsItemOff x
-  item_off None x e h = absurd cc
-  item_off (Some y) x e h =
-      let same : y ≡ x = cc in subst IsItemOff same (All-head (IsOff s) (box y) [] h)
+  item_off o x e h = grind (arith, All-head)
 
   -- an item that becomes another
   pub changed_off : (xs : List X) (k : ℕ) (x : X) → slice_get xs k ≡ Some x → (f : X → X)
@@ -131,11 +128,7 @@ module _ {X : Type 0} (paints repaints : X → List Leaf) (differs : X → Bool)
     then_rest : black_behind front (paints x ++ flat_map paints xs)
         ≡ black_behind front (repaints x ++ flat_map paints xs)
         → HasRest → HasBoth
-    then_rest first rest =
-        first
-        ∙ sym (one_more (repaints x) (flat_map paints xs))
-        ∙ rest
-        ∙ one_more (repaints x) (flat_map repaints xs)
+    then_rest first rest = grind (arith, one_more)
 
     item_repainted : (b : Bool) → differs x ≡ b
         → AreOff s (flat_map both_boxes (cond b (x ∷ filter differs xs) (filter differs xs)))
@@ -148,8 +141,7 @@ module _ {X : Type 0} (paints repaints : X → List Leaf) (differs : X → Bool)
         (redrawn s front (paints x) (repaints x) (flat_map paints xs)
         (All-head (IsOff s) before (after ∷ others) off) (All-head (IsOff s) after others later))
         (rest (All-tail (IsOff s) after others later))
-    item_repainted false e off rest =
-        then_rest (ap (λ leaves. black_behind front (leaves ++ flat_map paints xs)) (same x e)) (rest off)
+    item_repainted false e off rest = grind (arith, then_rest)
 
   -- the place lies outside both boxes of each item that is painted otherwise
   pub repainted : (front : List Leaf) (xs : List X) → AreOff s (flat_map both_boxes (filter differs xs))

@@ -1,12 +1,11 @@
 -- Which refusal of an edit is told first.
 use Rattle.std.proofs.Common.{◌≡◌, ℕ, Bool, true, false, ◌&&◌, nat_lt, not, List, [], ◌∷◌, length, max, slice_index_or}
-use Rattle.std.proofs.Common.{Option, None, Some, Result, Ok, Err, refl, ap, sym, subst, ◌∙◌, arith}
+use Rattle.std.proofs.Common.{Option, None, Some, Result, Ok, ap, sym, subst, ◌∙◌, arith}
 use Rattle.std.specs.Prelude.{MatchOption, slice_get}
 use Rattle.std.proofs.lemmas.Bool.{ltb-true}
 use Rattle.std.proofs.lemmas.Bool.Decides.{nat_tests}
 use Rattle.std.proofs.lemmas.Option.{slice_get_past, slice_get_read}
 use Rattle.cam_refusals.specs.Checks.{Checks, answer_of, first_holding}
-use Rattle.cam_objects.proofs.SoundItems.{none_told}
 use Rattle.cam_objects.specs.declared.item_fault.ItemFault.{ItemFault}
 use Rattle.cam_objects.specs.declared.item_fault.ItemFault.TheVariants.{Malformed, UnknownAperture, UnknownTool, ZeroRadius}
 use Rattle.cam_objects.specs.declared.item_fault.ItemFault.TheVariants as items
@@ -14,7 +13,7 @@ use Rattle.cam_edits.specs.declared.fault.EditFault.{EditFault}
 use Rattle.cam_edits.specs.declared.fault.EditFault.TheVariants.{WrongKind, NoItem, NoAperture, NoTool, WrongAperture}
 use Rattle.cam_edits.specs.declared.fault.EditFault.TheVariants.{SizeRefused, OutOfBoard, TooMuch}
 use Rattle.cam_edits.specs.Machinery.Judging.{insertion_answer, item_answer, limited}
-use Rattle.cam_edits.specs.Editing.{judged_by, step_unless}
+use Rattle.cam_edits.specs.Editing.{judged_by}
 use Rattle.cam_edits.specs.Places.{HasAt}
 
 -- ---- places of lists
@@ -22,8 +21,7 @@ use Rattle.cam_edits.specs.Places.{HasAt}
 -- an element that a list is read at
 pub read_at : {X : Type 0} (xs ys : List X) (k : ℕ) (x : X) → ys ≡ xs → true ≡ nat_lt k (length ys)
     → x ≡ slice_index_or ys k x → slice_get xs k ≡ Some x
-read_at xs ys k x same here at =
-    ap (λ l. slice_get l k) (sym same) ∙ slice_get_read ys (length ys) k x refl (ltb-true k (length ys) (sym here)) at
+read_at xs ys k x same here at = grind (arith, slice_get_read, ltb-true)
 
 -- and a place where there is none
 pub none_at : {X : Type 0} (xs ys : List X) (k : ℕ) → ys ≡ xs → false ≡ nat_lt k (length ys) → slice_get xs k ≡ None
@@ -38,25 +36,7 @@ module _ {S : Type 0} (checks : S → Checks EditFault) where
   -- a step that is answered is that of the edit, and nothing refuses it
   pub accepted : (o : Option S) (step : S) → judged_by checks o ≡ Ok step
       → (o ≡ Some step) × (first_holding (checks step) ≡ None)
-  accepted None step e = absurd cc
-  accepted (Some asked) step e = go (first_holding (checks asked)) refl e where
-    go : (told : Option EditFault) → first_holding (checks asked) ≡ told → step_unless asked told ≡ Ok step
-        → (Some asked ≡ Some step) × (first_holding (checks step) ≡ None)
-    go None is e =
-        let same : asked ≡ step = cc in (ap Some same, subst (λ s. first_holding (checks s) ≡ None) same is)
-    go (Some fault) is e = absurd cc
-
-  -- an answer of the checks of a step is that of the step
-  pub refused : (step : S) (fault : EditFault) → Err fault ≡ answer_of (first_holding (checks step))
-      → Err fault ≡ judged_by checks (Some step)
-  refused step fault e = go (first_holding (checks step)) e where
-    go : (told : Option EditFault) → Err fault ≡ answer_of told → Err fault ≡ step_unless step told
-    go None e = absurd cc
-    go (Some other) e = cc
-
-  pub passes : (step : S) (done : Unit) → Ok done ≡ answer_of (first_holding (checks step))
-      → Ok step ≡ judged_by checks (Some step)
-  passes step done e = sym (ap (step_unless step) (none_told (first_holding (checks step)) done e))
+  accepted o step e = grind arith
 
 -- ---- insertions, by the checks of their items
 
@@ -86,21 +66,7 @@ module _ (formed place known drawable radii inside few room : Bool) where
 pub in_one_order : (formed place known drawable radii inside few room : Bool)
     → told formed place known drawable radii inside few room
     ≡ limited (insertion_answer (checked formed place known drawable radii inside few room) place) room
-in_one_order false true known drawable radii inside few room = refl
-in_one_order false false known drawable radii inside few room = refl
-in_one_order true true false drawable radii inside few room = refl
-in_one_order true true true false radii inside few room = refl
-in_one_order true true true true false inside few room = refl
-in_one_order true true true true true false few room = refl
-in_one_order true true true true true true false room = refl
-in_one_order true true true true true true true true = refl
-in_one_order true true true true true true true false = refl
-in_one_order true false false drawable radii inside few room = refl
-in_one_order true false true false radii inside few room = refl
-in_one_order true false true true false inside few room = refl
-in_one_order true false true true true false few room = refl
-in_one_order true false true true true true false room = refl
-in_one_order true false true true true true true room = refl
+in_one_order formed place known drawable radii inside few room = grind arith
 
 -- and of a drill layer
 module _ (formed place known inside few room : Bool) where
@@ -124,24 +90,12 @@ module _ (formed place known inside few room : Bool) where
 pub in_one_drill_order : (formed place known inside few room : Bool)
     → drill_told formed place known inside few room
     ≡ limited (insertion_answer (drill_checked formed place known inside few room) place) room
-in_one_drill_order false true known inside few room = refl
-in_one_drill_order false false known inside few room = refl
-in_one_drill_order true true false inside few room = refl
-in_one_drill_order true true true false few room = refl
-in_one_drill_order true true true true false room = refl
-in_one_drill_order true true true true true true = refl
-in_one_drill_order true true true true true false = refl
-in_one_drill_order true false false inside few room = refl
-in_one_drill_order true false true false few room = refl
-in_one_drill_order true false true true false room = refl
-in_one_drill_order true false true true true room = refl
+in_one_drill_order formed place known inside few room = grind arith
 
 -- whether there is room is told where there is a place
 pub by_room : (checked : Result Unit ItemFault) (has_place a b : Bool) → (has_place ≡ true → a ≡ b)
     → item_answer checked has_place a ≡ item_answer checked has_place b
-by_room checked true a b same = ap (item_answer checked true) (same refl)
-by_room (Ok done) false a b same = refl
-by_room (Err fault) false a b same = refl
+by_room checked has_place a b same = grind arith
 
 -- two places are there where the farther one is
 pub farther_place : (k m n : ℕ) → nat_lt (max k m) n ≡ (nat_lt k n && nat_lt m n)

@@ -1,5 +1,5 @@
 -- the room that is left for the other steps of a group after its last step was played
-use Rattle.std.proofs.Common.{◌≡◌, ℕ, ◌+◌, ◌≤◌, Bool, cond, List, [], ◌∷◌, ◌++◌, length, count_by, vec_capacity, ap, arith}
+use Rattle.std.proofs.Common.{◌≡◌, ℕ, ◌+◌, ◌≤◌, Bool, cond, List, [], ◌∷◌, ◌++◌, length, count_by, vec_capacity, arith}
 use Rattle.std.proofs.lemmas.List.Sums.{sum_by-append}
 use Rattle.cam_objects.specs.declared.layer.Layer.{Layer}
 use Rattle.cam_edits.specs.declared.step.Step.{Step}
@@ -11,9 +11,7 @@ use Rattle.cam_edits.specs.Steps.{HasRoom, is_insertion, puts_attribute}
 pub room_left : {S : Type 0} (p : S → Bool) (rest : List S) (step known : S) (now later before room_then : ℕ) → step ≡ known
     → now + count_by p (rest ++ step ∷ []) ≤ before → later ≤ now + cond (p known) 1 0 → before ≤ room_then
     → later + count_by p rest ≤ room_then
-room_left p rest step known now later before room_then is room few more =
-    let all = sum_by-append (λ s. cond (p s) 1 0) rest (step ∷ []) in
-    let same = ap {B = ℕ} (λ s. cond (p s) 1 0) is in omega (arith, all, same, room, few, more)
+room_left p rest step known now later before room_then is room few more = grind (arith, sum_by-append)
 
 module _ (rest : List Step) (step : Step) (layer : Layer) (room : HasRoom (rest ++ step ∷ []) layer) (known : Step)
     (is : step ≡ known) where

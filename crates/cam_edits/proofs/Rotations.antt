@@ -90,10 +90,7 @@ module _ {X : Type 0} where
 
   split_up : (xs : List X) (x : X) (k n : ℕ) → k < length xs
       → xs ≡ take k xs ++ get_or xs k x ∷ (take n (drop (suc k) xs) ++ drop n (drop (suc k) xs))
-  split_up xs x k n h =
-      sym (take-append-drop k xs)
-      ∙ ap (λ ys. take k xs ++ ys)
-      (drop-cons xs k x h ∙ ap (λ ys. get_or xs k x ∷ ys) (sym (take-append-drop n (drop (suc k) xs))))
+  split_up xs x k n h = grind (arith, take-append-drop, drop-cons)
 
   up_from : (xs new : List X) (k m : ℕ) (x : X) → k < m → m < length xs
       → new ≡ drop 1 (mid_of k (m + 1 - k) xs) ++ take 1 (mid_of k (m + 1 - k) xs)
@@ -144,12 +141,10 @@ module _ {X : Type 0} where
   pub rotated_up : (xs new : List X) (k m : ℕ) → k < m → m < length xs
       → new ≡ drop 1 (mid_of k (m + 1 - k) xs) ++ take 1 (mid_of k (m + 1 - k) xs)
       → put_mid k (m + 1 - k) xs new ≡ reordered xs k m
-  rotated_up [] new k m h within is = absurd (omega (arith, within))
-  rotated_up (x ∷ xs) new k m h within is = up_from (x ∷ xs) new k m x h within is
+  rotated_up xs new k m h within is = grind (arith, up_from)
 
   pub rotated_down : (xs new : List X) (k m : ℕ) → m ≤ k → k < length xs
       → new ≡ drop (length (mid_of m (k + 1 - m) xs) - 1) (mid_of m (k + 1 - m) xs)
       ++ take (length (mid_of m (k + 1 - m) xs) - 1) (mid_of m (k + 1 - m) xs)
       → put_mid m (k + 1 - m) xs new ≡ reordered xs k m
-  rotated_down [] new k m h within is = absurd (omega (arith, within))
-  rotated_down (x ∷ xs) new k m h within is = down_from (x ∷ xs) new k m x h within is
+  rotated_down xs new k m h within is = grind (arith, down_from)

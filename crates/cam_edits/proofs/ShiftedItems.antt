@@ -103,10 +103,7 @@ module _ {X : Type 0} where
   pub leaves_follow : (f : X → ℕ) (shift : Shift) (xs ys : List X) (leaves gone come : ℕ) → IsShift shift xs ys
       → leaves ≡ sum_by f xs → gone ≡ count_at f xs shift.from → come ≡ count_at f ys shift.to
       → sum_by f xs ≤ 4000000 → sum_by f ys ≤ 4000000 → Follows (sum_by f ys) leaves gone come
-  leaves_follow f shift xs ys leaves gone come shifted all left came few more = record {
-    sum = omega (arith, edit_sums f shift.from shift.to xs ys shifted, all, left, came);
-    few = omega (arith, all, few, came, counted f ys shift.to, more);
-  }
+  leaves_follow f shift xs ys leaves gone come shifted all left came few more = grind (arith, edit_sums, counted)
 
   -- ---- what shifts with the items
 
@@ -124,22 +121,7 @@ module _ {X : Type 0} where
 
     pub edit_read : (from to : Option ℕ) (xs ys : List X) → IsEdited from to xs ys
         → IsEdited from to (map read xs) (map read ys)
-    edit_read None None xs ys e = ap (map read) e
-    edit_read None (Some m) xs ys e = (
-      omega (arith, e.0, length-map {B = Y} xs read),
-      (read e.1.0, ap (map read) e.1.1 ∙ insert_read xs m e.1.0),
-    )
-    edit_read (Some k) None xs ys e =
-        (omega (arith, e.0, length-map {B = Y} xs read), ap (map read) e.1 ∙ remove_read xs k)
-    edit_read (Some k) (Some m) xs ys e = (
-      omega (arith, e.0, length-map {B = Y} xs read),
-      omega (arith, e.1, length-map {B = Y} xs read),
-      (
-        read e.2.0,
-        ap (map read) e.2.1 ∙ insert_read (remove xs k) m e.2.0
-            ∙ ap (λ l. insert l m (read e.2.0)) (remove_read xs k),
-      ),
-    )
+    edit_read from to xs ys e = grind (arith, length-map, insert_read, remove_read)
 
   pub were_cells : (box : X → Bounds) (shift : Shift) (xs ys : List X) (cells : Reaches) → IsShift shift xs ys
       → AreCellsOf (map box xs) cells → WereCells shift cells (map box ys)
@@ -149,14 +131,10 @@ module _ {X : Type 0} where
 -- the edit of a shift whose places are known
 pub edited : {X : Type 0} (shift : Shift) (xs ys : List X) → IsShift shift xs ys → (from to : Option ℕ) → shift.from ≡ from
     → shift.to ≡ to → IsEdited from to xs ys
-edited shift xs ys edit from to left came =
-    subst (λ o. IsEdited from o xs ys) came (subst (λ o. IsEdited o shift.to xs ys) left edit)
+edited shift xs ys edit from to left came = grind arith
 
 pub came_within : {X : Type 0} (xs ys : List X) (from to : ℕ) → IsEdited (Some from) (Some to) xs ys → to < length ys
-came_within xs ys from to edit =
-    let fewer = length-remove xs from edit.0 in
-    let all = length-insert (remove xs from) to edit.2.0 (omega (arith, edit.1, fewer)) in
-    omega (arith, all, fewer, ap length edit.2.1, edit.1)
+came_within xs ys from to edit = grind (arith, length-remove, length-insert)
 
 -- what was kept of a layer, after a step of it
 abbrev pub kept_before : (before after self : Layer) (step : Step) (shift : Shift) (kept : Kept) (gone : ℕ) → IsKeptOf before kept
@@ -195,15 +173,3 @@ layer_cells before layer shift cells entries shifted known =
     were_cells (λ item. bounds_of (item_leaves (meaning_in layer.apertures) item)) shift before.items.items
     layer.items.items cells shifted
     (subst (λ es. AreCellsOf (item_boxes es before.items.items) cells) entries known)
-
--- what is kept of a layer is kept of one that lists the same
-pub kept_alike : (l m : Layer) (kept : Kept) (cells : Reaches) → IsKeptOf l kept → cells ≡ kept.cells
-    → m.apertures ≡ l.apertures → m.items.items ≡ l.items.items
-    → IsKeptOf m (record { cells = cells; leaves = kept.leaves })
-kept_alike l m kept cells known same entries items = record {
-  sound = subst (λ es. IsSoundContent es m.items.items) (sym entries)
-      (subst (IsSoundContent l.apertures) (sym items) known.sound);
-  leaves = known.leaves ∙ sym (λ i. sum_by (item_count (weight_in (entries i))) (items i));
-  cells = subst (λ (those : List Bounds). AreCellsOf those cells) (sym (λ i. item_boxes (entries i) (items i)))
-      (subst (AreCellsOf (item_boxes l.apertures l.items.items)) (sym same) known.cells);
-}

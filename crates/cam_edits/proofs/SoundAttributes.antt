@@ -1,4 +1,5 @@
 -- An edit leaves the attributes of a layer sound.
+use Rattle.std.proofs.lemmas.Grind.{common_steps}
 use Rattle.std.proofs.Common.{◌≡◌, ◌≢◌, ℕ, suc, Bool, true, ◌&&◌, ◌==◌, nat_le, IsTrue, List, [], ◌∷◌}
 use Rattle.std.proofs.Common.{length, take, drop, Option, None, Some, refl, sym, subst, arith}
 use Rattle.std.specs.Prelude.{remove, slice_get}
@@ -59,16 +60,10 @@ abbrev IsByte : ℕ → Type 0
 IsByte byte = IsTrue (is_attribute_byte byte)
 
 fields_bytes : (fields : List ℕ) → are_fields fields ≡ true → All IsByte fields
-fields_bytes [] e = All-nil IsByte
-fields_bytes (byte ∷ text) e =
-    let parts = both (byte == comma) (is_field_text text) e in
-    let is : byte ≡ comma = is_comma byte parts.0 in
-    All-cons IsByte byte text (subst IsByte (sym is) refl)
-    (all_by is_field_byte IsByte field_byte text (text_bytes text parts.1))
+fields_bytes fields e = grind (arith, common_steps, All-nil, both, is_comma, All-cons, all_by, field_byte, text_bytes)
 
 fields_apart : (fields : List ℕ) → are_fields fields ≡ true → AreFields fields
-fields_apart [] e = tt
-fields_apart (byte ∷ text) e = is_comma byte (both (byte == comma) (is_field_text text) e).0
+fields_apart fields e = grind (arith, is_comma, both)
 
 written : (key fields : List ℕ) → is_key key ≡ true → are_fields fields ≡ true → IsAttribute (attribute_of key fields)
 written key fields good wrote = record {
@@ -121,6 +116,5 @@ module _ (xs : List Attribute) (h : AreAttributes xs) where
   attributes_stay_sound (changes.Polarity k dark) ok step e = kept_by (steps.Polarity k dark) step e h
   attributes_stay_sound (changes.Tool k t) ok step e = absurd cc
   attributes_stay_sound (changes.Diameter t d) ok step e = absurd cc
-  attributes_stay_sound (changes.SetAttribute key fields) ok step e =
-      kept_by (setting_step key fields (length xs) (attribute_place key xs)) step e (set_sound key fields ok)
+  attributes_stay_sound (changes.SetAttribute key fields) ok step e = grind (arith, kept_by, set_sound)
   attributes_stay_sound (changes.DropAttribute key) ok step e = drop_sound key (attribute_place key xs) refl step e

@@ -1,9 +1,7 @@
 -- What a step makes of a sound drill layer is sound.
-use Rattle.std.proofs.Common.{◌≡◌, ℕ, suc, ◌≤◌, Bool, true, false, cond, nat_eq, List, [], ◌∷◌, ◌++◌}
-use Rattle.std.proofs.Common.{take, drop, None, Some, refl, sym, subst, ◌∙◌, arith}
-use Rattle.std.specs.Prelude.{IsSome, IsTrue, insert, is_some, pos, remove, slice_get}
+use Rattle.std.proofs.Common.{◌≡◌, ℕ, suc, ◌≤◌, List, [], ◌∷◌, ◌++◌, take, drop, None, Some, sym, subst, ◌∙◌, arith}
+use Rattle.std.specs.Prelude.{IsSome, IsTrue, insert, is_some, remove, slice_get}
 use Rattle.std.specs.List.{All}
-use Rattle.std.specs.Map.{lookup}
 use Rattle.std.proofs.lemmas.Bool.Decides.{nat_tests}
 use Rattle.std.proofs.lemmas.List.{take-append-drop}
 use Rattle.std.proofs.lemmas.List.Elements.{All-head, All-tail}
@@ -35,14 +33,7 @@ module _ (ts : List (ℕ × Nm)) (xs : List DrillItem) (h : IsSoundDrillContent 
 
   inserted : (k : ℕ) (item : DrillItem) → IsSoundDrillItem ts item → KeepsDrillLimits (insert xs k item)
       → AreSoundItems (insert xs k item)
-  inserted k item good room =
-      let before = take k xs in
-      let after = drop k xs in
-      drill_edits.insert ts before after item (subst AreSoundItems (sym (take-append-drop k xs)) h) good
-      (record {
-        few = subst (λ n. n ≤ 1000000) (length_behind before after item) room.few;
-        leaves = subst (λ n. n ≤ 4000000) (sum_behind drill_count_of before after item) room.leaves;
-      })
+  inserted k item good room = grind (arith, drill_edits, take-append-drop, length_behind, sum_behind)
 
   module _ (k : ℕ) (item : DrillItem) (here : slice_get xs k ≡ Some item) where
     abbrev before : List DrillItem
@@ -91,27 +82,12 @@ numbered : (ts : List (ℕ × Nm)) (t : ℕ) → All (λ (e : ℕ × Nm). IsSoun
     → (1 ≤ t) × (t ≤ 9999)
 numbered [] t sound there = absurd cc
 numbered (e ∷ ts) t sound there =
-    by (nat_eq t e.0) refl (numbered ts t (All-tail (λ (e : ℕ × Nm). IsSoundTool e.0 e.1) e ts sound)) there
-  where
-    by : (b : Bool) → nat_eq t e.0 ≡ b → (IsSome (diameter_of ts t) → (1 ≤ t) × (t ≤ 9999))
-        → IsSome (cond b (Some e.1) (lookup (nat_eq t) ts)) → (1 ≤ t) × (t ≤ 9999)
-    by true same rest there =
-        let first_holding = All-head (λ (e : ℕ × Nm). IsSoundTool e.0 e.1) e ts sound in
-        let is : t ≡ e.0 = grind (arith, nat_tests) in
-        (omega (arith, is, first_holding.some), omega (arith, is, first_holding.few))
-    by false same rest there = rest there
+    grind (arith, All-tail, All-head, nat_tests, numbered ts t (All-tail (λ (e : ℕ × Nm). IsSoundTool e.0 e.1) e ts sound))
 
 -- a tool that there is, with a diameter that it may have
 pub sized_tool : (ts : List (ℕ × Nm)) (t : ℕ) (d : Nm) → All (λ (e : ℕ × Nm). IsSoundTool e.0 e.1) ts
     → IsSome (diameter_of ts t) → IsTrue (is_tool_size d) → IsSoundTool t d
-sized_tool ts t d sound there size =
-    let number = numbered ts t sound there in
-    let sizes = both _ _ size in record {
-      some = number.0;
-      few = number.1;
-      wide = at_most_signed (pos 1) d.0 sizes.0;
-      narrow = at_most_signed d.0 (pos 200000000) sizes.1;
-    }
+sized_tool ts t d sound there size = grind (arith, numbered, both, at_most_signed)
 
 met_step_sound : (c : DrillContent) (step : DrillStep) → IsSoundDrillContent c.tools c.items → IsDrillMet c step
     → IsSoundDrillContent (tools_after step c.tools) (drill_items_after step c.items)

@@ -1,6 +1,7 @@
 -- What an edit makes of sound layers is sound.
-use Rattle.std.proofs.Common.{◌≡◌, ℕ, suc, ◌≤◌, Bool, List, [], ◌∷◌, ◌++◌, take, drop}
-use Rattle.std.proofs.Common.{Option, None, Some, Result, Ok, Err, refl, sym, subst, ◌∙◌, arith}
+use Rattle.std.proofs.lemmas.Grind.{common_steps}
+use Rattle.std.proofs.Common.{◌≡◌, ℕ, suc, ◌≤◌, Bool, List, ◌∷◌, ◌++◌, take, drop}
+use Rattle.std.proofs.Common.{Option, None, Some, Result, Ok, Err, sym, subst, ◌∙◌, arith}
 use Rattle.std.specs.Prelude.{insert, remove, slice_get}
 use Rattle.std.proofs.lemmas.List.{take-append-drop}
 use Rattle.std.proofs.lemmas.List.Elements.{All-nil, All-set}
@@ -20,15 +21,14 @@ use Rattle.cam_edits.specs.declared.edit.Change.{Change}
 use Rattle.cam_edits.specs.declared.fault.EditFault.{EditFault}
 use Rattle.cam_edits.specs.declared.step.Step.{Step}
 use Rattle.cam_edits.specs.declared.step.Step.TheVariants as steps
-use Rattle.cam_edits.specs.Boards.{changed_at, content_at, content_or_empty, empty_content, place_named, with_content}
-use Rattle.cam_edits.specs.DrillSteps.{after_drill_step}
-use Rattle.cam_edits.specs.Editing.{drill_step_of, edited, edited_at, edited_sheet, drill_step_checks, step_unless}
+use Rattle.cam_edits.specs.Boards.{changed_at, content_or_empty, empty_content, place_named, with_content}
+use Rattle.cam_edits.specs.Editing.{edited, edited_at, edited_sheet, drill_step_checks, step_unless}
 use Rattle.cam_edits.specs.Editing.{judged_change, judged_drill, step_checks, with_drill, with_gerber, with_step}
 use Rattle.cam_edits.specs.Machinery.PlaceLaws.{changed_is, element_at, reordered_is, within}
 use Rattle.cam_edits.specs.Moving.{way}
 use Rattle.cam_edits.specs.Places.{changed, changed_to, reordered}
 use Rattle.cam_edits.specs.Planning.{EditsStaySound}
-use Rattle.cam_edits.specs.Sheets.{AreSound, Content, Gerber, Drill, IsSound, IsSoundGerber, Sheet, sheet}
+use Rattle.cam_edits.specs.Sheets.{AreSound, Content, Gerber, IsSound, IsSoundGerber, Sheet, sheet}
 use Rattle.cam_edits.specs.Steps.{after_step, items_after, with_aperture, with_object, with_polarity}
 use Rattle.cam_edits.proofs.ChangedItems.{count_with_polarity, sound_with_polarity}
 use Rattle.cam_edits.proofs.EditedLists.{all_here, length_behind, length_of_other, set_here, split_here, sum_behind, sum_of_other}
@@ -45,14 +45,7 @@ module _ (es : List (ℕ × Entry)) (xs : List Item) (h : IsSoundContent es xs) 
 
   inserted : (k : ℕ) (item : Item) → IsSoundItem es item → KeepsLimits es (insert xs k item)
       → AreSoundItems (insert xs k item)
-  inserted k item good room =
-      let before = take k xs in
-      let after = drop k xs in
-      layer_edits.insert es before after item (subst AreSoundItems (sym (take-append-drop k xs)) h) good
-      (record {
-        few = subst (λ n. n ≤ 1000000) (length_behind before after item) room.few;
-        leaves = subst (λ n. n ≤ 4000000) (sum_behind (item_count (weight_in es)) before after item) room.leaves;
-      })
+  inserted k item good room = grind (arith, layer_edits, take-append-drop, length_behind, sum_behind)
 
   module _ (k : ℕ) (item : Item) (here : slice_get xs k ≡ Some item) where
     abbrev before : List Item
@@ -86,9 +79,7 @@ module _ (es : List (ℕ × Entry)) (xs : List Item) (h : IsSoundContent es xs) 
 
     replaced : (f : Item → Item) → IsSoundItem es (f item) → KeepsLimits es (changed f xs k)
         → AreSoundItems (changed f xs k)
-    replaced f sound limits =
-        subst AreSoundItems (sym (changed_here f))
-        (layer_edits.replace es before after item (f item) split sound (subst (KeepsLimits es) (changed_here f) limits))
+    replaced f sound limits = grind (arith, changed_here, layer_edits, split)
 
     inked : (dark : Bool) → AreSoundItems (changed (with_object (with_polarity dark)) xs k)
     inked dark =
@@ -126,14 +117,7 @@ step_stays_sound c step h none = met_step_sound c step h (met c step none)
 -- ---- boards
 
 empty_sound : IsSound empty_content
-empty_sound = record {
-  attributes = none_set;
-  content = record {
-    entries = λ k d lt. absurd (omega (arith, lt));
-    items = All-nil (IsSoundItem []);
-    limits = record { few = omega arith; leaves = omega arith };
-  };
-}
+empty_sound = grind (arith, none_set, All-nil)
 
 pub held_sound : (sheets : List Sheet) (place : ℕ) (o : Option Sheet) → AreSound sheets → slice_get sheets place ≡ o
     → IsSound (content_or_empty o)
@@ -142,9 +126,7 @@ held_sound sheets place (Some s) h e = all_here (λ s. IsSound s.content) sheets
 
 changed_sound : (sheets : List Sheet) (place : ℕ) (new : Content) (o : Option Sheet) → AreSound sheets → IsSound new
     → AreSound (changed_to (with_content (λ _. new)) sheets place o)
-changed_sound sheets place new None h sound = h
-changed_sound sheets place new (Some s) h sound =
-    All-set (λ s. IsSound s.content) sheets place (sheet s.name new) sound h
+changed_sound sheets place new o h sound = grind (arith, common_steps, All-set)
 
 abbrev accepted : List Sheet → Result (List Sheet) EditFault
 accepted sheets = Ok sheets
@@ -153,9 +135,7 @@ module _ (sheets after : List Sheet) (h : AreSound sheets) where
   -- the sheets after an edit of the sheet at a place, where what that holds then is sound
   put_sound : (place : ℕ) (new : Content) → IsSound new → accepted (changed_at (λ _. new) place sheets) ≡ Ok after
       → AreSound after
-  put_sound place new sound e =
-      let is : changed_at (λ _. new) place sheets ≡ after = cc in
-      subst AreSound is (changed_sound sheets place new (slice_get sheets place) h sound)
+  put_sound place new sound e = grind (arith, changed_sound)
 
   stepped : (change : Change) (place : ℕ) (c : GerberContent) (r : Result Step EditFault) → IsSoundGerber c
       → judged_change c change ≡ r → with_step (with_gerber c) sheets place r ≡ Ok after → AreSound after
@@ -174,25 +154,18 @@ module _ (sheets after : List Sheet) (h : AreSound sheets) where
       → IsSoundDrillContent c.tools c.items
       → first_holding (drill_step_checks c step) ≡ o
       → with_step (with_drill c) sheets place (step_unless step o) ≡ Ok after → AreSound after
-  drill_stepped place c step None sound none e =
-      put_sound place (Drill (after_drill_step step c)) (drill_step_stays_sound c step sound none) e
-  drill_stepped place c step (Some fault) sound refused e = absurd cc
+  drill_stepped place c step o sound none e = grind (arith, common_steps, put_sound, drill_step_stays_sound)
 
   drill_judged_sound : (place : ℕ) (c : DrillContent) (o : Option DrillStep) → IsSoundDrillContent c.tools c.items
       → with_step (with_drill c) sheets place (judged_drill c o) ≡ Ok after → AreSound after
-  drill_judged_sound place c None sound e = absurd cc
-  drill_judged_sound place c (Some step) sound e =
-      drill_stepped place c step (first_holding (drill_step_checks c step)) sound refl e
+  drill_judged_sound place c o sound e = grind (arith, drill_stepped)
 
   sheet_sound : (change : Change) (place : ℕ) (c : Content) → IsSound c → edited_sheet change sheets place c ≡ Ok after
       → AreSound after
-  sheet_sound change place (Gerber c) sound e = stepped change place c (judged_change c change) sound refl e
-  sheet_sound change place (Drill c) sound e = drill_judged_sound place c (drill_step_of change) sound e
+  sheet_sound change place c sound e = grind (arith, stepped, drill_judged_sound)
 
   edited_at_sound : (change : Change) (o : Option ℕ) → edited_at change sheets o ≡ Ok after → AreSound after
-  edited_at_sound change None e = absurd cc
-  edited_at_sound change (Some place) e =
-      sheet_sound change place (content_at sheets place) (held_sound sheets place (slice_get sheets place) h refl) e
+  edited_at_sound change o e = grind (arith, sheet_sound, held_sound)
 
 pub edits_stay_sound : EditsStaySound
 unfolding edited

@@ -1,4 +1,5 @@
 -- What an accepted step of a layer touches: its boxes, and what they ask of the items.
+use Rattle.std.proofs.Common.{arith}
 use Rattle.std.proofs.Common.{◌≡◌, ℕ, ◌<◌, Bool, List, [], ◌∷◌, ◌++◌, length, get_or, Option, None, Some, refl, sym, ap, subst, ◌∙◌}
 use Rattle.std.specs.Prelude.{slice_get}
 use Rattle.std.specs.Option.{option_map}
@@ -47,9 +48,7 @@ module _ {X : Type 0} (box : X → Bounds) (xs : List X) (k : ℕ) where
     -- and of one that becomes any other
     pub changed : (f : X → X) (x : X) (after : Bounds) → x ≡ get_or xs k x → after ≡ box (f x)
         → b ∷ after ∷ [] ≡ box_if_there box (slice_get xs k) ++ box_if_there box (option_map f (slice_get xs k))
-    changed f x after at is =
-        let here = slice_get_read xs (length xs) k x refl within at in
-        (λ i. before x here i ∷ is i ∷ []) ∙ sym (ap (λ o. box_if_there box o ++ box_if_there box (option_map f o)) here)
+    changed f x after at is = grind (arith, slice_get_read)
 
 -- ---- Gerber layers
 

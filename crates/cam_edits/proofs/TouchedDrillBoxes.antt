@@ -1,6 +1,6 @@
 -- What an accepted step of a drill layer touches: its boxes, and what they ask of the items.
 use Rattle.std.proofs.Common.{◌≡◌, ℕ, ◌+◌, ◌<◌, ◌≤◌, Bool, true, false, cond, nat_eq, List, [], ◌∷◌, ◌++◌, length, take}
-use Rattle.std.proofs.Common.{get_or, Option, None, Some, refl, sym, ap, subst, ◌∙◌, append_assoc, append-nil, arith}
+use Rattle.std.proofs.Common.{get_or, None, Some, refl, sym, ap, subst, ◌∙◌, append_assoc, append-nil, arith}
 use Rattle.std.specs.Prelude.{◌==◌, IsSome, filter, slice_get}
 use Rattle.std.specs.Cmp.{nat_eq_equiv}
 use Rattle.std.specs.List.{All, flat_map}
@@ -18,7 +18,6 @@ use Rattle.cam_units.specs.declared.bounds.Bounds.{Bounds}
 use Rattle.cam_units.specs.declared.length.Nm.{Nm}
 use Rattle.cam_units.specs.declared.point.Point.{Point}
 use Rattle.cam_objects.specs.declared.drill_item.DrillItem.{DrillItem}
-use Rattle.cam_objects.specs.declared.drill_item.DrillItem.TheVariants.{Hit, Rout}
 use Rattle.cam_objects.specs.Bounds.{bounds_of}
 use Rattle.cam_objects.specs.Contents.{DrillContent}
 use Rattle.cam_objects.specs.Drilling.{diameter_of, drill_item_leaves, leaves_with}
@@ -45,8 +44,7 @@ boxes_of_items ts t d items =
 
 pub leaves_of_item : (ts : List (ℕ × Nm)) (item : DrillItem)
     → drill_item_leaves ts item ≡ leaves_with (diameter_of ts (tool_of item)) item
-leaves_of_item ts (Hit tool at) = refl
-leaves_of_item ts (Rout tool points) = refl
+leaves_of_item ts item = grind arith
 
 pub same_number : (t x y : ℕ) → nat_eq t x ≡ true → nat_eq t y ≡ nat_eq x y
 same_number t x y e = let is : t ≡ x = grind (arith, nat_tests) in ap (λ n. nat_eq n y) is
@@ -59,10 +57,7 @@ new_diameter ts t d there =
 
 box_after : (ts : List (ℕ × Nm)) (t : ℕ) (d : Nm) (item : DrillItem) → IsSome (diameter_of ts t) → tool_of item ≡ t
     → bounds_of (leaves_with (Some d) item) ≡ drill_box (set_value (nat_eq t) ts d) item
-box_after ts t d item there is =
-    let after = set_value (nat_eq t) ts d in
-    sym (ap bounds_of (leaves_of_item after item
-    ∙ ap (λ (o : Option Nm). leaves_with o item) (ap (diameter_of after) is ∙ new_diameter ts t d there)))
+box_after ts t d item there is = grind (arith, leaves_of_item, new_diameter)
 
 module _ (ts : List (ℕ × Nm)) (t : ℕ) (d : Nm) (items : List DrillItem) (i : ℕ) (x : DrillItem)
     (below : i < length items) (at : x ≡ get_or items i x) where
@@ -105,8 +100,7 @@ boxes_of_all ts t d xs ys i same past = ap (boxes_of_items ts t d) (take_all i y
 pub sound_read : (ts : List (ℕ × Nm)) (xs ys : List DrillItem) (i : ℕ) (x : DrillItem) → All (IsSoundDrillItem ts) xs
     → ys ≡ xs
     → i < length ys → x ≡ get_or ys i x → IsSoundDrillItem ts x
-sound_read ts xs ys i x h same below at =
-    let all = subst (All (IsSoundDrillItem ts)) (sym same) h in subst (IsSoundDrillItem ts) (sym at) (all i x below)
+sound_read ts xs ys i x h same below at = grind arith
 
 -- ---- what is told of a step
 

@@ -1,5 +1,5 @@
 -- A step that fits and leads to sound items is not refused, and one that fits and is not refused leads to sound items.
-use Rattle.std.proofs.Common.{◌≡◌, ℕ, ◌≤◌, ℤ, ◌≤ℤ◌, true, List, length, nat_eq, Option, None, Some, Result, IsTrue, refl, ap, sym, subst, ◌↔◌, arith}
+use Rattle.std.proofs.Common.{◌≡◌, ℕ, ◌≤◌, ℤ, ◌≤ℤ◌, true, List, length, nat_eq, Option, None, Some, Result, IsTrue, refl, sym, subst, ◌↔◌, arith}
 use Rattle.std.specs.Prelude.{IfSome, IsSome, insert, is_ok, pos, slice_get}
 use Rattle.std.specs.Int.RustNames.{int_le}
 use Rattle.std.specs.List.{All}
@@ -10,15 +10,11 @@ use Rattle.std.proofs.lemmas.Map.Entries.{All-lookup}
 use Rattle.cam_refusals.specs.Checks.{answer_of, first_holding}
 use Rattle.cam_units.specs.declared.length.Nm.{Nm}
 use Rattle.cam_objects.specs.Contents.{Content as GerberContent, DrillContent}
-use Rattle.cam_objects.specs.DrillSoundness.{IsSoundDrillContent, IsSoundDrillItem, IsSoundTool}
-use Rattle.cam_objects.specs.DrillSoundness.{drill_points_of}
+use Rattle.cam_objects.specs.DrillSoundness.{IsSoundDrillContent, IsSoundDrillItem, IsSoundTool, drill_points_of}
 use Rattle.cam_objects.specs.Drilling.{diameter_of}
 use Rattle.cam_objects.specs.Shifting.{shifted_drill_item, shifted_item}
-use Rattle.cam_objects.specs.Soundness.{IsSoundContent, IsSoundItem, KeepsLimits, has_radii, is_drawable_item}
-use Rattle.cam_objects.specs.Soundness.{is_formed_item, is_inside, is_known_item, is_within_limits, item_checks}
+use Rattle.cam_objects.specs.Soundness.{IsSoundContent, IsSoundItem, KeepsLimits, is_formed_item, is_inside, item_checks}
 use Rattle.cam_objects.specs.declared.item.Item.{Item}
-use Rattle.cam_objects.specs.declared.item.Item.TheVariants.{One, Repeat}
-use Rattle.cam_objects.specs.declared.object.Object.TheVariants.{Flash, Draw, Arc, Region}
 use Rattle.cam_objects.proofs.SoundItems.{meets_drill, passed}
 use Rattle.cam_objects.proofs.TestLaws.{all_on_board, at_most, limit_law}
 use Rattle.cam_edits.specs.declared.drill_step.DrillStep.{DrillStep}
@@ -44,8 +40,7 @@ use Rattle.cam_edits.proofs.TouchedDrillBoxes.{new_diameter}
 -- an answer is that nothing was refused
 tells_none : (told : Option EditFault) (answer : Result Unit EditFault) → answer ≡ answer_of told
     → IsTrue (is_ok answer) ↔ (told ≡ None)
-tells_none None answer e = (λ _. refl, λ _. ap is_ok e)
-tells_none (Some fault) answer e = (λ ok. absurd cc, λ none. absurd cc)
+tells_none told answer e = grind arith
 
 -- what holds of all elements holds of one that was changed
 all_changed : {X : Type 0} (P : X → Type 0) (f : X → X) (xs : List X) (k : ℕ) (x : X) → slice_get xs k ≡ Some x
@@ -58,37 +53,21 @@ all_inserted P xs k x fit all = all_here P (insert xs k x) k x all (get_inserted
 -- ---- Gerber layers
 
 has_its_aperture : (x : Item) → IsOne HasAperture x → has_aperture x ≡ true
-has_its_aperture (One (Flash m at t dark)) h = refl
-has_its_aperture (One (Draw m from to t dark)) h = refl
-has_its_aperture (One (Arc ccw dark m from to centre)) h = refl
-has_its_aperture (One (Region contour dark)) h = absurd h
-has_its_aperture (Repeat columns rows i j objects) h = absurd h
+has_its_aperture x h = grind arith
 
 module _ (c : GerberContent) where
   -- a sound item among those that there are with it
   sound_among : (item : Item) (items : List Item) → IsSoundItem c.entries item → KeepsLimits c.entries items
       → (is_formed_item item ≡ true) × (of_item c item items ≡ None)
   unfolding item_checks
-  sound_among item items sound limits =
-      let a = passed _ (is_formed_item item) _ sound in
-      let b = passed _ (is_known_item c.entries item) _ a.1 in
-      let d = passed _ (is_drawable_item c.entries item) _ b.1 in
-      let e = passed _ (has_radii item) _ d.1 in
-      let f = passed _ (is_inside c.entries item) _ e.1 in
-      let g = passed _ (is_within_limits c.entries item) _ f.1 in
-      (a.0, rw (b.0, d.0, e.0, f.0, g.0, (limit_law.layer c.entries items).1 limits) refl)
+  sound_among item items sound limits = grind (arith, passed, limit_law)
 
   inside : (item : Item) → IsSoundItem c.entries item → is_inside c.entries item ≡ true
   unfolding item_checks
-  inside item sound =
-      let a = passed _ (is_formed_item item) _ sound in
-      let b = passed _ (is_known_item c.entries item) _ a.1 in
-      let d = passed _ (is_drawable_item c.entries item) _ b.1 in
-      let e = passed _ (has_radii item) _ d.1 in (passed _ (is_inside c.entries item) _ e.1).0
+  inside item sound = grind (arith, passed)
 
   inked : (x : Item) → IsOne (λ _. Unit {0}) x → first_holding (polarity_checks c (Some x)) ≡ None
-  inked (One object) h = refl
-  inked (Repeat columns rows i j objects) h = absurd h
+  inked x h = grind arith
 
   unrefused : (step : Step) → IsFit step c → IsSoundContent c.entries (items_after step c.items)
       → first_holding (step_checks c step) ≡ None
@@ -103,28 +82,21 @@ module _ (c : GerberContent) where
       let x = found (IsMovableItem by) c.items k fit.1 in
       let sound = all_changed (IsSoundItem c.entries) (shifted_item by) c.items k x.0 x.1 h.items in
       subst (λ o. first_holding (move_checks c by o) ≡ None) (sym x.1) (rw (inside (shifted_item by x.0) sound) refl)
-  unrefused (steps.Reorder k m) fit h =
-      rw ((Decides-ltb k (length c.items)).1 fit.0, (Decides-ltb m (length c.items)).1 fit.1) refl
+  unrefused (steps.Reorder k m) fit h = grind (arith, Decides-ltb)
   unrefused (steps.Aperture k n) fit h =
       let f = with_object (with_aperture n) in
       let x = found (IsOne HasAperture) c.items k fit in
       let sound = all_changed (IsSoundItem c.entries) f c.items k x.0 x.1 h.items in
       subst (λ o. first_holding (aperture_checks c k n o) ≡ None) (sym x.1)
       (rw (has_its_aperture x.0 x.2) (sound_among (f x.0) (changed f c.items k) sound h.limits).1)
-  unrefused (steps.Polarity k dark) fit h =
-      let x = found (IsOne (λ _. Unit {0})) c.items k fit in
-      subst (λ o. first_holding (polarity_checks c o) ≡ None) (sym x.1) (inked x.0 x.2)
+  unrefused (steps.Polarity k dark) fit h = grind (arith, inked)
   unrefused (steps.PutAttribute k a) fit h = refl
   unrefused (steps.TakeAttribute k) fit h = refl
   unrefused (steps.SetFields k fields) fit h = refl
 
   pub sound_by : (step : Step) (answer : Result Unit EditFault) → IsFit step c → IsSoundContent c.entries c.items
       → answer ≡ step_answer c step → IsTrue (is_ok answer) ↔ IsSoundStep step c
-  sound_by step answer fit h e =
-      let none = tells_none (first_holding (step_checks c step)) answer e in (
-        λ ok. record { fits = fit; before = h; after = step_stays_sound c step h (none.0 ok) },
-        λ sound. none.1 (unrefused step fit sound.after),
-      )
+  sound_by step answer fit h e = grind (arith, tells_none, step_stays_sound, unrefused)
 
 -- ---- drill layers
 
@@ -165,8 +137,7 @@ module _ (c : DrillContent) where
       (all_changed (IsSoundDrillItem c.tools) (shifted_drill_item by) c.items k x.0 x.1 h.items) in
       subst (λ o. first_holding (move_drill_checks c by o) ≡ None) (sym x.1)
       (rw ((all_on_board (drill_points_of new)).1 m.inside) refl)
-  drill_unrefused (drill_steps.Reorder k m) fit h =
-      rw ((Decides-ltb k (length c.items)).1 fit.0, (Decides-ltb m (length c.items)).1 fit.1) refl
+  drill_unrefused (drill_steps.Reorder k m) fit h = grind (arith, Decides-ltb)
   drill_unrefused (drill_steps.Tool k t) fit h =
       let x = element_at c.items k fit in
       let m = meets_drill c.tools (with_tool t x.0)
@@ -177,8 +148,4 @@ module _ (c : DrillContent) where
   pub drill_sound_by : (step : DrillStep) (answer : Result Unit EditFault) → IsDrillFit step c
       → IsSoundDrillContent c.tools c.items → answer ≡ drill_step_answer c step
       → IsTrue (is_ok answer) ↔ IsSoundDrillStep step c
-  drill_sound_by step answer fit h e =
-      let none = tells_none (first_holding (drill_step_checks c step)) answer e in (
-        λ ok. record { fits = fit; before = h; after = drill_step_stays_sound c step h (none.0 ok) },
-        λ sound. none.1 (drill_unrefused step fit sound.after),
-      )
+  drill_sound_by step answer fit h e = grind (arith, tells_none, drill_step_stays_sound, drill_unrefused)

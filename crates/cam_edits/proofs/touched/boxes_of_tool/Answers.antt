@@ -5,8 +5,7 @@ use Rattle.cam_objects.specs.DrillSoundness.{tool_of}
 use Rattle.cam_edits.specs.declared.drill_step.DrillStep.TheVariants.{Diameter}
 use Rattle.cam_objects.proofs.SoundItems.{meets_drill}
 use Rattle.cam_edits.proofs.ItemTools.{boxes_past, tool_at}
-use Rattle.cam_edits.proofs.TouchedDrillBoxes.{boxes_of_all, diameter_boxes, diameter_size, has_tool}
-use Rattle.cam_edits.proofs.TouchedDrillBoxes.{item_of_tool, sound_read}
+use Rattle.cam_edits.proofs.TouchedDrillBoxes.{boxes_of_all, diameter_boxes, diameter_size, has_tool, item_of_tool, sound_read}
 use Rattle.cam_edits.proofs.touched.boxes_of_tool.Goals as goal
 
 pub loop-place-init : goal.loop-place-init

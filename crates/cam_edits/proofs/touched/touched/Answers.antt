@@ -1,4 +1,4 @@
-use Rattle.std.proofs.Common.{◌≡◌, ◌∙◌, IfOk, List, ◌<◌, rules, subst, sym}
+use Rattle.std.proofs.Common.{arith, ◌≡◌, IfOk, List, ◌<◌, rules, subst, sym}
 use Rattle.cam_units.specs.declared.bounds.Bounds.{Bounds}
 use Rattle.cam_edits.specs.Moving.{way}
 use Rattle.cam_edits.proofs.TouchedBoxes.{aperture_boxes, aperture_within, delete_box, delete_within, insert_box, move_boxes, move_within}
@@ -96,15 +96,10 @@ returns-in-Polarity c =
     c.kept_box-in-Polarity.ensures
 
 pub returns-in-PutAttribute : goal.returns-in-PutAttribute
-returns-in-PutAttribute c =
-    c.new.ensures.items
-    ∙ put_boxes _ _ c.requires.accepted c.in-PutAttribute.k c.in-PutAttribute.attribute c.in-PutAttribute.is
+returns-in-PutAttribute c = grind (arith, put_boxes)
 
 pub returns-in-TakeAttribute : goal.returns-in-TakeAttribute
-returns-in-TakeAttribute c =
-    c.new-in-TakeAttribute.ensures.items ∙ take_boxes _ _ c.requires.accepted c.in-TakeAttribute.k c.in-TakeAttribute.is
+returns-in-TakeAttribute c = grind (arith, take_boxes)
 
 pub returns-in-SetFields : goal.returns-in-SetFields
-returns-in-SetFields c =
-    c.new-in-SetFields.ensures.items
-    ∙ fields_boxes _ _ c.requires.accepted c.in-SetFields.k c.in-SetFields.fields c.in-SetFields.is
+returns-in-SetFields c = grind (arith, fields_boxes)

@@ -1,4 +1,4 @@
-use Rattle.std.proofs.Common.{◌≡◌, ◌<◌, IfSome, length, map, subst}
+use Rattle.std.proofs.Common.{arith, ◌≡◌, map, subst}
 use Rattle.cam_edits.specs.Boards.{place_named}
 use Rattle.cam_edits.specs.Sheets.{sheet_of}
 use Rattle.cam_edits.proofs.Names.{named_place, place_within}
@@ -10,6 +10,4 @@ returns-clause-value c =
     (named_place c.deref.result.now c.args.name.now c.place_among.result c.place_among.ensures.value)
 
 pub returns-clause-within : goal.returns-clause-within
-returns-clause-within c =
-    subst (λ sheets. IfSome c.place_among.result (λ k. k < length (map sheet_of sheets))) c.deref.ensures.value
-    (place_within c.deref.result.now c.place_among.result c.place_among.ensures.within)
+returns-clause-within c = grind (arith, place_within)

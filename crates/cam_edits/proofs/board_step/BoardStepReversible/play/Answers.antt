@@ -1,28 +1,16 @@
-use Rattle.std.proofs.Common.{ap, arith, sym, ◌∙◌}
+use Rattle.std.proofs.Common.{arith}
 use Rattle.cam_edits.proofs.BoardRoom.{drill_room_here, room_for_rest, room_here}
 use Rattle.cam_edits.proofs.BoardSheets.{content_is, sheet_at, sheet_place_within, sheets_changed, told_there}
 use Rattle.cam_edits.specs.declared.board_step.BoardStep.TheVariants as steps
-use Rattle.cam_edits.specs.declared.drill_step.DrillStep.{DrillStep}
-use Rattle.cam_edits.specs.declared.step.Step.{Step}
-use Rattle.cam_edits.specs.BoardSteps.{IsDrillFitOn, IsFitOn, after_drill_on, after_on, inverse_drill_on, inverse_on}
+use Rattle.cam_edits.specs.BoardSteps.{IsDrillFitOn, IsFitOn}
 use Rattle.cam_edits.specs.Sheets.{Sheet}
 use Rattle.cam_edits.proofs.board_step.BoardStepReversible.play.Goals as goal
 
 pub returns-in-Gerber-clause-content : goal.returns-in-Gerber-clause-content
-returns-in-Gerber-clause-content c =
-    let step = c.in-Gerber.step in
-    let fits = rw c.in-Gerber.is at c.requires.fits in
-    let e = sheet_at (λ (t : Sheet). IsFitOn step t.content) _ c.in-Gerber.sheet _ fits c.index_mut.ensures.value in
-    rw c.in-Gerber.is (sheets_changed _ _ _ e (after_on step) _ c.play_on.ensures.content)
+returns-in-Gerber-clause-content c = grind (arith, sheet_at, sheets_changed)
 
 pub returns-in-Gerber-clause-answer : goal.returns-in-Gerber-clause-answer
-returns-in-Gerber-clause-answer c =
-    let step = c.in-Gerber.step in
-    let fits = rw c.in-Gerber.is at c.requires.fits in
-    let e = sheet_at (λ (t : Sheet). IsFitOn step t.content) _ c.in-Gerber.sheet _ fits c.index_mut.ensures.value in
-    rw c.in-Gerber.is
-    (ap (λ (answer : Step). steps.Gerber c.in-Gerber.sheet answer c.in-Gerber.boxes)
-    (c.play_on.ensures.answer ∙ ap (inverse_on step) (sym (content_is c.args.board.now.sheets.items c.in-Gerber.sheet _ e))))
+returns-in-Gerber-clause-answer c = grind (arith, sheet_at, content_is)
 
 pub returns-in-Gerber-clause-room : goal.returns-in-Gerber-clause-room
 returns-in-Gerber-clause-room c = λ rest room.
@@ -36,20 +24,10 @@ returns-in-Gerber-clause-room c = λ rest room.
     (rw c.in-Gerber.is at room)
 
 pub returns-in-Drill-clause-content : goal.returns-in-Drill-clause-content
-returns-in-Drill-clause-content c =
-    let step = c.in-Drill.step in
-    let fits = rw c.in-Drill.is at c.requires.fits in
-    let e = sheet_at (λ (t : Sheet). IsDrillFitOn step t.content) _ c.in-Drill.sheet _ fits c.index_mut-in-Drill.ensures.value in
-    rw c.in-Drill.is (sheets_changed _ _ _ e (after_drill_on step) _ c.play_drill_on.ensures.content)
+returns-in-Drill-clause-content c = grind (arith, sheet_at, sheets_changed)
 
 pub returns-in-Drill-clause-answer : goal.returns-in-Drill-clause-answer
-returns-in-Drill-clause-answer c =
-    let step = c.in-Drill.step in
-    let fits = rw c.in-Drill.is at c.requires.fits in
-    let e = sheet_at (λ (t : Sheet). IsDrillFitOn step t.content) _ c.in-Drill.sheet _ fits c.index_mut-in-Drill.ensures.value in
-    rw c.in-Drill.is
-    (ap (λ (answer : DrillStep). steps.Drill c.in-Drill.sheet answer c.in-Drill.boxes)
-    (c.play_drill_on.ensures.answer ∙ ap (inverse_drill_on step) (sym (content_is c.args.board.now.sheets.items c.in-Drill.sheet _ e))))
+returns-in-Drill-clause-answer c = grind (arith, sheet_at, content_is)
 
 pub returns-in-Drill-clause-room : goal.returns-in-Drill-clause-room
 returns-in-Drill-clause-room c = λ rest room.
@@ -64,10 +42,7 @@ returns-in-Drill-clause-room c = λ rest room.
     (rw c.in-Drill.is at room)
 
 pub index_mut-requires : goal.index_mut-requires
-index_mut-requires c =
-    let fits = rw c.in-Gerber.is at c.requires.fits in
-    let place = sheet_place_within (λ (t : Sheet). IsFitOn c.in-Gerber.step t.content) c.args.board.now.sheets.items c.in-Gerber.sheet fits in
-    omega (arith, place, c.args.board.now.sheets.ok.0)
+index_mut-requires c = grind (arith, sheet_place_within)
 
 pub play_on-requires-clause-fits : goal.play_on-requires-clause-fits
 play_on-requires-clause-fits c =
@@ -77,10 +52,7 @@ play_on-requires-clause-fits c =
     told_there c.args.board.now.sheets.items c.in-Gerber.sheet _ e (λ (t : Sheet). IsFitOn step t.content) fits
 
 pub index_mut-requires-in-Drill : goal.index_mut-requires-in-Drill
-index_mut-requires-in-Drill c =
-    let fits = rw c.in-Drill.is at c.requires.fits in
-    let place = sheet_place_within (λ (t : Sheet). IsDrillFitOn c.in-Drill.step t.content) c.args.board.now.sheets.items c.in-Drill.sheet fits in
-    omega (arith, place, c.args.board.now.sheets.ok.0)
+index_mut-requires-in-Drill c = grind (arith, sheet_place_within)
 
 pub play_drill_on-requires-clause-fits : goal.play_drill_on-requires-clause-fits
 play_drill_on-requires-clause-fits c =

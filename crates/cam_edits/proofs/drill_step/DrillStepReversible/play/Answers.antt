@@ -1,15 +1,13 @@
-use Rattle.std.proofs.Common.{◌∙◌, ap, length, refl, subst, sym, arith, List}
+use Rattle.std.proofs.Common.{◌∙◌, ap, length, refl, subst, arith, List}
 use Rattle.cam_units.specs.declared.point.Point.{Point}
-use Rattle.cam_shapes.specs.Shifting.{IsShiftable}
 use Rattle.cam_objects.specs.declared.drill_item.DrillItem.{DrillItem}
 use Rattle.cam_objects.specs.Shifting.{shifted_drill_item}
 use Rattle.cam_edits.specs.Moving.{IsMovableDrillItem, way}
 use Rattle.std.proofs.lemmas.List.{length-set}
 use Rattle.std.proofs.lemmas.List.Edits.{length-insert}
 use Rattle.cam_objects.specs.Contents.{drill_content_of}
-use Rattle.cam_edits.specs.DrillSteps.{IsDrillFit, with_tool}
-use Rattle.cam_edits.specs.declared.drill_step.DrillStep.TheVariants.{Tool}
-use Rattle.cam_edits.proofs.ReadItems.{has_place, negated_fits, negated_is, read_there, set_is_changed, way_is}
+use Rattle.cam_edits.specs.DrillSteps.{IsDrillFit}
+use Rattle.cam_edits.proofs.ReadItems.{has_place, negated_fits, read_there, set_is_changed, way_is}
 use Rattle.cam_edits.proofs.RoomLeft.{holes_left}
 use Rattle.cam_edits.proofs.drill_step.DrillStepReversible.play.Goals as goal
 
@@ -41,14 +39,7 @@ pub remove-requires : goal.remove-requires
 remove-requires c = let fits = rw c.in-Delete.is at c.requires.fits in omega (arith, fits, c.args.layer.now.items.ok.0)
 
 pub index_mut-requires : goal.index_mut-requires
-index_mut-requires c =
-    let fits = rw c.in-Move.is at c.requires.fits in
-    let place = has_place (IsMovableDrillItem (way c.in-Move.dx c.in-Move.dy)) c.args.layer.now.items.items c.in-Move.k fits.1 in omega (arith, place, c.args.layer.now.items.ok.0)
-
-pub shift-requires-clause-by : goal.shift-requires-clause-by
-shift-requires-clause-by c =
-    let fits = rw c.in-Move.is at c.requires.fits in
-    subst IsShiftable (sym (c.way.ensures ∙ way_is c.in-Move.dx c.in-Move.dy fits.0)) fits.0
+index_mut-requires c = grind (arith, has_place)
 
 pub overflow_sub-result : goal.overflow_sub-result
 overflow_sub-result c = let fits = rw c.in-Move.is at c.requires.fits in negated_fits c.in-Move.dx fits.0.x
@@ -59,22 +50,11 @@ overflow_sub-result-in-Move c = let fits = rw c.in-Move.is at c.requires.fits in
 pub index_mut-requires-in-Tool : goal.index_mut-requires-in-Tool
 index_mut-requires-in-Tool c = let fits = rw c.in-Tool.is at c.requires.fits in omega (arith, fits, c.args.layer.now.items.ok.0)
 
-pub returns-in-Insert-clause-content : goal.returns-in-Insert-clause-content
-returns-in-Insert-clause-content c =
-    rw c.in-Insert.is (ap (λ (items : List DrillItem). record (drill_content_of c.args.layer.now) { items = items }) c.put.ensures.items)
-
 pub returns-in-Insert-clause-answer : goal.returns-in-Insert-clause-answer
 returns-in-Insert-clause-answer c = rw c.in-Insert.is refl
 
-pub returns-in-Delete-clause-content : goal.returns-in-Delete-clause-content
-returns-in-Delete-clause-content c =
-    rw c.in-Delete.is (ap (λ (items : List DrillItem). record (drill_content_of c.args.layer.now) { items = items }) c.remove.ensures.items)
-
 pub returns-in-Delete-clause-answer : goal.returns-in-Delete-clause-answer
-returns-in-Delete-clause-answer c =
-    let fits = rw c.in-Delete.is at c.requires.fits in
-    let there = read_there c.args.layer.now.items.items c.in-Delete.k c.remove.result fits c.remove.ensures.value in
-    rw (c.in-Delete.is, there) refl
+returns-in-Delete-clause-answer c = grind (arith, read_there)
 
 pub returns-in-Move-clause-content : goal.returns-in-Move-clause-content
 returns-in-Move-clause-content c =
@@ -85,23 +65,11 @@ returns-in-Move-clause-content c =
     ∙ ap (λ (w : Point). shifted_drill_item w c.index_mut.result.now) (c.way.ensures ∙ way_is c.in-Move.dx c.in-Move.dy fits.0) in
     rw c.in-Move.is (ap (λ (items : List DrillItem). record (drill_content_of c.args.layer.now) { items = items }) (set_is_changed _ _ _ there (shifted_drill_item by) _ shifted))
 
-pub returns-in-Move-clause-answer : goal.returns-in-Move-clause-answer
-returns-in-Move-clause-answer c =
-    let fits = rw c.in-Move.is at c.requires.fits in
-    rw (c.in-Move.is, negated_is c.in-Move.dx fits.0.x, negated_is c.in-Move.dy fits.0.y) refl
-
 pub returns-in-Reorder-clause-answer : goal.returns-in-Reorder-clause-answer
 returns-in-Reorder-clause-answer c = rw c.in-Reorder.is refl
 
 pub returns-in-Tool-clause-content : goal.returns-in-Tool-clause-content
-returns-in-Tool-clause-content c =
-    let fits = rw c.in-Tool.is at c.requires.fits in
-    let there = read_there c.args.layer.now.items.items c.in-Tool.k _ fits c.index_mut-in-Tool.ensures.value in
-    rw c.in-Tool.is
-    (ap (λ (items : List DrillItem). record (drill_content_of c.args.layer.now) { items = items }) (set_is_changed _ _ _ there (with_tool c.in-Tool.t) _ c.set_tool-t.ensures.item))
+returns-in-Tool-clause-content c = grind (arith, read_there, set_is_changed)
 
 pub returns-in-Tool-clause-answer : goal.returns-in-Tool-clause-answer
-returns-in-Tool-clause-answer c =
-    let fits = rw c.in-Tool.is at c.requires.fits in
-    let there = read_there c.args.layer.now.items.items c.in-Tool.k _ fits c.index_mut-in-Tool.ensures.value in
-    rw (c.in-Tool.is, there) (ap (Tool c.in-Tool.k) c.set_tool-t.ensures.before)
+returns-in-Tool-clause-answer c = grind (arith, read_there)

@@ -3,24 +3,12 @@ use Rattle.cam_units.specs.declared.bounds.Bounds.{Bounds}
 use Rattle.cam_objects.specs.Cells.{AreCellsOf, AreFirstCopiesOf}
 use Rattle.cam_objects.specs.Contents.{content_of}
 use Rattle.cam_objects.specs.declared.layer.Layer.{Layer}
-use Rattle.cam_edits.specs.Machinery.Shifts.{WereCells}
-use Rattle.cam_edits.specs.Steps.{HasRoom, IsSoundStep, after_step, inverse_step}
+use Rattle.cam_edits.specs.Steps.{HasRoom, after_step, inverse_step}
 use Rattle.cam_edits.proofs.ShiftedItems.{boxes_of, kept_before, layer_cells, layer_leaves}
 use Rattle.cam_edits.proofs.indexed.IndexedLayer.play.Goals as goal
 
 pub leaves_at-gone-requires : goal.leaves_at-gone-requires
 leaves_at-gone-requires c = c.self.invariant.kept.sound
-
-pub play-answer-requires-clause-fits : goal.play-answer-requires-clause-fits
-play-answer-requires-clause-fits c =
-    (subst (λ (l : Layer). IsSoundStep c.args.step (content_of l)) (sym c.self.view_is) c.requires.fits).fits
-
-pub leaves_at-come-requires : goal.leaves_at-come-requires
-leaves_at-come-requires c =
-    let was = kept_before _ c.play-answer.new.layer _ c.args.step c.of-shift.result _ c.leaves_at-gone.result
-    c.self.invariant.kept c.self.view_is c.requires.fits c.play-answer.ensures.content
-    c.of-shift.ensures c.leaves_at-gone.ensures in
-    was.sound
 
 pub overflow_add-self : goal.overflow_add-self
 overflow_add-self c =
@@ -39,12 +27,23 @@ overflow_sub-self c =
     omega (arith, all.sum)
 
 pub mend-requires : goal.mend-requires
-mend-requires c =
+mend-requires c = grind (arith, kept_before, boxes_of, layer_cells)
+
+pub invariant_of-self : goal.invariant_of-self
+invariant_of-self c =
     let was = kept_before _ c.play-answer.new.layer _ c.args.step c.of-shift.result _ c.leaves_at-gone.result
     c.self.invariant.kept c.self.view_is c.requires.fits c.play-answer.ensures.content
     c.of-shift.ensures c.leaves_at-gone.ensures in
-    subst (λ (l : Layer). WereCells c.of-shift.result c.self.inside.kept.cells (boxes_of l)) (sym c.boxes.ensures)
-    (layer_cells was.before c.play-answer.new.layer c.of-shift.result _ was.entries was.shifted was.known.cells)
+    let all = layer_leaves _ _ _ _ _ was c.leaves_at-come.ensures in
+    record {
+      kept = record {
+        sound = was.sound;
+        leaves = omega (arith, all.sum);
+        cells = subst (λ (those : List Bounds). AreCellsOf those c.mend.new.cells) (ap boxes_of c.boxes.ensures)
+            c.mend.ensures;
+      };
+      copies = c.mend_copies.ensures;
+    }
 
 pub mend_copies-requires-clause-sound : goal.mend_copies-requires-clause-sound
 mend_copies-requires-clause-sound c =
@@ -63,22 +62,6 @@ mend_copies-requires-clause-was c =
       known = subst (λ es. AreFirstCopiesOf es c.self.inside.layer.items.items c.self.inside.copies) was.entries
           c.self.invariant.copies;
       edit = was.shifted;
-    }
-
-pub invariant_of-self : goal.invariant_of-self
-invariant_of-self c =
-    let was = kept_before _ c.play-answer.new.layer _ c.args.step c.of-shift.result _ c.leaves_at-gone.result
-    c.self.invariant.kept c.self.view_is c.requires.fits c.play-answer.ensures.content
-    c.of-shift.ensures c.leaves_at-gone.ensures in
-    let all = layer_leaves _ _ _ _ _ was c.leaves_at-come.ensures in
-    record {
-      kept = record {
-        sound = was.sound;
-        leaves = omega (arith, all.sum);
-        cells = subst (λ (those : List Bounds). AreCellsOf those c.mend.new.cells) (ap boxes_of c.boxes.ensures)
-            c.mend.ensures;
-      };
-      copies = c.mend_copies.ensures;
     }
 
 pub returns-clause-content : goal.returns-clause-content

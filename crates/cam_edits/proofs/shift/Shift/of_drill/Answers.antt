@@ -5,17 +5,6 @@ use Rattle.cam_edits.specs.Moving.{IsMovableDrillItem, way}
 use Rattle.cam_edits.proofs.ShiftedItems.{reordered_shift, shift_at, shift_there}
 use Rattle.cam_edits.proofs.shift.Shift.of_drill.Goals as goal
 
-pub returns-in-Insert : goal.returns-in-Insert
-returns-in-Insert c = λ content fit.
-    let fits = rw c.in-Insert.is at fit in
-    rw (c.between.ensures, c.in-Insert.is)
-    (fits, (c.in-Insert.item, refl))
-
-pub returns-in-Delete : goal.returns-in-Delete
-returns-in-Delete c = λ content fit.
-    let fits = rw c.in-Delete.is at fit in
-    rw (c.between-in-Delete.ensures, c.in-Delete.is) (fits, refl)
-
 pub returns-in-Reorder : goal.returns-in-Reorder
 returns-in-Reorder c = λ content fit.
     let fits = rw c.in-Reorder.is at fit in

@@ -1,13 +1,9 @@
-use Rattle.std.proofs.Common.{◌∙◌, ap, length, refl, subst, sym, arith, List}
+use Rattle.std.proofs.Common.{◌∙◌, ap, length, refl, subst, arith, List}
 use Rattle.cam_objects.specs.declared.attribute.Attribute.{Attribute}
 use Rattle.cam_objects.specs.declared.item.Item.{Item}
-use Rattle.cam_objects.specs.Attributes.{attribute_of}
 use Rattle.cam_units.specs.declared.point.Point.{Point}
-use Rattle.cam_shapes.specs.Shifting.{IsShiftable}
 use Rattle.cam_objects.specs.Shifting.{shifted_item}
 use Rattle.cam_edits.specs.Moving.{IsMovableItem, way}
-use Rattle.cam_edits.specs.Steps.{HasAperture, IsOne, with_aperture, with_fields, with_object, with_polarity}
-use Rattle.cam_edits.specs.declared.step.Step.TheVariants.{SetFields}
 use Rattle.cam_edits.proofs.ReadItems.{has_place, negated_fits, negated_is, read_there, set_is_changed, told_there, way_is}
 use Rattle.std.proofs.lemmas.List.{length-set}
 use Rattle.std.proofs.lemmas.List.Edits.{length-insert}
@@ -54,14 +50,7 @@ pub remove-requires : goal.remove-requires
 remove-requires c = let fits = rw c.in-Delete.is at c.requires.fits in omega (arith, fits, c.args.layer.now.items.ok.0)
 
 pub index_mut-requires : goal.index_mut-requires
-index_mut-requires c =
-    let fits = rw c.in-Move.is at c.requires.fits in
-    let place = has_place (IsMovableItem (way c.in-Move.dx c.in-Move.dy)) c.args.layer.now.items.items c.in-Move.k fits.1 in omega (arith, place, c.args.layer.now.items.ok.0)
-
-pub shift-requires-clause-by : goal.shift-requires-clause-by
-shift-requires-clause-by c =
-    let fits = rw c.in-Move.is at c.requires.fits in
-    subst IsShiftable (sym (c.way.ensures ∙ way_is c.in-Move.dx c.in-Move.dy fits.0)) fits.0
+index_mut-requires c = grind (arith, has_place)
 
 pub overflow_sub-result : goal.overflow_sub-result
 overflow_sub-result c = let fits = rw c.in-Move.is at c.requires.fits in negated_fits c.in-Move.dx fits.0.x
@@ -70,54 +59,25 @@ pub overflow_sub-result-in-Move : goal.overflow_sub-result-in-Move
 overflow_sub-result-in-Move c = let fits = rw c.in-Move.is at c.requires.fits in negated_fits c.in-Move.dy fits.0.y
 
 pub index_mut-requires-in-Aperture : goal.index_mut-requires-in-Aperture
-index_mut-requires-in-Aperture c =
-    let fits = rw c.in-Aperture.is at c.requires.fits in
-    let place = has_place (IsOne HasAperture) c.args.layer.now.items.items c.in-Aperture.k fits in omega (arith, place, c.args.layer.now.items.ok.0)
+index_mut-requires-in-Aperture c = grind (arith, has_place)
 
 pub set_aperture-n-requires : goal.set_aperture-n-requires
-set_aperture-n-requires c =
-    let fits = rw c.in-Aperture.is at c.requires.fits in
-    let there = read_there c.args.layer.now.items.items c.in-Aperture.k _ (has_place (IsOne HasAperture) c.args.layer.now.items.items c.in-Aperture.k fits) c.index_mut-in-Aperture.ensures.value in
-    told_there (IsOne HasAperture) c.args.layer.now.items.items c.in-Aperture.k _ fits there
+set_aperture-n-requires c = grind (arith, read_there, has_place, told_there)
 
 pub index_mut-requires-in-Polarity : goal.index_mut-requires-in-Polarity
-index_mut-requires-in-Polarity c =
-    let fits = rw c.in-Polarity.is at c.requires.fits in
-    let place = has_place (IsOne (λ _. Unit {0})) c.args.layer.now.items.items c.in-Polarity.k fits in omega (arith, place, c.args.layer.now.items.ok.0)
+index_mut-requires-in-Polarity c = grind (arith, has_place)
 
 pub set_polarity-dark-requires : goal.set_polarity-dark-requires
-set_polarity-dark-requires c =
-    let fits = rw c.in-Polarity.is at c.requires.fits in
-    let there = read_there c.args.layer.now.items.items c.in-Polarity.k _ (has_place (IsOne (λ _. Unit {0})) c.args.layer.now.items.items c.in-Polarity.k fits) c.index_mut-in-Polarity.ensures.value in
-    told_there (IsOne (λ _. Unit {0})) c.args.layer.now.items.items c.in-Polarity.k _ fits there
+set_polarity-dark-requires c = grind (arith, read_there, has_place, told_there)
 
 pub put-requires-in-PutAttribute-clause-place : goal.put-requires-in-PutAttribute-clause-place
 put-requires-in-PutAttribute-clause-place c = rw c.in-PutAttribute.is at c.requires.fits
 
-pub remove-requires-in-TakeAttribute : goal.remove-requires-in-TakeAttribute
-remove-requires-in-TakeAttribute c =
-    let fits = rw c.in-TakeAttribute.is at c.requires.fits in omega (arith, fits, c.args.layer.now.attributes.ok.0)
-
-pub index_mut-requires-in-SetFields : goal.index_mut-requires-in-SetFields
-index_mut-requires-in-SetFields c =
-    let fits = rw c.in-SetFields.is at c.requires.fits in omega (arith, fits, c.args.layer.now.attributes.ok.0)
-
-pub returns-in-Insert-clause-content : goal.returns-in-Insert-clause-content
-returns-in-Insert-clause-content c =
-    rw c.in-Insert.is (ap (λ (items : List Item). record (content_of c.args.layer.now) { items = items }) c.put.ensures.items)
-
 pub returns-in-Insert-clause-answer : goal.returns-in-Insert-clause-answer
 returns-in-Insert-clause-answer c = rw c.in-Insert.is refl
 
-pub returns-in-Delete-clause-content : goal.returns-in-Delete-clause-content
-returns-in-Delete-clause-content c =
-    rw c.in-Delete.is (ap (λ (items : List Item). record (content_of c.args.layer.now) { items = items }) c.remove.ensures.items)
-
 pub returns-in-Delete-clause-answer : goal.returns-in-Delete-clause-answer
-returns-in-Delete-clause-answer c =
-    let fits = rw c.in-Delete.is at c.requires.fits in
-    let there = read_there c.args.layer.now.items.items c.in-Delete.k c.remove.result fits c.remove.ensures.value in
-    rw (c.in-Delete.is, there) refl
+returns-in-Delete-clause-answer c = grind (arith, read_there)
 
 pub returns-in-Move-clause-content : goal.returns-in-Move-clause-content
 returns-in-Move-clause-content c =
@@ -128,72 +88,50 @@ returns-in-Move-clause-content c =
     ∙ ap (λ (w : Point). shifted_item w c.index_mut.result.now) (c.way.ensures ∙ way_is c.in-Move.dx c.in-Move.dy fits.0) in
     rw c.in-Move.is (ap (λ (items : List Item). record (content_of c.args.layer.now) { items = items }) (set_is_changed _ _ _ there (shifted_item by) _ shifted))
 
+pub returns-in-Reorder-clause-answer : goal.returns-in-Reorder-clause-answer
+returns-in-Reorder-clause-answer c = rw c.in-Reorder.is refl
+
+pub returns-in-Aperture-clause-content : goal.returns-in-Aperture-clause-content
+returns-in-Aperture-clause-content c = grind (arith, read_there, has_place, set_is_changed)
+
+pub returns-in-Polarity-clause-content : goal.returns-in-Polarity-clause-content
+returns-in-Polarity-clause-content c = grind (arith, read_there, has_place, set_is_changed)
+
+pub returns-in-PutAttribute-clause-answer : goal.returns-in-PutAttribute-clause-answer
+returns-in-PutAttribute-clause-answer c = rw c.in-PutAttribute.is refl
+
+pub returns-in-TakeAttribute-clause-answer : goal.returns-in-TakeAttribute-clause-answer
+returns-in-TakeAttribute-clause-answer c = grind (arith, read_there)
+
+pub returns-in-Aperture-clause-answer : goal.returns-in-Aperture-clause-answer
+returns-in-Aperture-clause-answer c = grind (arith, read_there, has_place, aperture_led_back)
+
+pub returns-in-Polarity-clause-answer : goal.returns-in-Polarity-clause-answer
+returns-in-Polarity-clause-answer c = grind (arith, read_there, has_place, polarity_led_back)
+
+pub returns-in-SetFields-clause-content : goal.returns-in-SetFields-clause-content
+returns-in-SetFields-clause-content c = grind (arith, read_there, set_is_changed)
+
+pub returns-in-SetFields-clause-answer : goal.returns-in-SetFields-clause-answer
+returns-in-SetFields-clause-answer c = grind (arith, read_there)
+
+pub returns-in-Insert-clause-content : goal.returns-in-Insert-clause-content
+returns-in-Insert-clause-content c =
+    rw c.in-Insert.is (ap (λ (items : List Item). record (content_of c.args.layer.now) { items = items }) c.put.ensures.items)
+
+pub returns-in-Delete-clause-content : goal.returns-in-Delete-clause-content
+returns-in-Delete-clause-content c =
+    rw c.in-Delete.is (ap (λ (items : List Item). record (content_of c.args.layer.now) { items = items }) c.remove.ensures.items)
+
 pub returns-in-Move-clause-answer : goal.returns-in-Move-clause-answer
 returns-in-Move-clause-answer c =
     let fits = rw c.in-Move.is at c.requires.fits in
     rw (c.in-Move.is, negated_is c.in-Move.dx fits.0.x, negated_is c.in-Move.dy fits.0.y) refl
 
-pub returns-in-Reorder-clause-answer : goal.returns-in-Reorder-clause-answer
-returns-in-Reorder-clause-answer c = rw c.in-Reorder.is refl
-
-pub returns-in-Aperture-clause-content : goal.returns-in-Aperture-clause-content
-returns-in-Aperture-clause-content c =
-    let fits = rw c.in-Aperture.is at c.requires.fits in
-    let there = read_there c.args.layer.now.items.items c.in-Aperture.k _ (has_place (IsOne HasAperture) c.args.layer.now.items.items c.in-Aperture.k fits) c.index_mut-in-Aperture.ensures.value in
-    rw c.in-Aperture.is
-    (ap (λ (items : List Item). record (content_of c.args.layer.now) { items = items })
-    (set_is_changed _ _ _ there (with_object (with_aperture c.in-Aperture.n)) _ c.set_aperture-n.ensures.item))
-
-pub returns-in-Polarity-clause-content : goal.returns-in-Polarity-clause-content
-returns-in-Polarity-clause-content c =
-    let fits = rw c.in-Polarity.is at c.requires.fits in
-    let there = read_there c.args.layer.now.items.items c.in-Polarity.k _ (has_place (IsOne (λ _. Unit {0})) c.args.layer.now.items.items c.in-Polarity.k fits) c.index_mut-in-Polarity.ensures.value in
-    rw c.in-Polarity.is
-    (ap (λ (items : List Item). record (content_of c.args.layer.now) { items = items })
-    (set_is_changed _ _ _ there (with_object (with_polarity c.in-Polarity.dark)) _ c.set_polarity-dark.ensures.item))
-
 pub returns-in-PutAttribute-clause-content : goal.returns-in-PutAttribute-clause-content
 returns-in-PutAttribute-clause-content c =
     rw c.in-PutAttribute.is (ap (λ (attributes : List Attribute). record (content_of c.args.layer.now) { attributes = attributes }) c.put-in-PutAttribute.ensures.items)
 
-pub returns-in-PutAttribute-clause-answer : goal.returns-in-PutAttribute-clause-answer
-returns-in-PutAttribute-clause-answer c = rw c.in-PutAttribute.is refl
-
 pub returns-in-TakeAttribute-clause-content : goal.returns-in-TakeAttribute-clause-content
 returns-in-TakeAttribute-clause-content c =
     rw c.in-TakeAttribute.is (ap (λ (attributes : List Attribute). record (content_of c.args.layer.now) { attributes = attributes }) c.remove-in-TakeAttribute.ensures.items)
-
-pub returns-in-TakeAttribute-clause-answer : goal.returns-in-TakeAttribute-clause-answer
-returns-in-TakeAttribute-clause-answer c =
-    let fits = rw c.in-TakeAttribute.is at c.requires.fits in
-    let there = read_there c.args.layer.now.attributes.items c.in-TakeAttribute.k c.remove-in-TakeAttribute.result fits c.remove-in-TakeAttribute.ensures.value in
-    rw (c.in-TakeAttribute.is, there) refl
-
-pub returns-in-Aperture-clause-answer : goal.returns-in-Aperture-clause-answer
-returns-in-Aperture-clause-answer c =
-    let fits = rw c.in-Aperture.is at c.requires.fits in
-    let there = read_there c.args.layer.now.items.items c.in-Aperture.k _ (has_place (IsOne HasAperture) c.args.layer.now.items.items c.in-Aperture.k fits) c.index_mut-in-Aperture.ensures.value in
-    rw (c.in-Aperture.is, there)
-    (aperture_led_back c.in-Aperture.k c.in-Aperture.n c.set_aperture-n.result _ _ c.set_aperture-n.ensures.before)
-
-pub returns-in-Polarity-clause-answer : goal.returns-in-Polarity-clause-answer
-returns-in-Polarity-clause-answer c =
-    let fits = rw c.in-Polarity.is at c.requires.fits in
-    let there = read_there c.args.layer.now.items.items c.in-Polarity.k _ (has_place (IsOne (λ _. Unit {0})) c.args.layer.now.items.items c.in-Polarity.k fits) c.index_mut-in-Polarity.ensures.value in
-    rw (c.in-Polarity.is, there)
-    (polarity_led_back c.in-Polarity.k c.in-Polarity.dark c.set_polarity-dark.result _ _ c.set_polarity-dark.ensures.before)
-
-pub returns-in-SetFields-clause-content : goal.returns-in-SetFields-clause-content
-returns-in-SetFields-clause-content c =
-    let fits = rw c.in-SetFields.is at c.requires.fits in
-    let there = read_there c.args.layer.now.attributes.items c.in-SetFields.k _ fits c.index_mut-in-SetFields.ensures.value in
-    rw c.in-SetFields.is
-    (ap (λ (attributes : List Attribute). record (content_of c.args.layer.now) { attributes = attributes })
-    (set_is_changed _ _ _ there (with_fields c.in-SetFields.fields) _
-    (ap (attribute_of c.index_mut-in-SetFields.result.now.name) c.replace-fields.ensures.after)))
-
-pub returns-in-SetFields-clause-answer : goal.returns-in-SetFields-clause-answer
-returns-in-SetFields-clause-answer c =
-    let fits = rw c.in-SetFields.is at c.requires.fits in
-    let there = read_there c.args.layer.now.attributes.items c.in-SetFields.k _ fits c.index_mut-in-SetFields.ensures.value in
-    rw (c.in-SetFields.is, there) (ap (SetFields c.in-SetFields.k) c.replace-fields.ensures.value)
