@@ -1,10 +1,10 @@
 -- Code numbers, of which those past every limit say the same.
-use Rattle.std.proofs.Common.{◌≡◌, ℕ, ◌≤◌, min, List, false, None, Some, Option, refl, sym, ap, ◌∙◌, inl, inr, arith, ne_eqb}
+use Rattle.std.proofs.Common.{◌≡◌, ℕ, ◌≤◌, min, List, false, None, Some, Option, refl, arith, ne_eqb}
 use Rattle.std.specs.Prelude.{option_map, ◌==◌}
 use Rattle.std.proofs.lemmas.Bool.{lt-ltb, le-ltb}
 use Rattle.cam_commands.specs.Commands.{Command, Unknown}
 use Rattle.cam_numbers.specs.Numbers.{natural, value_limit}
-use Rattle.cam_commands.specs.WordCommands.{OperationParts, by_code, parts_said_by, operation_of, by_operation_code, operation_code}
+use Rattle.cam_commands.specs.WordCommands.{OperationParts, by_code, operation_of, by_operation_code, operation_code}
 use Rattle.cam_commands.specs.WordCommands.{selection, function, lone_function, mode_of, program_code}
 use Rattle.cam_numbers.proofs.Counting.{below_or}
 
@@ -13,16 +13,11 @@ pub record IsSettled (meaning : ℕ → Command) : Type 0 where
   pub same : (code : ℕ) → value_limit ≤ code → meaning code ≡ meaning value_limit
 
 pub code_absent : (code : Option ℕ) (meaning : ℕ → Command) → None ≡ option_map (min value_limit) code → Unknown ≡ by_code code meaning
-code_absent None meaning e = refl
-code_absent (Some code) meaning e = absurd cc
+code_absent code meaning e = grind arith
 
 pub code_there : (code : Option ℕ) (capped : ℕ) (meaning : ℕ → Command) → IsSettled meaning
     → Some capped ≡ option_map (min value_limit) code → meaning capped ≡ by_code code meaning
-code_there None capped meaning settled e = absurd cc
-code_there (Some code) capped meaning settled e =
-    let is : capped ≡ min value_limit code = cc in
-    ap meaning is
-    ∙ elim (below_or value_limit code) [ inl same ↦ ap meaning same | inr past ↦ ap meaning past.0 ∙ sym (settled.same code past.1) ]
+code_there code capped meaning settled e = grind (arith, below_or)
 
 other : (k code : ℕ) → k ≤ 1000 → value_limit ≤ code → (code == k) ≡ false
 other k code small past = ne_eqb code k (λ e. absurd (omega arith))
@@ -40,33 +35,11 @@ unselected p code past = rw (settled_selection.same code past) refl
 
 pub settled_operation : (p : OperationParts) → IsSettled (λ code. by_operation_code p code (operation_code code))
 unfolding operation_code
-settled_operation p =
-    record {
-      same =
-          λ code past. rw (other 1 code (omega arith) past, other 2 code (omega arith) past, other 3 code (omega arith) past)
-          (unselected p code past);
-    }
+settled_operation p = grind (arith, other, unselected)
 
 pub settled_function : (rest : List ℕ) → IsSettled (function rest)
 unfolding function lone_function mode_of
-settled_function rest = record {
-  same = λ code past.
-      rw (
-        other 1 code (omega arith) past,
-        other 2 code (omega arith) past,
-        other 3 code (omega arith) past,
-        other 54 code (omega arith) past,
-        other 36 code (omega arith) past,
-        other 37 code (omega arith) past,
-        other 70 code (omega arith) past,
-        other 71 code (omega arith) past,
-        other 74 code (omega arith) past,
-        other 75 code (omega arith) past,
-        other 90 code (omega arith) past,
-        other 55 code (omega arith) past,
-        other 91 code (omega arith) past,
-      ) refl;
-}
+settled_function rest = grind (arith, other)
 
 pub ruleset capped = (code_absent, code_there, settled_program, settled_selection, settled_operation, settled_function)
 
@@ -74,5 +47,4 @@ pub ruleset capped = (code_absent, code_there, settled_program, settled_selectio
 pub said_there : (p : OperationParts) (run : List ℕ) (code : ℕ) → p.d ≡ Some run → Some code ≡ option_map (min value_limit) (natural run)
     → by_operation_code p code (operation_code code) ≡ operation_of p
 unfolding operation_of
-said_there p run code is e = code_there (natural run) code (λ n. by_operation_code p n (operation_code n)) (settled_operation p) e
-    ∙ ap (parts_said_by p) (sym is)
+said_there p run code is e = grind (arith, code_there, settled_operation)

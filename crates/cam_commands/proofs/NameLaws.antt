@@ -1,22 +1,14 @@
 -- The letters of an extended command decide what it says.
-use Rattle.std.proofs.Common.{◌≡◌, ◌≢◌, ℕ, List, [], ◌∷◌, ◌++◌, take, Bool, true, false, None, Option, refl, sym, ap}
+use Rattle.std.proofs.Common.{arith, ◌≡◌, ◌≢◌, ℕ, List, [], ◌∷◌, ◌++◌, take, Bool, true, false, None, Option, refl, sym, ap}
 use Rattle.std.specs.Prelude.{◌&&◌, find}
 use Rattle.std.specs.List.{list_any}
 use Rattle.std.specs.Str.{bytes_eq}
 use Rattle.std.proofs.lemmas.Bool.{false_from_ne_true}
 use Rattle.std.proofs.lemmas.Slice.Eq.{bytes_eq-Decides}
 use Rattle.cam_words.specs.Bytes.{is_star}
-use Rattle.cam_words.specs.Heads.{packed}
+use Rattle.cam_words.specs.Heads.{packed, behind_kept}
 use Rattle.cam_commands.specs.declared.names.Name.{Name}
-use Rattle.cam_commands.specs.declared.names.FreeText.TheVariants.{FileAttribute, ApertureAttribute, ObjectAttribute}
-use Rattle.cam_commands.specs.declared.names.FreeText.TheVariants.{DeleteAttribute, ImageName, LoadName}
-use Rattle.cam_commands.specs.declared.names.OldForm.TheVariants.{ImagePolarity, AxesSelect, ImageRotation, MirrorImage}
-use Rattle.cam_commands.specs.declared.names.OldForm.TheVariants.{Offset, ScaleFactor}
-use Rattle.cam_commands.specs.declared.names.Name.TheVariants.{FormatSpecification, UnitMode, ApertureDefinition}
-use Rattle.cam_commands.specs.declared.names.Name.TheVariants.{ApertureMacro, ApertureBlock, StepAndRepeat}
-use Rattle.cam_commands.specs.declared.names.Name.TheVariants.{LoadPolarity, LoadMirroring, LoadRotation, LoadScaling}
-use Rattle.cam_commands.specs.declared.names.Name.TheVariants.{Free, Old}
-use Rattle.cam_words.specs.Heads.{behind_kept}
+use Rattle.cam_commands.specs.declared.names.Name.TheVariants.{ApertureMacro}
 use Rattle.cam_commands.specs.Commands.{Unknown}
 use Rattle.cam_commands.specs.ExtendedCommands.{letters_of, names, name_of, by_name, named_command, extended_command}
 use Rattle.cam_commands.specs.Laws.{NamesDecide}
@@ -24,32 +16,10 @@ use Rattle.cam_commands.specs.Laws.{NamesDecide}
 known_said : (name : Name) (text : List ℕ) → list_any is_star text ≡ false
     → extended_command (letters_of name ++ text) ≡ named_command name text
 unfolding extended_command name_of
-known_said FormatSpecification text e = rw e refl
-known_said UnitMode text e = rw e refl
-known_said ApertureDefinition text e = rw e refl
-known_said ApertureMacro text e = rw e refl
-known_said ApertureBlock text e = rw e refl
-known_said StepAndRepeat text e = rw e refl
-known_said LoadPolarity text e = rw e refl
-known_said LoadMirroring text e = rw e refl
-known_said LoadRotation text e = rw e refl
-known_said LoadScaling text e = rw e refl
-known_said (Free FileAttribute) text e = rw e refl
-known_said (Free ApertureAttribute) text e = rw e refl
-known_said (Free ObjectAttribute) text e = rw e refl
-known_said (Free DeleteAttribute) text e = rw e refl
-known_said (Free ImageName) text e = rw e refl
-known_said (Free LoadName) text e = rw e refl
-known_said (Old ImagePolarity) text e = rw e refl
-known_said (Old AxesSelect) text e = rw e refl
-known_said (Old ImageRotation) text e = rw e refl
-known_said (Old MirrorImage) text e = rw e refl
-known_said (Old Offset) text e = rw e refl
-known_said (Old ScaleFactor) text e = rw e refl
+known_said name text e = grind arith
 
 and_false : (b : Bool) → (b && false) ≡ false
-and_false true = refl
-and_false false = refl
+and_false b = grind arith
 
 macro_said : (text : List ℕ) → extended_command (letters_of ApertureMacro ++ text) ≡ named_command ApertureMacro text
 unfolding extended_command name_of
@@ -58,28 +28,7 @@ macro_said text = rw (and_false (list_any is_star text)) refl
 several_said : (name : Name) (text : List ℕ) → name ≢ ApertureMacro → list_any is_star text ≡ true
     → extended_command (letters_of name ++ text) ≡ Unknown
 unfolding extended_command name_of
-several_said FormatSpecification text h e = rw e refl
-several_said UnitMode text h e = rw e refl
-several_said ApertureDefinition text h e = rw e refl
-several_said ApertureMacro text h e = absurd (h refl)
-several_said ApertureBlock text h e = rw e refl
-several_said StepAndRepeat text h e = rw e refl
-several_said LoadPolarity text h e = rw e refl
-several_said LoadMirroring text h e = rw e refl
-several_said LoadRotation text h e = rw e refl
-several_said LoadScaling text h e = rw e refl
-several_said (Free FileAttribute) text h e = rw e refl
-several_said (Free ApertureAttribute) text h e = rw e refl
-several_said (Free ObjectAttribute) text h e = rw e refl
-several_said (Free DeleteAttribute) text h e = rw e refl
-several_said (Free ImageName) text h e = rw e refl
-several_said (Free LoadName) text h e = rw e refl
-several_said (Old ImagePolarity) text h e = rw e refl
-several_said (Old AxesSelect) text h e = rw e refl
-several_said (Old ImageRotation) text h e = rw e refl
-several_said (Old MirrorImage) text h e = rw e refl
-several_said (Old Offset) text h e = rw e refl
-several_said (Old ScaleFactor) text h e = rw e refl
+several_said name text h e = grind arith
 
 found_nowhere : (p : Name → Bool) (xs : List Name) → ((x : Name) → p x ≡ false) → find p xs ≡ None
 found_nowhere p [] h = refl

@@ -1,19 +1,11 @@
 -- The names of extended commands by their letters.
+use Rattle.std.proofs.Common.{arith}
 use Rattle.std.proofs.Common.{◌≡◌, ℕ, List, [], ◌∷◌, take, Bool, true, false, None, Some, Option, refl, sym, ap, ◌∙◌, eqb, ne_eqb}
 use Rattle.std.specs.Prelude.{◌&&◌, not}
 use Rattle.std.specs.List.{list_any}
 use Rattle.cam_words.specs.Bytes.{is_star}
-use Rattle.cam_words.specs.Heads.{packed}
+use Rattle.cam_words.specs.Heads.{packed, behind_kept}
 use Rattle.cam_commands.specs.declared.names.Name.{Name}
-use Rattle.cam_commands.specs.declared.names.FreeText.TheVariants.{FileAttribute, ApertureAttribute, ObjectAttribute}
-use Rattle.cam_commands.specs.declared.names.FreeText.TheVariants.{DeleteAttribute, ImageName, LoadName}
-use Rattle.cam_commands.specs.declared.names.OldForm.TheVariants.{ImagePolarity, AxesSelect, ImageRotation, MirrorImage}
-use Rattle.cam_commands.specs.declared.names.OldForm.TheVariants.{Offset, ScaleFactor}
-use Rattle.cam_commands.specs.declared.names.Name.TheVariants.{FormatSpecification, UnitMode, ApertureDefinition}
-use Rattle.cam_commands.specs.declared.names.Name.TheVariants.{ApertureMacro, ApertureBlock, StepAndRepeat}
-use Rattle.cam_commands.specs.declared.names.Name.TheVariants.{LoadPolarity, LoadMirroring, LoadRotation, LoadScaling}
-use Rattle.cam_commands.specs.declared.names.Name.TheVariants.{Free, Old}
-use Rattle.cam_words.specs.Heads.{behind_kept}
 use Rattle.cam_commands.specs.Commands.{Unknown}
 use Rattle.cam_commands.specs.ExtendedCommands.{letters_of, name_of, by_name, named_command, may_hold_star, extended_command}
 use Rattle.cam_commands.proofs.Kept.{behind_more}
@@ -24,28 +16,7 @@ other k code apart = ne_eqb k code (λ e. apart (sym e))
 -- each name is told by its letters
 pub named : (name : Name) → name_of (letters_of name) ≡ Some name
 unfolding name_of
-named FormatSpecification = refl
-named UnitMode = refl
-named ApertureDefinition = refl
-named ApertureMacro = refl
-named ApertureBlock = refl
-named StepAndRepeat = refl
-named LoadPolarity = refl
-named LoadMirroring = refl
-named LoadRotation = refl
-named LoadScaling = refl
-named (Free FileAttribute) = refl
-named (Free ApertureAttribute) = refl
-named (Free ObjectAttribute) = refl
-named (Free DeleteAttribute) = refl
-named (Free ImageName) = refl
-named (Free LoadName) = refl
-named (Old ImagePolarity) = refl
-named (Old AxesSelect) = refl
-named (Old ImageRotation) = refl
-named (Old MirrorImage) = refl
-named (Old Offset) = refl
-named (Old ScaleFactor) = refl
+named name = grind arith
 
 pub none_behind_70 : (first second : ℕ) → first ≡ 70 → (second ≡ 83 → ⊥) → None ≡ name_of (first ∷ second ∷ [])
 unfolding name_of
@@ -58,8 +29,7 @@ none_behind_77 first second is n79 n73 = rw (is, other 79 second n79, other 73 s
 pub none_behind_65 : (first second : ℕ) → first ≡ 65 → (second ≡ 68 → ⊥) → (second ≡ 77 → ⊥) → (second ≡ 66 → ⊥) → (second ≡ 83 → ⊥)
     → None ≡ name_of (first ∷ second ∷ [])
 unfolding name_of
-none_behind_65 first second is n68 n77 n66 n83 =
-    rw (is, other 68 second n68, other 77 second n77, other 66 second n66, other 83 second n83) refl
+none_behind_65 first second is n68 n77 n66 n83 = grind (arith, other)
 
 pub none_behind_83 : (first second : ℕ) → first ≡ 83 → (second ≡ 82 → ⊥) → (second ≡ 70 → ⊥) → None ≡ name_of (first ∷ second ∷ [])
 unfolding name_of
@@ -68,14 +38,12 @@ none_behind_83 first second is n82 n70 = rw (is, other 82 second n82, other 70 s
 pub none_behind_76 : (first second : ℕ) → first ≡ 76 → (second ≡ 80 → ⊥) → (second ≡ 77 → ⊥) → (second ≡ 82 → ⊥) → (second ≡ 83 → ⊥)
     → (second ≡ 78 → ⊥) → None ≡ name_of (first ∷ second ∷ [])
 unfolding name_of
-none_behind_76 first second is n80 n77 n82 n83 n78 =
-    rw (is, other 80 second n80, other 77 second n77, other 82 second n82, other 83 second n83, other 78 second n78) refl
+none_behind_76 first second is n80 n77 n82 n83 n78 = grind (arith, other)
 
 pub none_behind_84 : (first second : ℕ) → first ≡ 84 → (second ≡ 70 → ⊥) → (second ≡ 65 → ⊥) → (second ≡ 79 → ⊥) → (second ≡ 68 → ⊥)
     → None ≡ name_of (first ∷ second ∷ [])
 unfolding name_of
-none_behind_84 first second is n70 n65 n79 n68 =
-    rw (is, other 70 second n70, other 65 second n65, other 79 second n79, other 68 second n68) refl
+none_behind_84 first second is n70 n65 n79 n68 = grind (arith, other)
 
 pub none_behind_73 : (first second : ℕ) → first ≡ 73 → (second ≡ 78 → ⊥) → (second ≡ 80 → ⊥) → (second ≡ 82 → ⊥)
     → None ≡ name_of (first ∷ second ∷ [])
@@ -89,21 +57,10 @@ none_behind_79 first second is n70 = rw (is, other 70 second n70) refl
 pub none_of_letters : (first second : ℕ) → (first ≡ 70 → ⊥) → (first ≡ 77 → ⊥) → (first ≡ 65 → ⊥) → (first ≡ 83 → ⊥) → (first ≡ 76 → ⊥)
     → (first ≡ 84 → ⊥) → (first ≡ 73 → ⊥) → (first ≡ 79 → ⊥) → None ≡ name_of (first ∷ second ∷ [])
 unfolding name_of
-none_of_letters first second n70 n77 n65 n83 n76 n84 n73 n79 =
-    rw (
-      other 70 first n70,
-      other 77 first n77,
-      other 65 first n65,
-      other 83 first n83,
-      other 76 first n76,
-      other 84 first n84,
-      other 73 first n73,
-      other 79 first n79,
-    ) refl
+none_of_letters first second n70 n77 n65 n83 n76 n84 n73 n79 = grind (arith, other)
 
 and_false : (b : Bool) → (b && false) ≡ false
-and_false true = refl
-and_false false = refl
+and_false b = grind arith
 
 none_of_one : (first : ℕ) → name_of (first ∷ []) ≡ None
 unfolding name_of

@@ -1,17 +1,16 @@
 -- A word that says an operation is written from its parts.
 use Rattle.std.proofs.Common.{◌≡◌, ℕ, suc, subst, ◌+◌, List, [], ◌∷◌, ◌++◌, length, Bool, true, false, None, Some}
-use Rattle.std.proofs.Common.{Option, refl, sym, ap, ◌∙◌, arith, cond}
+use Rattle.std.proofs.Common.{Option, refl, ap, ◌∙◌, arith, cond}
 use Rattle.std.specs.Prelude.{◌==◌}
 use Rattle.std.specs.List.{prefix_len}
 use Rattle.std.proofs.lemmas.Bool.{eqb-true}
 use Rattle.std.proofs.lemmas.List.{take-append-drop, nil_from_length}
 use Rattle.std.specs.Option.{option_and_then}
 use Rattle.cam_units.specs.declared.length.Unit.{Unit as FileUnit}
-use Rattle.cam_units.specs.declared.length.Unit.TheVariants.{Mm, Inch}
 use Rattle.cam_commands.specs.declared.parts.Style.TheVariants.{Word}
 use Rattle.cam_commands.specs.declared.parts.Mode.{Mode}
 use Rattle.cam_commands.specs.declared.parts.Operation.{Operation}
-use Rattle.cam_numbers.specs.Numbers.{run_of, behind_run, is_numeric, natural}
+use Rattle.cam_numbers.specs.Numbers.{run_of, is_numeric, natural}
 use Rattle.cam_commands.specs.Fields.{field}
 use Rattle.cam_commands.specs.Commands.{Command, SetUnit, RefusedOld, SetMode, SingleQuadrant, MultiQuadrant}
 use Rattle.cam_commands.specs.Commands.{BeginRegion, EndRegion, Nothing, Select, Operate, End, Unknown}
@@ -38,17 +37,7 @@ pub record IsRead (letter : ℕ) (text : List ℕ) (read : Option (List ℕ) × 
 
 is_read : (letter : ℕ) (text : List ℕ) → IsRead letter text (field letter text)
 unfolding field
-is_read letter [] = record { text_is = refl; run = tt }
-is_read letter (first ∷ text) =
-    (elim (first == letter)
-    as (λ b. (first == letter) ≡ b → IsRead letter (first ∷ text) (cond b (Some (run_of text), behind_run text) (None, first ∷ text))) [
-      | true ↦ λ e. record {
-        text_is = ap (λ b. b ∷ text) (eqb-true first letter e)
-            ∙ ap (λ t. letter ∷ t) (sym (take-append-drop (prefix_len is_numeric text) text));
-        run = run_is_numeric text;
-      }
-      | false ↦ λ e. record { text_is = refl; run = tt }
-    ]) refl
+is_read letter text = grind (arith, eqb-true, take-append-drop, run_is_numeric)
 
 abbrev x_in : List ℕ → Option (List ℕ) × List ℕ
 x_in text = field 88 text
@@ -133,12 +122,10 @@ close_none : IsNone EndRegion
 close_none = record { none = λ o e. absurd cc }
 
 either : (b : Bool) (x y : Command) → IsNone x → IsNone y → IsNone (cond b x y)
-either true x y h k = h
-either false x y h k = k
+either b x y h k = grind arith
 
 coded : (code : Option ℕ) (meaning : ℕ → Command) → ((n : ℕ) → IsNone (meaning n)) → IsNone (by_code code meaning)
-coded None meaning h = unknown_none
-coded (Some n) meaning h = h n
+coded code meaning h = grind (arith, unknown_none)
 
 program_none : (code : ℕ) → IsNone (program_code code)
 unfolding program_code
@@ -154,33 +141,26 @@ prefixed_none text = search (either, coded, selection_none, unknown_none)
 
 lone_none : (code : ℕ) → IsNone (lone_function code)
 unfolding lone_function
-lone_none code =
-    either _ _ _ begin_none (either _ _ _ close_none (either _ _ _ (unit_none Inch) (either _ _ _ (unit_none Mm)
-    (either _ _ _ single_none
-    (either _ _ _ multi_none (either _ _ _ nothing_none (either _ _ _ refused_none (either _ _ _ refused_none unknown_none))))))))
+lone_none code = grind (arith, either, begin_none, close_none, unit_none, single_none, multi_none)
 
 -- what follows from a command that is an operation, by the cases of the command
 from_if : (b : Bool) (x y : Command) (o : Operation) (Goal : Type 0) → (b ≡ true → x ≡ Operate o → Goal)
     → (b ≡ false → y ≡ Operate o → Goal) → cond b x y ≡ Operate o → Goal
-from_if true x y o Goal h k e = h refl e
-from_if false x y o Goal h k e = k refl e
+from_if b x y o Goal h k e = grind arith
 
 from_run : (run : Option (List ℕ)) (meaning : List ℕ → Command) (otherwise : Command) (o : Operation) (Goal : Type 0)
     → ((r : List ℕ) → run ≡ Some r → meaning r ≡ Operate o → Goal) → (run ≡ None → otherwise ≡ Operate o → Goal)
     → by_run run meaning otherwise ≡ Operate o → Goal
-from_run None meaning otherwise o Goal h k e = k refl e
-from_run (Some r) meaning otherwise o Goal h k e = h r refl e
+from_run run meaning otherwise o Goal h k e = grind arith
 
 from_code : (code : Option ℕ) (meaning : ℕ → Command) (o : Operation) (Goal : Type 0)
     → ((n : ℕ) → code ≡ Some n → meaning n ≡ Operate o → Goal) → by_code code meaning ≡ Operate o → Goal
-from_code None meaning o Goal h e = absurd (unknown_none.none o e)
-from_code (Some n) meaning o Goal h e = h n refl e
+from_code code meaning o Goal h e = grind (arith, unknown_none)
 
 from_mode : (mode : Option Mode) (rest : List ℕ) (otherwise : Command) (o : Operation) (Goal : Type 0)
     → ((m : Mode) → mode ≡ Some m → cond (length rest == 0) (SetMode m) (operation (Some m) rest) ≡ Operate o → Goal)
     → (otherwise ≡ Operate o → Goal) → by_mode mode rest otherwise ≡ Operate o → Goal
-from_mode None rest otherwise o Goal h k e = k e
-from_mode (Some m) rest otherwise o Goal h k e = h m refl e
+from_mode mode rest otherwise o Goal h k e = grind arith
 
 abbrev IsWritten : List ℕ → Operation → Type 0
 IsWritten text o = (p : OperationParts) × (prefix : Option (List ℕ)) × IsWrittenFrom text p prefix × (operation_of p ≡ Operate o)

@@ -1,5 +1,5 @@
 -- The plain numbers of old forms.
-use Rattle.std.proofs.Common.{◌≡◌, ℕ, List, [], ◌∷◌, true, false, refl, eq-eqb, ne_eqb}
+use Rattle.std.proofs.Common.{arith, ◌≡◌, ℕ, List, [], ◌∷◌, true, false, refl, eq-eqb, ne_eqb}
 use Rattle.std.specs.Prelude.{◌||◌, ◌==◌}
 use Rattle.std.specs.List.{list_all}
 use Rattle.std.proofs.lemmas.Bool.{or_right}
@@ -32,17 +32,4 @@ plain_pointed digit first point run rest zeros e same f is = rw (e, eq-eqb first
 
 pub zeros_packed : (run : List ℕ) → list_all (λ byte. (byte == 48) || is_skipped byte) run ≡ list_all (λ byte. byte == 48) (packed run)
 zeros_packed [] = refl
-zeros_packed (byte ∷ run) =
-    (elim (is_skipped byte)
-    as (λ s. is_skipped byte ≡ s → list_all (λ digit. (digit == 48) || is_skipped digit) (byte ∷ run)
-    ≡ list_all (λ digit. digit == 48) (packed (byte ∷ run))) [
-      | true ↦ λ e. let r : ((byte == 48) || is_skipped byte) ≡ true = or_right (byte == 48) (is_skipped byte) e in
-          rw (r, e) (zeros_packed run)
-      | false ↦ λ e.
-          (elim (byte == 48)
-          as (λ z. (byte == 48) ≡ z → list_all (λ digit. (digit == 48) || is_skipped digit) (byte ∷ run)
-          ≡ list_all (λ digit. digit == 48) (packed (byte ∷ run))) [
-            | true ↦ λ z. rw (z, e, z) (zeros_packed run)
-            | false ↦ λ z. rw (z, e, z) refl
-          ]) refl
-    ]) refl
+zeros_packed (byte ∷ run) = grind (arith, or_right, zeros_packed run)

@@ -1,6 +1,5 @@
 -- Operations as nearly all files write them.
-use Rattle.std.proofs.Common.{◌≡◌, ◌≢◌, ℕ, List, [], ◌∷◌, length, get_or, false, Some, None, Option, ℤ, refl, sym, arith, ne_eqb, subst}
-use Rattle.std.specs.Prelude.{◌==◌}
+use Rattle.std.proofs.Common.{◌≡◌, ◌≢◌, ℕ, List, [], ◌∷◌, get_or, Some, None, Option, ℤ, refl, arith, ne_eqb}
 use Rattle.cam_words.specs.Heads.{packed}
 use Rattle.cam_commands.specs.declared.parts.Mode.{Mode}
 use Rattle.cam_commands.specs.declared.parts.Slot.{Slot}
@@ -53,16 +52,7 @@ pub operation_plain : (mode : Option Mode) (text : List ℕ) (x y : Slot ℤ) (c
     → (field 89 (field 88 text).1).1 ≡ plain_text code
     → Operate (record { mode = mode; x = x; y = y; i = Omitted; j = Omitted; code = Some code }) ≡ operation mode text
 unfolding operation operation_of
-operation_plain mode text x y code ex ey e =
-    rw (ex, ey, e, no_i code, no_j code, just_d code)
-    (sym (said (record {
-      mode = mode;
-      x = (field 88 text).0;
-      y = (field 89 (field 88 text).1).0;
-      i = None;
-      j = None;
-      d = Some (digits code);
-    }) code))
+operation_plain mode text x y code ex ey e = grind (arith, no_i, no_j, just_d, said, digits)
 
 -- a word that begins with another letter than M and G
 field_absent : (letter byte : ℕ) (text : List ℕ) → byte ≢ letter → field letter (byte ∷ text) ≡ (None, byte ∷ text)
@@ -72,18 +62,12 @@ field_absent letter byte text other = rw (ne_eqb byte letter other) refl
 another_letter : (byte : ℕ) (text : List ℕ) → byte ≢ 77 → byte ≢ 71
     → word_command (byte ∷ text) ≡ operation None (byte ∷ text)
 unfolding word_command by_function
-another_letter byte text no_m no_g =
-    let some : (length (byte ∷ text) == 0) ≡ false = ne_eqb (length (byte ∷ text)) 0 (λ e. absurd (omega arith)) in
-    rw (field_absent 77 byte text no_m, some, field_absent 71 byte text no_g) refl
+another_letter byte text no_m no_g = grind (arith, field_absent)
 
 pub axis_x : (text : List ℕ) → get_or text 0 0 ≡ 88 → word_command (packed text) ≡ operation None (packed text)
 axis_x [] e = absurd cc
-axis_x (byte ∷ text) e =
-    subst (λ b. word_command (packed (b ∷ text)) ≡ operation None (packed (b ∷ text))) (sym e)
-    (another_letter 88 (packed text) (λ h. absurd (omega (arith, h))) (λ h. absurd (omega (arith, h))))
+axis_x (byte ∷ text) e = grind (arith, another_letter)
 
 pub axis_y : (text : List ℕ) → get_or text 0 0 ≡ 89 → word_command (packed text) ≡ operation None (packed text)
 axis_y [] e = absurd cc
-axis_y (byte ∷ text) e =
-    subst (λ b. word_command (packed (b ∷ text)) ≡ operation None (packed (b ∷ text))) (sym e)
-    (another_letter 89 (packed text) (λ h. absurd (omega (arith, h))) (λ h. absurd (omega (arith, h))))
+axis_y (byte ∷ text) e = grind (arith, another_letter)

@@ -1,6 +1,6 @@
 -- Fields that are written one after another are read back.
 use Rattle.std.proofs.Common.{◌≡◌, ℕ, suc, ◌+◌, ◌<◌, List, [], ◌∷◌, ◌++◌, length, Bool, true, false, None, Some, Option}
-use Rattle.std.proofs.Common.{refl, sym, ap, ◌∙◌, arith, eq-eqb, ne_eqb, inl, inr}
+use Rattle.std.proofs.Common.{refl, sym, ap, ◌∙◌, arith, eq-eqb, ne_eqb}
 use Rattle.std.specs.Prelude.{◌||◌, ◌==◌}
 use Rattle.std.specs.List.{prefix_len, list_all}
 use Rattle.std.proofs.lemmas.Bool.{and_parts, or_cases, eqb-true, or_right, or_left}
@@ -40,33 +40,20 @@ run_behind p (byte ∷ run) rest b f h =
 -- a letter that does not stand there
 absent : (p : ℕ → Bool) (letter : ℕ) (rest : List ℕ) → FirstIs p rest → p letter ≡ false → field letter rest ≡ (None, rest)
 unfolding field
-absent p letter [] f e = refl
-absent p letter (byte ∷ rest) f e =
-    let apart : byte ≡ letter → ⊥ = λ same. let t : p letter ≡ true = ap p (sym same) ∙ f in let no_way : true ≡ false = sym t ∙ e in
-    absurd cc in
-    rw (ne_eqb byte letter apart) refl
+absent p letter rest f e = grind arith
 
 reads : (p : ℕ → Bool) (letter : ℕ) (o : Option (List ℕ)) (rest : List ℕ) → IsBare p → FirstIs p rest → p letter ≡ false
     → IsRunIfWritten o → field letter (field_text letter o ++ rest) ≡ (o, rest)
 unfolding field
-reads p letter None rest b f e h = absent p letter rest f e
-reads p letter (Some run) rest b f e h = rw (eq-eqb letter letter refl, run_front p run rest b f h, run_behind p run rest b f h) refl
+reads p letter o rest b f e h = grind (arith, absent, eq-eqb, run_front, run_behind)
 
 -- one letter more in front
 first_of : (p : ℕ → Bool) (letter : ℕ) (o : Option (List ℕ)) (rest : List ℕ) → FirstIs p rest
     → FirstIs (λ byte. (byte == letter) || p byte) (field_text letter o ++ rest)
-first_of p letter None [] f = tt
-first_of p letter None (byte ∷ rest) f = or_right (byte == letter) (p byte) f
-first_of p letter (Some run) rest f = or_left (letter == letter) (p letter) (eq-eqb letter letter refl)
+first_of p letter o rest f = grind (arith, or_right, or_left, eq-eqb)
 
 bare_more : (p : ℕ → Bool) (letter : ℕ) → is_numeric letter ≡ false → IsBare p → IsBare (λ byte. (byte == letter) || p byte)
-bare_more p letter e b = record {
-  bare = λ byte h.
-      elim (or_cases (byte == letter) (p byte) h) [
-        | inl same ↦ ap is_numeric (eqb-true byte letter same) ∙ e
-        | inr passes ↦ b.bare byte passes
-      ];
-}
+bare_more p letter e b = grind (arith, or_cases, eqb-true)
 
 abbrev passes_none : ℕ → Bool
 passes_none byte = false
@@ -123,8 +110,7 @@ abbrev behind_x : OperationParts → List ℕ
 behind_x p = field_text 89 p.y ++ behind_y p
 
 first_d : (o : Option (List ℕ)) → FirstIs from_d (field_text 68 o)
-first_d None = tt
-first_d (Some run) = refl
+first_d o = grind arith
 
 first_j : (p : OperationParts) → FirstIs from_j (behind_i p)
 first_j p = first_of from_d 74 p.j (behind_j p) (first_d p.d)
@@ -160,10 +146,7 @@ some_length text h = ne_eqb (length text) 0 (λ e. absurd (omega (arith, e)))
 
 bare_said : (p : OperationParts) → ArePartRuns p → p.mode ≡ None → 0 < length (parts_text p) → word_command (parts_text p) ≡ operation_of p
 unfolding word_command by_function
-bare_said p h none some =
-    let m = absent from_x 77 (parts_text p) (first_x p) refl in
-    let g = absent from_x 71 (parts_text p) (first_x p) refl in
-    rw (m, some_length (parts_text p) some, g) (ap (λ mode. operation mode (parts_text p)) (sym none) ∙ operation_said p h)
+bare_said p h none some = grind (arith, absent, first_x, some_length, operation_said)
 
 no_m : (text : List ℕ) → field 77 (71 ∷ text) ≡ (None, 71 ∷ text)
 unfolding field

@@ -1,24 +1,17 @@
 -- Checks of commands: their numbers ascend, so that the first that holds is the least; and each is under that of memory.
-use Rattle.std.proofs.Common.{◌≡◌, true, false, refl, Bool}
+use Rattle.std.proofs.Common.{arith, ◌≡◌, true, Bool}
 use Rattle.cam_refusals.specs.Checks.{first_holding, least}
 use Rattle.cam_refusals.specs.Refusals.{number_of}
 use Rattle.cam_refusals.proofs.Checks.{is_ascending, least_is_first}
-use Rattle.cam_commands.specs.declared.names.FreeText.TheVariants.{FileAttribute}
 use Rattle.cam_commands.specs.declared.parts.Operation.{Operation}
 use Rattle.cam_commands.specs.declared.parts.OperationCode.{OperationCode}
-use Rattle.cam_commands.specs.declared.parts.OperationCode.TheVariants.{Plot, Move, Flash}
-use Rattle.cam_commands.specs.Commands.{Command, DefineAperture, DefineMacro, KeepText, Operate}
-use Rattle.cam_gerber.specs.State.{Past, code_of, in_region}
+use Rattle.cam_commands.specs.Commands.{Command, DefineAperture, DefineMacro}
+use Rattle.cam_gerber.specs.State.{Past}
 use Rattle.cam_gerber.specs.Faults.{command_faults, operated_faults}
 
 operated_ascend : (code : OperationCode) (region : Bool) (past : Past) (operation : Operation)
     → is_ascending number_of 6 (operated_faults code region past operation) ≡ true
-operated_ascend Plot false past operation = refl
-operated_ascend Plot true past operation = refl
-operated_ascend Move false past operation = refl
-operated_ascend Move true past operation = refl
-operated_ascend Flash false past operation = refl
-operated_ascend Flash true past operation = refl
+operated_ascend code region past operation = grind arith
 
 -- a command whose checks stand in ascending order
 abbrev pub IsPlain : Command → Type 0
@@ -27,11 +20,7 @@ IsPlain (DefineMacro text) = ⊥
 IsPlain _ = Unit {0}
 
 commands_ascend : (past : Past) (command : Command) → IsPlain command → is_ascending number_of 1 (command_faults past command) ≡ true
-commands_ascend past (DefineAperture text) h = absurd h
-commands_ascend past (DefineMacro text) h = absurd h
-commands_ascend past (KeepText FileAttribute text) h = refl
-commands_ascend past (Operate operation) h = operated_ascend (code_of operation) (in_region past) past operation
-commands_ascend past _ h = refl
+commands_ascend past command h = grind (arith, operated_ascend)
 
 pub least_of_command : (past : Past) (command : Command) → IsPlain command
     → least number_of (command_faults past command) ≡ first_holding (command_faults past command)

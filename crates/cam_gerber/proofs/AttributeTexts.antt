@@ -1,7 +1,7 @@
 -- The text of a file attribute holds only such bytes as may stand in one: the cutting allows no others, and a command with a
 -- star in it is none.
 use Rattle.std.proofs.Common.{◌≡◌, ◌≢◌, ℕ, zero, suc, ◌+◌, ◌≤◌, [], ◌∷◌, ◌||◌, Bool, true, false, cond, not, List, length, take, drop}
-use Rattle.std.proofs.Common.{Some, None, Ok, Err, IsTrue, refl, sym, ap, subst, ◌∙◌, arith, lit≤}
+use Rattle.std.proofs.Common.{Some, None, Ok, Err, IsTrue, refl, sym, ap, subst, ◌∙◌, arith}
 use Rattle.std.specs.Prelude.{codes, find, nat_eq, nat_lt}
 use Rattle.std.specs.List.{AllByRecursion, list_any, position_or_len, starts_with}
 use Rattle.std.specs.Str.{bytes_eq}
@@ -13,9 +13,8 @@ use Rattle.std.proofs.lemmas.Slice.Eq.{bytes_eq-Decides}
 use Rattle.cam_refusals.specs.Checks.{least}
 use Rattle.cam_refusals.specs.Refusals.{number_of}
 use Rattle.cam_words.specs.declared.word.Kind.TheVariants.{Plain, Comment, Extended}
-use Rattle.cam_words.specs.Bytes.{is_control, is_forbidden_in_code, is_skipped, is_star, percent}
-use Rattle.cam_words.specs.Cutting.{Command, WordCommand, ExtendedCommand, FoundWord, IsCommand}
-use Rattle.cam_words.specs.Cutting.{word_of}
+use Rattle.cam_words.specs.Bytes.{is_control, is_forbidden_in_code, is_star, percent}
+use Rattle.cam_words.specs.Cutting.{Command, WordCommand, ExtendedCommand, FoundWord, IsCommand, word_of}
 use Rattle.cam_words.specs.Heads.{behind_kept, is_comment, is_forbidden_in_extended, is_free_text, packed}
 use Rattle.cam_words.specs.Reading.{WordAnswer, reading}
 use Rattle.cam_objects.specs.Attributes.{AreAttributes, AreFields, IsAttribute, attribute_of, is_attribute_byte, with_attribute}
@@ -24,7 +23,7 @@ use Rattle.cam_commands.specs.declared.names.FreeText.{FreeText}
 use Rattle.cam_commands.specs.declared.names.FreeText.TheVariants.{FileAttribute}
 use Rattle.cam_commands.specs.declared.names.Name.{Name}
 use Rattle.cam_commands.specs.declared.names.Name.TheVariants.{Free}
-use Rattle.cam_commands.specs.Commands.{Command as Said, DefineMacro, KeepText}
+use Rattle.cam_commands.specs.Commands.{Command as Said, KeepText}
 use Rattle.cam_commands.specs.ExtendedCommands.{letters_of, name_of as named_by, names}
 use Rattle.cam_commands.specs.Syntax.{command_of}
 use Rattle.cam_gerber.specs.Statements.{Statement, Says, NamesMacro, Uncut}
@@ -46,8 +45,7 @@ IsClean (Ok word) = word.kind ≡ Extended
 IsClean (Err fault) = Unit {0}
 
 no_extended : (b : Bool) → cond b Comment Plain ≡ Extended → ⊥
-no_extended true e = cc
-no_extended false e = cc
+no_extended b e = grind arith
 
 clean_word : (at : ℕ) (command : Command) → IsCommand command → IsClean (Ok (word_of at command))
 clean_word at (WordCommand text) h = λ is. absurd (no_extended (is_comment text) is)
@@ -60,10 +58,7 @@ clean_answers text = all_answers IsClean clean_word (λ fault text tells. tt) te
 
 found_passes : {X : Type 0} (p : X → Bool) (xs : List X) (x : X) → find p xs ≡ Some x → p x ≡ true
 found_passes p [] x e = absurd (cc)
-found_passes {X} p (y ∷ ys) x e = by (p y) refl e (found_passes p ys x) where
-  by : (b : Bool) → p y ≡ b → cond b (Some y) (find p ys) ≡ Some x → (find p ys ≡ Some x → p x ≡ true) → p x ≡ true
-  by true is same rest = let at : y ≡ x = cc in ap p (sym at) ∙ is
-  by false is same rest = rest same
+found_passes {X} p (y ∷ ys) x e = grind (arith, found_passes p ys x)
 
 letters_are : (letters : List ℕ) (name : Name) → named_by letters ≡ Some name → letters ≡ letters_of name
 unfolding named_by
@@ -71,9 +66,7 @@ letters_are letters name e =
     sym ((bytes_eq-Decides (letters_of name) letters).0 (found_passes (λ (n : Name). bytes_eq (letters_of n) letters) names name e))
 
 begins_with_t : (text : List ℕ) → take 2 text ≡ codes "TF" → starts_with nat_eq text (codes "T") ≡ true
-begins_with_t [] e = absurd (cc)
-begins_with_t (first ∷ rest) e =
-    let is : first ≡ 84 = cc in subst (λ byte. starts_with nat_eq (byte ∷ rest) (codes "T") ≡ true) (sym is) refl
+begins_with_t text e = grind arith
 
 is_free : (text : List ℕ) → named_by (take 2 (packed text)) ≡ Some (Free FileAttribute) → is_free_text text ≡ true
 unfolding is_free_text
@@ -89,13 +82,7 @@ allowed byte a b c = grind (arith, nat_tests)
 kept_suffix : (n : ℕ) (P : ℕ → Type 0) (text : List ℕ) → AllByRecursion P text → AllByRecursion P (behind_kept n text)
 kept_suffix zero P text h = h
 kept_suffix (suc n) P [] h = tt
-kept_suffix (suc n) P (byte ∷ text) h =
-    by (kept_suffix (suc n) P text h.1) (kept_suffix n P text h.1) (is_skipped byte)
-  where
-    by : AllByRecursion P (behind_kept (suc n) text) → AllByRecursion P (behind_kept n text)
-        → (b : Bool) → AllByRecursion P (cond b (behind_kept (suc n) text) (behind_kept n text))
-    by skipped counted true = skipped
-    by skipped counted false = counted
+kept_suffix (suc n) P (byte ∷ text) h = grind (arith, kept_suffix (suc n) P text h.1, kept_suffix n P text h.1)
 
 all_allowed : (free : Bool) (text : List ℕ) → free ≡ true
     → AllByRecursion (λ byte. (byte ≢ percent) × (cond free is_control is_forbidden_in_code byte ≡ false)) text
@@ -127,8 +114,7 @@ StatesText (NamesMacro name parts) = Unit {0}
 StatesText (Uncut code) = Unit {0}
 
 stated_text : (command : Said) → Keeps IsAttributeText command → StatesText (statement_said command)
-stated_text (DefineMacro text) keeps = tt
-stated_text command keeps = keeps
+stated_text command keeps = grind arith
 
 pub told_text : (answer : WordAnswer) → IsClean answer → StatesText (told_of answer).says
 told_text (Ok word) clean =
@@ -184,13 +170,8 @@ sets past text allowed few h =
 
 pub attributes_step : (past : Past) (says : Statement) → StatesText says → least number_of (faults past says) ≡ None
     → AreAttributes (attributes_in past) → AreAttributes (attributes_in (says ∷ past))
-attributes_step past (Says (KeepText FileAttribute text)) allowed none h =
-    sets past text allowed (pass_least (faults past (Says (KeepText FileAttribute text))) none).0 h
+attributes_step past (Says (KeepText FileAttribute text)) allowed none h = grind (arith, sets, allowed, pass_least)
 attributes_step past _ allowed none h = h
 
 pub no_attributes : AreAttributes []
-no_attributes = record {
-  each = All-nil IsAttribute;
-  few = lit≤ tt;
-  distinct = IsDistinct-from_apart bytes_eq [] (λ i j d low high. absurd (omega arith));
-}
+no_attributes = grind (arith, All-nil, IsDistinct-from_apart)

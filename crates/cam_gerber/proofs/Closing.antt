@@ -1,6 +1,6 @@
 -- The open repeat is closed: it joins the items, if it has objects.
 use Rattle.std.proofs.Common.{◌≡◌, ℕ, ◌+◌, ◌*◌, ◌<◌, ◌≤◌, List, [], ◌∷◌, ◌++◌, length, min, Bool, true, false, cond}
-use Rattle.std.proofs.Common.{ltb, leb, Option, Some, None, Result, Ok, Err, refl, sym, ap, ap₂, subst, ◌∙◌, arith}
+use Rattle.std.proofs.Common.{Option, Some, None, Result, refl, sym, ap, ap₂, subst, ◌∙◌, arith}
 use Rattle.std.specs.Prelude.{◌||◌, ◌&&◌, not, nat_le, nat_lt, IfSome}
 use Rattle.std.specs.Option.{option_map}
 use Rattle.std.proofs.lemmas.Bool.{or_parts, false≢true, ltb-true, ltb-false, lt-ltb, leb-true, leb-false}
@@ -10,7 +10,6 @@ use Rattle.std.proofs.Math.Nat.{mul-le-mul_right}
 use Rattle.cam_refusals.specs.declared.refusal.Refusal.{Refusal}
 use Rattle.cam_refusals.specs.declared.refusal.Refusal.TheVariants.{OutOfBoard, TooMuch}
 use Rattle.cam_refusals.specs.Checks.{Checks, first_holding}
-use Rattle.cam_objects.specs.declared.entry.Entry.{Entry}
 use Rattle.cam_objects.specs.declared.item.Item.{Item}
 use Rattle.cam_objects.specs.declared.item.Item.TheVariants as item
 use Rattle.cam_objects.specs.declared.object.Object.{Object}
@@ -23,16 +22,15 @@ use Rattle.cam_gerber.specs.declared.built.Built.{Built}
 use Rattle.cam_gerber.specs.declared.frames.OpenRepeat.{OpenRepeat}
 use Rattle.cam_gerber.specs.declared.running.Running.{Running}
 use Rattle.cam_refusals.specs.declared.stop.Stop.{Stop}
-use Rattle.cam_refusals.specs.declared.stop.Stop.TheVariants.{Memory, Fault}
 use Rattle.cam_gerber.specs.Statements.{Statement, Says}
 use Rattle.cam_gerber.specs.State.{Past}
-use Rattle.cam_gerber.specs.Homes.{Home, InRepeat, Opened, copies_written, has_copies, open_repeat, repeat_opened}
+use Rattle.cam_gerber.specs.Homes.{Home, InRepeat, Opened, has_copies, open_repeat, repeat_opened}
 use Rattle.cam_gerber.specs.Making.{made_at, home_objects}
 use Rattle.cam_gerber.specs.Layers.{closed_leaves, closed_repeat, entries_in, items_in, leaves_in, home_leaves, made_leaves, repeat_by}
 use Rattle.cam_gerber.specs.Faults.{are_leaves_on_board, closing_faults, holds_of_one, is_left_out, is_layer_full, is_outside}
 use Rattle.cam_gerber.specs.Machinery.Closing.{Adds, IsAdded}
 use Rattle.cam_gerber.specs.Machinery.Tracking.{Answers, HasPast, IsSettled, Tracks, repeat_of}
-use Rattle.cam_gerber.specs.Machinery.WellMade.{IsWellMade, IsWellMadeItem}
+use Rattle.cam_gerber.specs.Machinery.WellMade.{IsWellMadeItem}
 use Rattle.cam_gerber.proofs.Least.{pass_first}
 use Rattle.cam_gerber.proofs.Outside.{outside_is}
 use Rattle.cam_gerber.proofs.SoundParts.{IsMade}
@@ -45,8 +43,7 @@ use Rattle.cam_gerber.proofs.SoundJoining.{sound_past}
 -- it has more than one copy
 many_opened : (past : Past) (repeat : Repeat) (b : Bool) → has_copies repeat ≡ b
     → IfSome (cond b (Some (repeat_opened past repeat)) None) (λ o. 1 < o.columns * o.rows)
-many_opened past repeat true many = ltb-true 1 (copies_written repeat.columns * copies_written repeat.rows) many
-many_opened past repeat false one = tt
+many_opened past repeat b many = grind (arith, ltb-true)
 
 many_copies : (past : Past) → IfSome (open_repeat past) (λ o. 1 < o.columns * o.rows)
 many_copies [] = tt
@@ -96,107 +93,47 @@ at_least : (k n : ℕ) → 1 ≤ k → n ≤ k * n
 at_least k n h = omega (arith, mul-le-mul_right n h)
 
 pub within_cap : (b k n : ℕ) → 1 ≤ k → b + k * n ≤ 4000000 → min (k * min 4000001 n) 18446744073709551615 ≡ k * n
-within_cap b k n h few =
-    let small : min 4000001 n ≡ n = omega (arith, few, at_least k n h) in
-    ap (λ m. min (k * m) 18446744073709551615) small ∙ omega (arith, few)
+within_cap b k n h few = grind (arith, at_least)
 
 past_cap : (b k n : ℕ) → 1 ≤ k → 4000000 < b + k * n → 4000000 < b + min (k * min 4000001 n) 18446744073709551615
-past_cap b k n h many = go (leb n 4000001) refl
-  where
-    go : (t : Bool) → leb n 4000001 ≡ t → 4000000 < b + min (k * min 4000001 n) 18446744073709551615
-    go true e = let small : min 4000001 n ≡ n = omega (arith, leb-true n 4000001 e) in
-        subst (λ m. 4000000 < b + min (k * m) 18446744073709551615) (sym small) (omega (arith, many))
-    go false e = let large : min 4000001 n ≡ 4000001 = omega (arith, leb-false n 4000001 e) in
-        subst (λ m. 4000000 < b + min (k * m) 18446744073709551615) (sym large) (omega (arith, at_least k 4000001 h))
+past_cap b k n h many = grind (arith, leb-true, leb-false, at_least)
 
 pub same_over : (b k n : ℕ) → 1 ≤ k → nat_lt 4000000 (b + min (k * min 4000001 n) 18446744073709551615) ≡ nat_lt 4000000 (b + k * n)
-same_over b k n h = go (ltb 4000000 (b + k * n)) refl
-  where
-    go : (t : Bool) → ltb 4000000 (b + k * n) ≡ t
-        → nat_lt 4000000 (b + min (k * min 4000001 n) 18446744073709551615) ≡ nat_lt 4000000 (b + k * n)
-    go true e = lt-ltb 4000000 (b + min (k * min 4000001 n) 18446744073709551615)
-        (past_cap b k n h (ltb-true 4000000 (b + k * n) e)) ∙ sym e
-    go false e =
-        let few = ltb-false 4000000 (b + k * n) e in
-        ap (λ m. ltb 4000000 (b + m)) (within_cap b k n h few)
+same_over b k n h = grind (arith, lt-ltb, past_cap, ltb-true, ltb-false, within_cap)
 
 -- ---- tables
 
 -- what some checks are answered by, answers others that tell the same
 pub answers_alike : (result : Result (Unit {0}) Stop) (a b : Checks Refusal) (P Q : Type 0) → first_holding a ≡ first_holding b
     → (first_holding b ≡ None → P → Q) → Answers result a P → Answers result b Q
-answers_alike (Ok done) a b P Q e f h = (sym e ∙ h.0, f (sym e ∙ h.0) h.1)
-answers_alike (Err Memory) a b P Q e f h = tt
-answers_alike (Err (Fault code)) a b P Q e f h = sym e ∙ h
+answers_alike result a b P Q e f h = grind arith
 
 -- ---- a repeat without objects
 
 nothing_from : (objects : List Object) → is_left_out objects ≡ true → objects ≡ []
-nothing_from [] h = refl
-nothing_from (x ∷ xs) h = absurd (false≢true h)
+nothing_from objects h = grind (arith, false≢true)
 
 pub settles_empty : (past : Past) (old : Running) (r : OpenRepeat) (after : Option OpenRepeat) → Tracks past old
     → old.frames.repeat ≡ Some r → is_left_out r.objects ≡ true → after ≡ None
     → (first_holding (closing_faults past true) ≡ None) × IsSettled past old (record old { frames = record old.frames { repeat = after } })
-settles_empty past old r after t e empty closed =
-    let opens = is_opened past old r t e in
-    let o = opens.o in
-    let objects : home_objects (InRepeat o.before) past ≡ [] =
-    nothing_from (home_objects (InRepeat o.before) past) (ap (λ (r : OpenRepeat). is_left_out r.objects) (sym opens.same) ∙ empty) in
-    let items : closed_repeat past ≡ [] = rw opens.opens (ap (repeat_by o) objects) in
-    let leaves : closed_leaves past ≡ 0 =
-    rw opens.opens (ap (λ n. o.columns * o.rows * n) (no_leaves (InRepeat o.before) past objects) ∙ omega arith) in (
-      ap (λ all. first_holding
-          ((OutOfBoard, not true || holds_of_one (is_outside past) all)
-          ∷ (TooMuch, not (is_left_out all) && is_layer_full past (closed_leaves past)) ∷ [])) items,
-      record {
-        modal = refl;
-        region = refl;
-        attributes = refl;
-        alloc = refl;
-        blocks = refl;
-        repeat = closed;
-        macros = refl;
-        entries = refl;
-        items = t.built.items ∙ sym (ap (λ all. items_in past ++ all) items ∙ append-nil (items_in past));
-        leaves = omega (arith, t.built.leaves, leaves);
-      },
-    )
+settles_empty past old r after t e empty closed = grind (arith, is_opened, nothing_from, no_leaves, append-nil)
 
 -- ---- a repeat with objects
 
 some_objects : (objects : List Object) → is_left_out objects ≡ false → 0 < length objects
-some_objects [] h = absurd (false≢true (sym h))
-some_objects (x ∷ xs) h = omega arith
-
-well_made : (es : List (ℕ × Entry)) (o : Object) → IsMade es o → IsWellMade es o
-well_made es o m = record { formed = m.formed; known = m.known; drawable = m.drawable; radius = m.radius; points = m.points }
+some_objects objects h = grind (arith, false≢true)
 
 opened_well : (past : Past) (o : Opened) → Sound past → open_repeat past ≡ Some o → is_left_out (home_objects (InRepeat o.before) past) ≡ false
     → IsWellMadeItem (entries_in past) (item.Repeat o.columns o.rows o.i o.j (home_objects (InRepeat o.before) past))
-opened_well past o sound opens some =
-    let view = subst (λ repeat. IsRepeatView (entries_in past) (option_map (repeat_at past) repeat)) opens sound.repeat in
-    record {
-      repeated = (repeated (item.Repeat o.columns o.rows o.i o.j (home_objects (InRepeat o.before) past))).1
-          (view.0.copies, some_objects (home_objects (InRepeat o.before) past) some);
-      steps = (view.0.steps_i, view.0.steps_j);
-      objects = All-weaker (IsMade (entries_in past)) (IsWellMade (entries_in past)) (well_made (entries_in past))
-          (home_objects (InRepeat o.before) past) view.1.each;
-    }
+opened_well past o sound opens some = grind (arith, IsRepeatView, repeat_at, repeated, some_objects, All-weaker, IsMade)
 
 pub closing_well : (old : Running) (r : OpenRepeat) → HasPast old → old.frames.repeat ≡ Some r → is_left_out r.objects ≡ false
     → IsWellMadeItem old.built.layer.apertures (item.Repeat r.columns r.rows r.i r.j r.objects)
-closing_well old r h e some =
-    let opens = is_opened h.0 old r h.2 e in
-    let o = opens.o in
-    subst (λ (r : OpenRepeat). IsWellMadeItem old.built.layer.apertures (item.Repeat r.columns r.rows r.i r.j r.objects)) (sym opens.same)
-    (subst (λ es. IsWellMadeItem es (item.Repeat o.columns o.rows o.i o.j (home_objects (InRepeat o.before) h.0))) (sym h.2.built.entries)
-    (opened_well h.0 o (sound_past h.0 h.1 h.3) opens.opens (ap (λ (r : OpenRepeat). is_left_out r.objects) (sym opens.same) ∙ some)))
+closing_well old r h e some = grind (arith, is_opened, opened_well, sound_past)
 
 one_item : (o : Opened) (objects : List Object) → is_left_out objects ≡ false
     → repeat_by o objects ≡ item.Repeat o.columns o.rows o.i o.j objects ∷ []
-one_item o [] h = absurd (false≢true (sym h))
-one_item o (x ∷ xs) h = refl
+one_item o objects h = grind (arith, false≢true)
 
 pub settles_some : (past : Past) (old : Running) (r : OpenRepeat) (after : Option OpenRepeat) (result : Result (Unit {0}) Stop)
     (built : Built) → Tracks past old

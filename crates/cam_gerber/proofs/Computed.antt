@@ -1,6 +1,6 @@
 -- What is computed of a file is what its reader answers; its layers are sound, and the numbers of its faults under that of
 -- memory.
-use Rattle.std.proofs.Common.{◌≡◌, ◌≤◌, ℕ, List, Result, Ok, Err, subst, inl, inr}
+use Rattle.std.proofs.Common.{arith, ◌≡◌, ◌≤◌, ℕ, List, Result, Ok, Err, subst}
 use Rattle.std.specs.Prelude.{◌⊎◌}
 use Rattle.cam_refusals.specs.declared.read_fault.ReadFault.{ReadFault}
 use Rattle.cam_refusals.specs.Refusals.{number_of}
@@ -19,8 +19,7 @@ use Rattle.cam_gerber.proofs.SoundReadings as sound
 
 pub reading_answers : (bytes : List ℕ) (result : Result Layer ReadFault) → IsReading bytes result
     → (layer_answer result ≡ reading_of bytes) ⊎ (result ≡ Err no_memory)
-reading_answers bytes result (inl h) = inl (reading_is bytes (layer_answer result) h)
-reading_answers bytes result (inr e) = inr e
+reading_answers bytes result it = grind (arith, reading_is)
 
 -- ---- what a file gives
 

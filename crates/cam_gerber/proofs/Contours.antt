@@ -1,21 +1,17 @@
 -- The contour of a region.
-use Rattle.std.proofs.Common.{◌≡◌, ℕ, List, [], ◌∷◌, ◌++◌, length, min, true, false, cond, Option, Some, None, refl}
-use Rattle.std.proofs.Common.{sym, ap, ap₂, ◌∙◌, subst, arith}
+use Rattle.std.proofs.Common.{◌≡◌, ℕ, List, [], ◌∷◌, ◌++◌, length, true, false, Option, Some, None, refl}
+use Rattle.std.proofs.Common.{sym, ap, ap₂, ◌∙◌, arith}
 use Rattle.std.specs.Prelude.{map, nat_le, Err}
 use Rattle.cam_refusals.specs.declared.refusal.Refusal.{Refusal}
 use Rattle.cam_refusals.specs.declared.refusal.Refusal.TheVariants.{TooMuch}
 use Rattle.cam_refusals.specs.Checks.{Checks, first_holding}
 use Rattle.cam_refusals.specs.declared.stop.Stop.{Stop}
-use Rattle.cam_refusals.specs.declared.stop.Stop.TheVariants.{Memory, Fault}
 use Rattle.std.specs.Option.{option_map}
 use Rattle.std.proofs.lemmas.List.{append-nil}
-use Rattle.cam_objects.specs.declared.object.Object.{Object}
-use Rattle.cam_objects.specs.declared.item.Item.TheVariants.{One}
 use Rattle.cam_objects.specs.Weights.{block_count, weight_in}
 use Rattle.cam_gerber.specs.declared.frames.Frames.{Frames}
-use Rattle.cam_gerber.specs.declared.frames.OpenBlock.{OpenBlock}
 use Rattle.cam_gerber.specs.declared.built.Built.{Built}
-use Rattle.cam_gerber.specs.Layers.{entries_in, items_in, home_leaves}
+use Rattle.cam_gerber.specs.Layers.{entries_in, home_leaves}
 use Rattle.cam_units.specs.declared.point.Point.{Point}
 use Rattle.cam_shapes.specs.declared.segments.Seg.{Seg}
 use Rattle.cam_shapes.specs.Contour.{end_of}
@@ -27,19 +23,17 @@ use Rattle.cam_gerber.specs.declared.region.Region.{Region}
 use Rattle.cam_gerber.specs.declared.running.Running.{Running}
 use Rattle.cam_gerber.specs.Statements.{Statement, Says}
 use Rattle.cam_gerber.specs.State.{Past, mode_in, point_in, arc_centre, code_of, in_region}
-use Rattle.cam_gerber.specs.Homes.{Home, InBlock, InRepeat, InLayer, Opened, home, is_same_home, open_blocks, open_repeat}
+use Rattle.cam_gerber.specs.Homes.{Home, Opened, home}
 use Rattle.cam_gerber.specs.Making.{segment, segments_in, region_ended, made, made_at, home_objects, IsMaker}
 use Rattle.cam_gerber.specs.Faults.{command_faults, operated_faults, is_full, holds_of_one}
 use Rattle.cam_objects.specs.Soundness.{is_on_board}
-use Rattle.cam_gerber.specs.Machinery.Tracking.{Tracks, Answers, Ended, TracksModal, TracksFrames, TracksBuilt}
-use Rattle.cam_gerber.specs.Machinery.Tracking.{TracksPlaces, IsOperated, mode_by, moved_point, centre_by}
-use Rattle.cam_gerber.specs.Machinery.Tracking.{path_faults_by, block_of, repeat_of}
+use Rattle.cam_gerber.specs.Machinery.Tracking.{Tracks, Answers, Ended, TracksModal, TracksFrames, TracksBuilt, TracksPlaces}
+use Rattle.cam_gerber.specs.Machinery.Tracking.{IsOperated, mode_by, moved_point, centre_by, path_faults_by, block_of, repeat_of}
 use Rattle.cam_gerber.proofs.Pasts.{Joins, joins}
 use Rattle.cam_gerber.proofs.Operated.{told_before, passed, mode_same, point_same, centre_same, plot_same, operated_tracks, end_same}
 
 none_at : (h : Home) (past : Past) (says : Statement) → made past says ≡ [] → made_at h past says ≡ []
-none_at h past says none =
-    elim (is_same_home (home past) h) as (λ b. cond {A = List Object} b (made past says) [] ≡ []) [ true ↦ none | false ↦ refl ]
+none_at h past says none = grind arith
 
 module _ (past : Past) (says : Statement) (j : Joins past says) (none : made past says ≡ []) where
   objects_stay : (h : Home) → home_objects h (says ∷ past) ≡ home_objects h past
@@ -50,33 +44,16 @@ module _ (past : Past) (says : Statement) (j : Joins past says) (none : made pas
 
   blocks_stay : (numbers : List ℕ) → map (block_of past) numbers ≡ map (block_of (says ∷ past)) numbers
   blocks_stay [] = refl
-  blocks_stay (n ∷ outer) =
-      ap₂ (λ (b : OpenBlock) rest. b ∷ rest)
-      (ap₂ (λ (all : List Object) (m : ℕ). record { number = n; objects = all; leaves = m }) (sym (objects_stay (InBlock n)))
-      (sym (leaves_stay (InBlock n)))) (blocks_stay outer)
+  blocks_stay (n ∷ outer) = grind (arith, objects_stay, leaves_stay, blocks_stay outer)
 
   repeat_stays : (repeat : Option Opened) → option_map (repeat_of past) repeat ≡ option_map (repeat_of (says ∷ past)) repeat
-  repeat_stays None = refl
-  repeat_stays (Some o) =
-      ap₂ (λ (all : List Object) (m : ℕ). Some
-      (record { columns = o.columns; rows = o.rows; i = o.i; j = o.j; objects = all; leaves = min 4000001 m }))
-      (sym (objects_stay (InRepeat o.before))) (sym (leaves_stay (InRepeat o.before)))
+  repeat_stays repeat = grind (arith, objects_stay, leaves_stay)
 
   stay_open : (f : Frames) → TracksFrames past f → TracksFrames (says ∷ past) f
-  stay_open f t = record {
-    blocks = t.blocks ∙ blocks_stay (open_blocks past) ∙ ap (map (block_of (says ∷ past))) (sym j.blocks);
-    repeat = t.repeat ∙ repeat_stays (open_repeat past) ∙ ap (option_map (repeat_of (says ∷ past))) (sym j.repeat);
-  }
+  stay_open f t = grind (arith, blocks_stay, repeat_stays)
 
   stay_built : (b : Built) → TracksBuilt past b → TracksBuilt (says ∷ past) b
-  stay_built b t = record {
-    entries = t.entries ∙ sym j.entries;
-    items = t.items
-        ∙ sym (j.items ∙ ap (λ (more : List Object). items_in past ++ map One more) (none_at InLayer past says none)
-        ∙ append-nil (items_in past));
-    macros = t.macros ∙ sym j.macros;
-    leaves = omega (arith, t.leaves, j.all_leaves, ap (block_count (weight_in (entries_in past))) (none_at InLayer past says none));
-  }
+  stay_built b t = grind (arith, none_at, append-nil)
 
 -- a statement that makes nothing leaves what is open and built
 pub nothing_made : (past : Past) (says : Statement) (r : Running) → IsMaker says → made past says ≡ [] → TracksPlaces past r
@@ -89,8 +66,7 @@ nothing_made past says r maker none t = record {
 segment_checks : (past : Past) (operation : Operation) (m : Modal) → TracksModal past m
     → first_holding (operated_faults Plot true past operation)
     ≡ first_holding (path_faults_by m operation ++ (TooMuch, nat_le 1000000 (length (segments_in past))) ∷ [])
-segment_checks past operation m t =
-    ap (λ checks. first_holding (checks ++ (TooMuch, nat_le 1000000 (length (segments_in past))) ∷ [])) (sym (plot_same past m operation t))
+segment_checks past operation m t = grind (arith, plot_same)
 
 -- a segment of a region joins the contour
 pub segment_tracks : (past : Past) (operation : Operation) (old : Running) (region : Region) (m : Modal) (seg : Seg)
@@ -146,16 +122,12 @@ segment_full past operation old t path full =
 
 -- a refusal for some checks is one for others that tell the same
 pub refused_alike : (stop : Stop) (a b : Checks Refusal) (P Q : Type 0) → first_holding a ≡ first_holding b → Answers (Err stop) a P → Answers (Err stop) b Q
-refused_alike Memory a b P Q e h = tt
-refused_alike (Fault code) a b P Q e h = sym e ∙ h
+refused_alike stop a b P Q e h = grind arith
 
 pub next_checks : (past : Past) (operation : Operation) (old : Running) → Tracks past old
     → is_on_board (moved_point old.modal operation) ≡ true
     → first_holding ((TooMuch, holds_of_one (is_full (home past) past) (region_ended past)) ∷ []) ≡ first_holding (operated_faults Move true past operation)
-next_checks past operation old t on =
-    let fine : is_on_board (point_in (Says (Operate operation) ∷ past)) ≡ true =
-    ap is_on_board (sym (point_same past old.modal operation t.modal)) ∙ on in
-    sym (rw fine refl)
+next_checks past operation old t on = grind (arith, point_same)
 
 pub next_made : (past : Past) (operation : Operation) → in_region past ≡ true → code_of operation ≡ Move
     → made past (Says (Operate operation)) ≡ region_ended past
@@ -165,30 +137,12 @@ pub next_tracks : (past : Past) (operation : Operation) (old kept : Running) (to
     → in_region past ≡ true → code_of operation ≡ Move
     → Ended (Says (Operate operation) ∷ past) old kept → to ≡ moved_point old.modal operation → IsOperated kept.modal operation to m
     → Tracks (Says (Operate operation) ∷ past) (record kept { modal = m; region = record kept.region { start = to } })
-next_tracks past operation old kept to m t inside moves ended e done = record {
-  modal = operated_tracks past old.modal m operation to t.modal (subst (λ (k : Modal). IsOperated k operation to m) ended.modal done) e;
-  region = record {
-    inside = ended.inside ∙ t.region.inside;
-    start = e ∙ point_same past old.modal operation t.modal ∙ rw (inside, moves) refl;
-    segs = ended.segs ∙ rw (inside, moves) refl;
-  };
-  frames = ended.places.frames;
-  built = ended.places.built;
-  attributes = ended.attributes ∙ t.attributes;
-}
+next_tracks past operation old kept to m t inside moves ended e done = grind (arith, operated_tracks, point_same)
 
 pub closed_tracks : (past : Past) (old kept : Running) → Tracks past old → Ended (Says EndRegion ∷ past) old kept
     → Tracks (Says EndRegion ∷ past) (record kept { region = record kept.region { inside = false } })
-closed_tracks past old kept t ended = record {
-  modal = subst (TracksModal (Says EndRegion ∷ past)) (sym ended.modal) (search t.modal);
-  region = record { inside = refl; start = ended.start ∙ t.region.start; segs = ended.segs };
-  frames = ended.places.frames;
-  built = ended.places.built;
-  attributes = ended.attributes ∙ t.attributes;
-}
+closed_tracks past old kept t ended = grind arith
 
 pub closed_checks : (past : Past) (old : Running) → Tracks past old → old.region.inside ≡ true
     → first_holding ((TooMuch, holds_of_one (is_full (home past) past) (region_ended past)) ∷ []) ≡ first_holding (command_faults past EndRegion)
-closed_checks past old t inside =
-    let fine : in_region past ≡ true = sym t.region.inside ∙ inside in
-    sym (rw fine refl)
+closed_checks past old t inside = grind arith

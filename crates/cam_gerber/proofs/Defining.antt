@@ -8,9 +8,8 @@ use Rattle.cam_refusals.specs.declared.refusal.Refusal.TheVariants as refusal
 use Rattle.cam_refusals.specs.Checks.{Checks, IsLeast, NoneHolds, least}
 use Rattle.cam_refusals.specs.Checks as of_checks
 use Rattle.cam_refusals.specs.Refusals.{UnlessMemory, number_of}
-use Rattle.cam_refusals.proofs.Checks.{tells_least}
+use Rattle.cam_refusals.proofs.Checks.{tells_least, least_is_first}
 use Rattle.cam_units.specs.declared.length.Unit.{Unit as FileUnit}
-use Rattle.cam_words.specs.Bytes.{is_skipped}
 use Rattle.cam_words.specs.Heads.{packed}
 use Rattle.cam_macros.specs.declared.aperture_macro.Macro.{Macro}
 use Rattle.cam_apertures.specs.declared.aperture.Aperture.{Aperture}
@@ -23,11 +22,11 @@ use Rattle.cam_objects.specs.declared.entry.Entry.TheVariants as entry
 use Rattle.cam_gerber.specs.State.{Past, unit_in, in_region}
 use Rattle.cam_units.specs.Nearest.{unit_or_mm}
 use Rattle.cam_gerber.specs.Layers.{macros_in, entries_in, defined, defined_by}
-use Rattle.cam_gerber.specs.Faults.{faults, command_faults, is_reserved, is_taken_again, is_defined}
+use Rattle.cam_gerber.specs.Faults.{faults, command_faults, is_reserved, is_taken_again}
 use Rattle.cam_gerber.specs.Statements.{Says, NamesMacro, IsMacroOf}
 use Rattle.std.specs.List.{slice_split, onto_first, before_first}
 use Rattle.cam_macros.specs.declared.part.Part.{Part}
-use Rattle.cam_macros.specs.Reading.{pieces, first, others, parts_spoken, is_macro_name, AreParts, IsMacroReading, IsMacroRefused}
+use Rattle.cam_macros.specs.Reading.{pieces, first, is_macro_name, IsMacroReading, IsMacroRefused}
 use Rattle.cam_macros.specs.declared.fault.MacroFault.{MacroFault}
 use Rattle.cam_macros.specs.declared.fault.MacroFault.TheVariants as macro
 use Rattle.cam_commands.specs.Commands.{DefineAperture}
@@ -38,18 +37,11 @@ use Rattle.cam_gerber.proofs.Pasts.{none_of}
 use Rattle.std.proofs.lemmas.Bool.{or_parts}
 use Rattle.std.specs.Map.{lookup}
 use Rattle.cam_gerber.proofs.Least.{least_none, pass_least}
-use Rattle.cam_refusals.proofs.Checks.{least_is_first}
 
 -- bytes that do not count are dropped once
 pub packed_again : (text : List ℕ) → packed (packed text) ≡ packed text
 packed_again [] = refl
-packed_again (byte ∷ text) =
-    (elim (not (is_skipped byte))
-    as (λ b. not (is_skipped byte) ≡ b → packed (cond b (byte ∷ packed text) (packed text))
-    ≡ cond b (byte ∷ packed text) (packed text)) [
-      | true ↦ λ e. rw e (ap (λ (rest : List ℕ). byte ∷ rest) (packed_again text))
-      | false ↦ λ e. packed_again text
-    ]) refl
+packed_again (byte ∷ text) = grind (arith, packed_again text)
 
 pub same_definition : (text : List ℕ) → template_form (packed text) ≡ template_form text
 same_definition text = ap definition (packed_again text)
@@ -76,11 +68,7 @@ pub definition_faults : (past : Past) (text : List ℕ) (macros : List Macro) (u
     → ((checks : Checks Refusal) → told ≡ least number_of checks → result ≡ least number_of (with_state past number checks))
     → told ≡ least number_of (faults_of (template_form text) macros unit)
     → result ≡ least number_of (command_faults past (DefineAperture (packed text)))
-definition_faults past text macros unit number told result m u n lowest e =
-    lowest (faults_of (template_form text) macros unit) e
-    ∙ ap (λ k. least number_of (with_state past k (faults_of (template_form text) macros unit))) n
-    ∙ ap₂ (λ ms v. least number_of (with_state past (numbered (template_form text)) (faults_of (template_form text) ms v))) m u
-    ∙ ap (λ d. least number_of (with_state past (numbered d) (faults_of d (macros_in past) (unit_or_mm (unit_in past))))) (sym (same_definition text))
+definition_faults past text macros unit number told result m u n lowest e = grind (arith, same_definition)
 
 -- a definition's own fault makes one of the command
 pub some_fault : (past : Past) (number : Option ℕ) (checks : Checks Refusal) (result : Option Refusal) (refusal : Refusal)
@@ -97,10 +85,7 @@ some_fault past number checks result refusal h e = go result (subst (λ o. Match
 -- a number that is not refused is new
 pub new_number : (past : Past) (number : ℕ) (checks : Checks Refusal) (entries : List (ℕ × Entry)) → entries ≡ entries_in past
     → least number_of (with_state past (Some number) checks) ≡ None → lookup (nat_eq number) entries ≡ None
-new_number past number checks entries e h =
-    let met = pass_least (with_state past (Some number) checks) h in
-    let free : is_defined past number ≡ false = (or_parts (is_defined past number) _ met.1.0).0 in
-    ap (lookup (nat_eq number)) e ∙ none_of (lookup (nat_eq number) (entries_in past)) free
+new_number past number checks entries e h = grind (arith, pass_least, or_parts, none_of)
 
 pub defined_tracks : (past : Past) (text : List ℕ) (old : Running) (unit : FileUnit) (n : ℕ) (a : Aperture) (layer : Layer)
     → Tracks past old → unit ≡ unit_or_mm (unit_in past)
@@ -126,8 +111,7 @@ defined_tracks past text old unit n a layer t u d entries items = record {
 
 -- a refusal that is not of memory
 pub meant : (fault : AdFault) (P : Type 0) → (fault ≡ OutOfMemory → ⊥) → UnlessMemory (aperture_refusal fault) P → P
-meant OutOfMemory P other h = absurd (other refl)
-meant _ P other h = h
+meant fault P other h = grind arith
 
 -- ---- macros
 
@@ -136,18 +120,10 @@ same_pieces text = ap (slice_split (λ b. b == 42)) (packed_again text)
 
 -- a text and the same without the bytes that do not count stand for the same macros
 to_packed : (text name : List ℕ) (parts : List Part) → IsMacroReading text name parts → IsMacroReading (packed text) name parts
-to_packed text name parts r = record {
-  name_is = r.name_is ∙ ap first (sym (same_pieces text));
-  named = r.named;
-  parts_are = subst (λ ps. AreParts (parts_spoken (others ps)) parts) (sym (same_pieces text)) r.parts_are;
-}
+to_packed text name parts r = grind (arith, same_pieces)
 
 from_packed : (text name : List ℕ) (parts : List Part) → IsMacroReading (packed text) name parts → IsMacroReading text name parts
-from_packed text name parts r = record {
-  name_is = r.name_is ∙ ap first (same_pieces text);
-  named = r.named;
-  parts_are = subst (λ ps. AreParts (parts_spoken (others ps)) parts) (same_pieces text) r.parts_are;
-}
+from_packed text name parts r = grind (arith, same_pieces)
 
 -- what a macro's text says
 pub said_macro : (text name : List ℕ) (parts : List Part) → IsMacroReading text name parts
@@ -181,26 +157,10 @@ module _ (past : Past) (name : List ℕ) (parts : Option (List Part)) (macros : 
           → least number_of (faults past (NamesMacro name parts)) ≡ cond (is_none parts) (Some refusal.MacroFault) None
       by_parts l = told ∙ rw (h, same_taken ∙ k, l) refl
 
--- a name that is not taken is that of no macro
-pub not_taken : {A : Type 0} (found : Option A) (reserved : Bool) → (is_some found || reserved) ≡ false → found ≡ None
-not_taken None reserved h = refl
-not_taken (Some a) reserved h = absurd (cc)
-
 pub macro_tracks : (past : Past) (old : Running) (made : Macro) (macros : List Macro) → Tracks past old
     → macros ≡ old.built.macros ++ made ∷ []
     → Tracks (NamesMacro made.name (Some made.parts) ∷ past) (record old { built = record old.built { macros = macros } })
-macro_tracks past old made macros t e = record {
-  modal = search t.modal;
-  region = record { inside = t.region.inside; start = t.region.start; segs = t.region.segs };
-  frames = record { blocks = t.frames.blocks; repeat = t.frames.repeat };
-  built = record {
-    entries = t.built.entries;
-    items = t.built.items;
-    macros = e ∙ ap (λ ms. ms ++ made ∷ []) t.built.macros;
-    leaves = t.built.leaves;
-  };
-  attributes = t.attributes;
-}
+macro_tracks past old made macros t e = grind arith
 
 pub bad_parts : (text : List ℕ) (fault : MacroFault) → fault ≡ macro.Malformed → IsMacroRefused text fault
     → (is_macro_name (first (pieces text)) ≡ true) × ((parts : List Part) → ¬ IsMacroReading text (first (pieces text)) parts)
@@ -213,19 +173,14 @@ pub no_name : (text : List ℕ) → is_macro_name (first (pieces text)) ≡ fals
 no_name text h parts r = let wrong : true ≡ false = sym r.named ∙ h in cc
 
 first_onto : (x : ℕ) (ps : List (List ℕ)) → first (onto_first x ps) ≡ x ∷ first ps
-first_onto x [] = refl
-first_onto x (piece ∷ ps) = refl
+first_onto x ps = grind arith
 
 one_more : (x n : ℕ) (xs : List ℕ) → x ∷ take n xs ≡ take (1 + n) (x ∷ xs)
 one_more x n xs = let e : suc n ≡ 1 + n = omega arith in ap (λ k. take k (x ∷ xs)) e
 
 first_piece : (p : ℕ → Bool) (xs : List ℕ) → first (slice_split p xs) ≡ before_first p xs
 first_piece p [] = refl
-first_piece p (x ∷ xs) =
-    (elim (p x) as (λ b. p x ≡ b → first (cond b ([] ∷ slice_split p xs) (onto_first x (slice_split p xs))) ≡ before_first p (x ∷ xs)) [
-      | true ↦ λ e. rw e refl
-      | false ↦ λ e. first_onto x (slice_split p xs) ∙ ap (λ (ys : List ℕ). x ∷ ys) (first_piece p xs) ∙ rw e (one_more x _ xs)
-    ]) refl
+first_piece p (x ∷ xs) = grind (arith, first_onto, one_more, first_piece p xs)
 
 pub name_before_star : (text : List ℕ) → before_first (λ b. b == 42) (packed text) ≡ first (pieces text)
 name_before_star text = sym (first_piece (λ b. b == 42) (packed text))
@@ -233,15 +188,4 @@ name_before_star text = sym (first_piece (λ b. b == 42) (packed text))
 -- macros that are the same are tracked
 pub same_macros : (past : Past) (r : Running) (macros : List Macro) → macros ≡ r.built.macros → Tracks past r
     → Tracks past (record r { built = record r.built { macros = macros } })
-same_macros past r macros e t = record {
-  modal = t.modal;
-  region = t.region;
-  frames = t.frames;
-  built = record {
-    entries = t.built.entries;
-    items = t.built.items;
-    macros = e ∙ t.built.macros;
-    leaves = t.built.leaves;
-  };
-  attributes = t.attributes;
-}
+same_macros past r macros e t = grind arith

@@ -1,8 +1,6 @@
 -- No expansion of a macro is refused for want of memory.
-use Rattle.std.proofs.Common.{ℕ, suc, ◌+◌, ◌*◌, ◌%◌, List, [], ◌∷◌, length, take, drop, Bool, true, false, cond, Option}
-use Rattle.std.proofs.Common.{Some, None, Result, Ok, Err}
-use Rattle.std.specs.Prelude.{ℤ, pos, negsuc, ◌==◌, ◌&&◌, ◌||◌, nat_le, nat_lt, unsigned_abs, ok_or}
-use Rattle.cam_refusals.specs.Limits.{size_limit}
+use Rattle.std.proofs.Common.{arith, ℕ, ◌+◌, ◌*◌, List, [], ◌∷◌, length, take, drop, Bool, cond, Option, Some, Result, Ok, Err}
+use Rattle.std.specs.Prelude.{ℤ, nat_lt}
 use Rattle.cam_units.specs.declared.length.Unit.{Unit as FileUnit}
 use Rattle.cam_units.specs.declared.turn.Turn.{Turn}
 use Rattle.cam_units.specs.Nearest.{fix9_of}
@@ -10,14 +8,12 @@ use Rattle.cam_macros.specs.declared.part.Part.{Part}
 use Rattle.cam_macros.specs.declared.part.Part.TheVariants.{Assignment, Primitive}
 use Rattle.cam_macros.specs.declared.primitive.MacroPrimitive.{MacroPrimitive}
 use Rattle.cam_macros.specs.declared.fault.MacroFault.{MacroFault}
-use Rattle.cam_macros.specs.declared.fault.MacroFault.TheVariants.{Malformed, RotationRefused, SizeRefused, OutOfMemory}
-use Rattle.cam_macros.specs.Numbers.{billion}
+use Rattle.cam_macros.specs.declared.fault.MacroFault.TheVariants.{Malformed, OutOfMemory}
 use Rattle.cam_macros.specs.Tree.{Tree}
-use Rattle.cam_macros.specs.Arithmetic.{Values, parameter, tree_value}
-use Rattle.cam_macros.specs.Expansion.{◌>>=◌, worth, all_worth, paint_of, rotation, rotation_field, size, size_of}
-use Rattle.cam_macros.specs.Expansion.{coordinate_of, point_of, outline_points, disc_of, bar_of, rect_of, count_of}
-use Rattle.cam_macros.specs.Expansion.{outline_made, primitive_made, primitive_of, outcome, values_after, expansion}
-use Rattle.cam_macros.specs.Expansion.{expansion_of}
+use Rattle.cam_macros.specs.Arithmetic.{Values, parameter}
+use Rattle.cam_macros.specs.Expansion.{◌>>=◌, worth, all_worth, paint_of, rotation, rotation_field, size, size_of, point_of}
+use Rattle.cam_macros.specs.Expansion.{outline_points, disc_of, bar_of, rect_of, count_of, outline_made, primitive_made}
+use Rattle.cam_macros.specs.Expansion.{primitive_of, outcome, values_after, expansion, expansion_of}
 
 -- not for want of memory
 abbrev pub IsTrueFault : MacroFault → Type 0
@@ -29,51 +25,37 @@ MayBe (Ok a) = Unit {0}
 MayBe (Err fault) = IsTrueFault fault
 
 bound : {A B : Type 0} (r : Result A MacroFault) (f : A → Result B MacroFault) → MayBe r → ((a : A) → MayBe (f a)) → MayBe (r >>= f)
-bound (Ok a) f h k = k a
-bound (Err fault) f h k = h
+bound r f h k = grind arith
 
 either : {A : Type 0} (b : Bool) (x y : Result A MacroFault) → MayBe x → MayBe y → MayBe (cond b x y)
-either true x y h k = h
-either false x y h k = k
+either b x y h k = grind arith
 
 worths : (values : Values) (tree : Tree) → MayBe (worth values tree)
-worths values tree = go (tree_value values tree)
-  where
-    go : (o : Option ℤ) → MayBe (ok_or o Malformed)
-    go None = tt
-    go (Some v) = tt
+worths values tree = grind arith
 
 all_worths : (values : Values) (trees : List Tree) → MayBe (all_worth values trees)
 all_worths values [] = tt
-all_worths values (tree ∷ trees) =
-    bound (worth values tree) _ (worths values tree) λ v. bound (all_worth values trees) _ (all_worths values trees) λ vs. tt
+all_worths values (tree ∷ trees) = grind (arith, bound, worths, all_worths values trees)
 
 paints : (z : ℤ) → MayBe (paint_of z)
-paints (pos n) = either (n == 0) (Ok false) _ tt (either (n == billion) (Ok true) (Err Malformed) tt tt)
-paints (negsuc n) = tt
+paints z = grind (arith, either)
 
 rotations : (z : ℤ) → MayBe (rotation z)
-rotations (pos n) = either (n % 90000000000 == 0) _ (Err RotationRefused) tt tt
-rotations (negsuc n) = either (suc n % 90000000000 == 0) _ (Err RotationRefused) tt tt
+rotations z = grind (arith, either)
 
 turns : (values : List ℤ) → MayBe (rotation_field values)
-turns (v ∷ []) = rotations v
-turns _ = tt
+turns values = grind (arith, rotations)
 
 sizes : (z : ℤ) → MayBe (size z)
-sizes (pos n) = either (nat_le n size_limit) _ (Err SizeRefused) tt tt
-sizes (negsuc n) = tt
+sizes z = grind (arith, either)
 
 points : (unit : FileUnit) (turn : Turn) (x y : ℤ) → MayBe (point_of unit turn x y)
-points unit turn x y =
-    bound (coordinate_of unit x) _ (either (nat_le (unsigned_abs (fix9_of x unit)) size_limit) _ (Err SizeRefused) tt tt)
-    λ a. bound (coordinate_of unit y) _ (either (nat_le (unsigned_abs (fix9_of y unit)) size_limit) _ (Err SizeRefused) tt tt) λ b. tt
+points unit turn x y = grind (arith, bound, either)
 
 all_points : (unit : FileUnit) (turn : Turn) (values : List ℤ) → MayBe (outline_points unit turn values)
 all_points unit turn [] = tt
 all_points unit turn (x ∷ []) = tt
-all_points unit turn (x ∷ y ∷ more) =
-    bound (point_of unit turn x y) _ (points unit turn x y) λ p. bound (outline_points unit turn more) _ (all_points unit turn more) λ ps. tt
+all_points unit turn (x ∷ y ∷ more) = grind (arith, bound, points, all_points unit turn more)
 
 discs : (unit : FileUnit) (values : List ℤ) → MayBe (disc_of unit values)
 discs unit (e ∷ d ∷ x ∷ y ∷ more) =
@@ -96,8 +78,7 @@ rects unit (e ∷ w ∷ h ∷ x ∷ y ∷ more) =
 rects unit _ = tt
 
 counts : (z : ℤ) → MayBe (count_of z)
-counts (pos n) = either ((n % billion == 0) && (nat_lt 0 n && nat_le n (5000 * billion))) _ (Err Malformed) tt tt
-counts (negsuc n) = tt
+counts z = grind (arith, either)
 
 outlines : (unit : FileUnit) (values : List ℤ) → MayBe (outline_made unit values)
 outlines unit (e ∷ n ∷ more) =
@@ -118,15 +99,10 @@ maker : (shape : Maker) → ((unit : FileUnit) (values : List ℤ) → MayBe (sh
 maker shape h = record { makes = λ unit values fields. bound (all_worth values fields) (shape unit) (all_worths values fields) (h unit) }
 
 chosen : (b : Bool) (x y : Option Maker) → IsMaker x → IsMaker y → IsMaker (cond b x y)
-chosen true x y h k = h
-chosen false x y h k = k
+chosen b x y h k = grind arith
 
 shapes : (code : ℕ) → IsMaker (primitive_made code)
-shapes code =
-    chosen (code == 1) (Some disc_of) _ (maker disc_of discs)
-    (chosen ((code == 2) || (code == 20)) (Some bar_of) _ (maker bar_of bars)
-    (chosen (code == 21) (Some rect_of) _ (maker rect_of rects)
-    (chosen (code == 4) (Some outline_made) None (maker outline_made outlines) (record { makes = λ unit values fields. tt }))))
+shapes code = grind (arith, chosen, maker, discs, bars, rects, outlines)
 
 outcomes : (unit : FileUnit) (values : Values) (part : Part) → MayBe (outcome unit values part)
 outcomes unit values (Assignment variable value) = bound (worth values value) _ (worths values value) λ v. tt
@@ -135,9 +111,7 @@ outcomes unit values (Primitive code fields) =
 
 expands : (unit : FileUnit) (values : Values) (parts : List Part) → MayBe (expansion unit values parts)
 expands unit values [] = tt
-expands unit values (part ∷ parts) =
-    bound (outcome unit values part) _ (outcomes unit values part)
-    λ made. bound (expansion unit (values_after values part) parts) _ (expands unit (values_after values part) parts) λ more. tt
+expands unit values (part ∷ parts) = grind (arith, bound, outcomes, expands unit (values_after values part) parts)
 
 pub expansion_may_be : (unit : FileUnit) (params : List ℤ) (parts : List Part) → MayBe (expansion_of unit params parts)
 expansion_may_be unit params parts = expands unit (parameter params) parts

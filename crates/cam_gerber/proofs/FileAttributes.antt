@@ -22,10 +22,7 @@ use Rattle.cam_gerber.specs.Machinery.Tracking.{Tracks}
 -- ---- no name stands twice
 
 with_name_distinct : (name : List ℕ) (names : List (List ℕ)) → IsDistinct bytes_eq names → IsDistinct bytes_eq (with_name name names)
-with_name_distinct name names h = by (list_any (bytes_eq name) names) refl where
-  by : (b : Bool) → list_any (bytes_eq name) names ≡ b → IsDistinct bytes_eq (cond b names (names ++ name ∷ []))
-  by true e = h
-  by false e = IsDistinct-push {eq = bytes_eq} nat_list_eq_equiv names name h e
+with_name_distinct name names h = grind (arith, IsDistinct-push, nat_list_eq_equiv)
 
 distinct_names : (past : Past) → IsDistinct bytes_eq (names_in past)
 distinct_names [] = IsDistinct-from_apart bytes_eq [] (λ i j d low high. absurd (omega arith))
@@ -57,8 +54,7 @@ module _ (n0 f0 : List ℕ) (o : List ℕ → Option (List ℕ)) where
 
   pulled : (n : List ℕ) (ns : List (List ℕ)) (b : Bool)
       → map new (cond b (n ∷ ns) (n ∷ (ns ++ n0 ∷ []))) ≡ new n ∷ map new (cond b ns (ns ++ n0 ∷ []))
-  pulled n ns true = refl
-  pulled n ns false = refl
+  pulled n ns b = grind arith
 
   setting : (ns : List (List ℕ)) → IsDistinct bytes_eq ns
       → map new (with_name n0 ns) ≡ with_attribute (attribute_of n0 f0) (map old ns)

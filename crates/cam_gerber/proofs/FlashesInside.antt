@@ -1,12 +1,12 @@
 -- A flash is well made, and a check tells whether a leaf of it lies outside the board.
-use Rattle.std.proofs.Common.{◌≡◌, ℕ, ◌+◌, List, [], ◌∷◌, length, arith, Bool, true, false, Option, Some, None, Result, refl, sym, ap, ap₂, subst, ◌∙◌}
+use Rattle.std.proofs.Common.{◌≡◌, ℕ, List, [], ◌∷◌, length, arith, Bool, true, false, Option, Some, Result, refl, sym, ap, ◌∙◌}
 use Rattle.std.specs.Prelude.{◌&&◌, not, is_some}
 use Rattle.std.specs.Option.{option_map}
 use Rattle.std.proofs.lemmas.List.Elements.{All-cons, All-head, All-nil}
 use Rattle.std.proofs.lemmas.Option.{slice_get_within}
 use Rattle.cam_objects.specs.declared.entry.Entry.{Entry}
 use Rattle.cam_objects.specs.declared.entry.Entry.TheVariants.{Aperture}
-use Rattle.cam_objects.specs.Weights.{Weight, entry_weight, no_weight, weight_in}
+use Rattle.cam_objects.specs.Weights.{entry_weight, no_weight, weight_in}
 use Rattle.cam_objects.proofs.Dictionaries.{meant-at, whole}
 use Rattle.cam_objects.proofs.Painting.{meaning-at, meaning_whole}
 use Rattle.cam_units.specs.Board.{IsOnBoard}
@@ -23,7 +23,6 @@ use Rattle.cam_refusals.specs.Checks.{answer_of, first_holding}
 use Rattle.cam_gerber.specs.declared.running.Running.{Running}
 use Rattle.cam_gerber.specs.State.{Past}
 use Rattle.cam_gerber.specs.Homes.{Opened, home, home_by, open_blocks, open_repeat}
-use Rattle.cam_gerber.specs.Layers.{entries_in}
 use Rattle.cam_gerber.specs.Faults.{are_leaves_on_board, is_left_out, is_outside, is_outside_at}
 use Rattle.cam_gerber.specs.Machinery.Tracking.{HasPast, TracksPlaces, Weighs, repeat_of}
 use Rattle.cam_gerber.specs.Machinery.WellMade.{IsOfAperture, IsWellMade, NamesAperture, is_of_board}
@@ -37,25 +36,15 @@ use Rattle.cam_gerber.proofs.SoundJoining.{sound_past}
 -- ---- what is judged at once
 
 some_map : (past : Past) (repeat : Option Opened) → is_some (option_map (repeat_of past) repeat) ≡ is_some repeat
-some_map past None = refl
-some_map past (Some o) = refl
+some_map past repeat = grind arith
 
 in_repeat : (past : Past) (r : Running) → TracksPlaces past r
     → (is_left_out r.frames.blocks.items && is_some r.frames.repeat) ≡ (is_left_out (open_blocks past) && is_some (open_repeat past))
-in_repeat past r t =
-    ap₂ (λ a b. a && b) (ap is_left_out t.frames.blocks ∙ empty_map past (open_blocks past))
-    (ap is_some t.frames.repeat ∙ some_map past (open_repeat past))
+in_repeat past r t = grind (arith, empty_map, some_map)
 
 judged : (past : Past) (blocks : List ℕ) (repeat : Option Opened) (o : Object)
     → is_outside_at (home_by blocks repeat) past o ≡ (not (is_left_out blocks && is_some repeat) && is_outside past (One o))
-judged past (n ∷ outer) repeat o = refl
-judged past [] None o = refl
-judged past [] (Some opened) o = refl
-
-pub judged_later : (past : Past) (r : Running) (o : Object) → TracksPlaces past r
-    → (is_left_out r.frames.blocks.items && is_some r.frames.repeat) ≡ true → false ≡ is_outside_at (home past) past o
-judged_later past r o t e =
-    sym (judged past (open_blocks past) (open_repeat past) o ∙ ap (λ b. not b && is_outside past (One o)) (sym (in_repeat past r t) ∙ e))
+judged past blocks repeat o = grind arith
 
 pub judged_now : (past : Past) (r : Running) (o : Object) (check : Result (Unit {0}) ItemFault) → TracksPlaces past r
     → (is_left_out r.frames.blocks.items && is_some r.frames.repeat) ≡ false
@@ -74,16 +63,7 @@ judged_now past r o check t e well tells =
 
 pub judged_inside : (past : Past) (r : Running) (o : Object) → TracksPlaces past r
     → are_leaves_on_board (item_leaves (meaning_in r.built.layer.apertures) (One o)) ≡ true → is_outside_at (home past) past o ≡ false
-judged_inside past r o t on =
-    let inside : is_outside past (One o) ≡ false = outside_is past (One o)
-    ∙ ap (λ es. not (are_leaves_on_board (item_leaves (meaning_in es) (One o)))) (sym t.built.entries) ∙ ap not on in
-    judged past (open_blocks past) (open_repeat past) o
-    ∙ ap (λ b. not (is_left_out (open_blocks past) && is_some (open_repeat past)) && b) inside
-    ∙ none_holds (not (is_left_out (open_blocks past) && is_some (open_repeat past)))
-  where
-    none_holds : (b : Bool) → (b && false) ≡ false
-    none_holds true = refl
-    none_holds false = refl
+judged_inside past r o t on = grind (arith, outside_is, judged)
 
 -- ---- a flash of an aperture
 
@@ -112,27 +92,11 @@ stamp_inside es (object.Arc ccw dark n from to centre) names well = absurd names
 stamp_inside es (object.Region contour dark) names well = absurd names
 
 pub stamp_weighs : (es : List (ℕ × Entry)) (o : Object) → IsOfAperture es o → Weighs (record { leaves = 1; depth = 0 }) es o
-stamp_weighs es (object.Flash n at turn dark) names =
-    let none = weighs_nothing es n names in record {
-      leaves = ap (λ (w : Weight). 1 + w.leaves) (sym none);
-      depth = ap (λ (w : Weight). w.depth) (sym none);
-    }
-stamp_weighs es (object.Draw n from to turn dark) names = absurd names
-stamp_weighs es (object.Arc ccw dark n from to centre) names = absurd names
-stamp_weighs es (object.Region contour dark) names = absurd names
+stamp_weighs es o names = grind (arith, weighs_nothing)
 
 -- ---- a flash
 
 pub flash_well : (old : Running) (n : ℕ) (at : Point) (turn : Turn) (dark : Bool) → HasPast old → old.modal.aperture ≡ Some n
     → is_on_board at ≡ true
     → IsWellMade old.built.layer.apertures (object.Flash n at turn dark)
-flash_well old n at turn dark h a on =
-    let sound = sound_past h.0 h.1 h.3 in
-    record {
-      formed = refl;
-      known = subst (λ es. HasNumber es n) (sym h.2.built.entries)
-          (subst (IsKnownNumber (entries_in h.0)) (sym h.2.modal.aperture ∙ a) sound.aperture);
-      drawable = refl;
-      radius = refl;
-      points = All-cons IsOnBoard at [] (on_board at on) (All-nil IsOnBoard);
-    }
+flash_well old n at turn dark h a on = grind (arith, sound_past, HasNumber, IsKnownNumber, All-cons, on_board, All-nil)

@@ -1,6 +1,6 @@
 -- An object joins the innermost open block.
 use Rattle.std.proofs.Common.{◌≡◌, ℕ, ◌+◌, ◌<◌, ◌≤◌, List, [], ◌∷◌, ◌++◌, length, get_or, set, min, Global, false}
-use Rattle.std.proofs.Common.{eq-eqb, Option, Some, None, refl, sym, ap, ap₂, subst, ◌∙◌, arith}
+use Rattle.std.proofs.Common.{eq-eqb, Option, refl, sym, ap, ap₂, subst, ◌∙◌, arith}
 use Rattle.std.specs.Prelude.{map, nat_le, nat_lt}
 use Rattle.std.specs.Option.{option_map}
 use Rattle.std.proofs.lemmas.Bool.{or_parts}
@@ -14,7 +14,7 @@ use Rattle.cam_gerber.specs.declared.frames.OpenBlock.{OpenBlock}
 use Rattle.cam_gerber.specs.declared.running.Running.{Running}
 use Rattle.cam_gerber.specs.Statements.{Statement}
 use Rattle.cam_gerber.specs.State.{Past}
-use Rattle.cam_gerber.specs.Homes.{Opened, open_blocks, open_repeat, InBlock, InRepeat, InLayer, home}
+use Rattle.cam_gerber.specs.Homes.{Opened, open_blocks, open_repeat, InBlock, InLayer, home}
 use Rattle.cam_gerber.specs.Making.{made, made_at, home_objects, IsMaker}
 use Rattle.cam_gerber.specs.Layers.{entries_in, items_in, home_leaves}
 use Rattle.cam_gerber.specs.Faults.{is_full, is_block_full}
@@ -32,15 +32,7 @@ room_for n m h = grind (arith, nat_tests)
 -- an object in a block leaves the repeat as it is
 repeat_stays : (past : Past) (says : Statement) (n : ℕ) (repeat : Option Opened) → Joins past says → home past ≡ InBlock n
     → option_map (repeat_of past) repeat ≡ option_map (repeat_of (says ∷ past)) repeat
-repeat_stays past says n None j h = refl
-repeat_stays past says n (Some o) j h =
-    let away : made_at (InRepeat o.before) past says ≡ [] = elsewhere (InRepeat o.before) past says (rw h refl) in
-    let objects : home_objects (InRepeat o.before) past ≡ home_objects (InRepeat o.before) (says ∷ past) =
-    sym (j.objects (InRepeat o.before) ∙ ap (λ all. home_objects (InRepeat o.before) past ++ all) away ∙ append-nil _) in
-    let leaves : home_leaves (InRepeat o.before) past ≡ home_leaves (InRepeat o.before) (says ∷ past) =
-    omega (arith, j.leaves (InRepeat o.before), ap (block_count (weight_in (entries_in past))) away) in
-    ap₂ (λ (all : List Object) (m : ℕ).
-    Some (record { columns = o.columns; rows = o.rows; i = o.i; j = o.j; objects = all; leaves = min 4000001 m })) objects leaves
+repeat_stays past says n repeat j h = grind (arith, elsewhere, append-nil)
 
 pub made_in_block : (past : Past) (says : Statement) (old : Running) (object : Object) (leaves sum : ℕ) (block : OpenBlock)
     (objects : List Object) (blocks : VecDeque OpenBlock Global)

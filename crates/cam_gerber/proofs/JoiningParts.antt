@@ -1,6 +1,6 @@
 -- What is sound stays so where a sound object joins it that fits, and where a repeat is closed.
 use Rattle.std.proofs.Common.{◌≡◌, ℕ, ◌+◌, ◌*◌, ◌<◌, ◌≤◌, List, [], ◌∷◌, ◌++◌, length, map, leb, Bool, true, false}
-use Rattle.std.proofs.Common.{cond, refl, sym, ap, ◌∙◌, subst, arith, append-nil, length-append}
+use Rattle.std.proofs.Common.{cond, refl, sym, ap, subst, arith, append-nil, length-append}
 use Rattle.std.specs.Prelude.{not, unsigned_abs}
 use Rattle.std.specs.List.{All, list_all}
 use Rattle.std.proofs.lemmas.Bool.{eqb-true, leb-false, ltb-false, ltb-true, or_parts, and_parts}
@@ -12,9 +12,9 @@ use Rattle.cam_objects.specs.declared.object.Object.{Object}
 use Rattle.cam_objects.specs.declared.item.Item.{Item}
 use Rattle.cam_objects.specs.declared.item.Item.TheVariants.{One, Repeat}
 use Rattle.cam_objects.specs.Leaves.{Leaf, item_leaves, meaning_in, object_leaves, origin}
-use Rattle.cam_objects.specs.Soundness.{AreOnBoard, IsSoundItem, points_of, points_of_shape, segs_of, is_on_board}
+use Rattle.cam_objects.specs.Soundness.{AreOnBoard, IsSoundItem, points_of_shape, is_on_board}
 use Rattle.cam_objects.specs.Weights.{block_count, item_count, object_count, object_depth, weight_in}
-use Rattle.cam_objects.proofs.SoundItems.{HasRadius, IsDrawable, IsFormed, IsKnown, sound}
+use Rattle.cam_objects.proofs.SoundItems.{IsDrawable, IsFormed, IsKnown, sound}
 use Rattle.cam_gerber.specs.State.{Past}
 use Rattle.cam_gerber.specs.Homes.{Home, InBlock, InRepeat, InLayer, is_same_home, Opened}
 use Rattle.cam_gerber.specs.Making.{home_objects}
@@ -25,8 +25,7 @@ use Rattle.cam_gerber.proofs.SoundParts.{Pairs, IsMade, IsSoundOpen, IsSoundRepe
 -- ---- tests
 
 pub told : (b : Bool) → not b ≡ false → b ≡ true
-told true h = refl
-told false h = absurd cc
+told b h = grind arith
 
 pub on_board : (p : Point) → is_on_board p ≡ true → IsOnBoard p
 on_board p h = let on = and_parts _ _ h in record { x = ltb-true _ _ on.0; y = ltb-true _ _ on.1 }
@@ -46,15 +45,7 @@ leaves_on_board (l ∷ leaves) h =
 -- ---- homes
 
 pub same_home : (h k : Home) → is_same_home h k ≡ true → h ≡ k
-same_home (InBlock m) (InBlock n) e = ap InBlock (eqb-true m n e)
-same_home (InBlock m) (InRepeat n) e = absurd cc
-same_home (InBlock m) InLayer e = absurd cc
-same_home (InRepeat m) (InBlock n) e = absurd cc
-same_home (InRepeat m) (InRepeat n) e = ap InRepeat (eqb-true m n e)
-same_home (InRepeat m) InLayer e = absurd cc
-same_home InLayer (InBlock n) e = absurd cc
-same_home InLayer (InRepeat n) e = absurd cc
-same_home InLayer InLayer e = refl
+same_home h k e = grind (arith, eqb-true)
 
 -- in a repeat the leaves are judged when it is closed
 abbrev pub IsBoundAt : Home → Past → Object → Type 0
@@ -216,35 +207,14 @@ IsClosable es o objects = AreOnBoard (item_leaves (meaning_in es) (Repeat o.colu
 repeat_item : (es : Pairs) (o : Opened) (x : Object) (xs : List Object) (leaves : ℕ) → IsOpening o
     → IsSoundRepeated es (x ∷ xs) leaves → IsClosable es o (x ∷ xs)
     → o.columns * o.rows * block_count (weight_in es) (x ∷ xs) ≤ 4000000 → IsSoundItem es (Repeat o.columns o.rows o.i o.j (x ∷ xs))
-repeat_item es o x xs leaves opening s board light =
-    sound es (Repeat o.columns o.rows o.i o.j (x ∷ xs)) (record {
-      repeated = (opening.copies, omega arith);
-      formed = All-weaker (IsMade es) IsFormed (λ o m. m.formed) (x ∷ xs) s.each;
-      known = All-weaker (IsMade es) (IsKnown es) (λ o m. m.known) (x ∷ xs) s.each;
-      drawable = All-weaker (IsMade es) (IsDrawable (meaning_in es)) (λ o m. m.drawable) (x ∷ xs) s.each;
-      radii = All-weaker (IsMade es) HasRadius (λ o m. m.radius) (x ∷ xs) s.each;
-      inside = record {
-        points = All-weaker (IsMade es) (λ o. All IsOnBoard (points_of o)) (λ o m. m.points) (x ∷ xs) s.each;
-        steps = (opening.steps_i, opening.steps_j);
-        leaves = board;
-      };
-      limits = record {
-        segs = All-weaker (IsMade es) (λ o. length (segs_of o) ≤ 1000000) (λ o m. m.segs) (x ∷ xs) s.each;
-        objects = s.few;
-        leaves = light;
-      };
-    })
+repeat_item es o x xs leaves opening s board light = grind (arith, sound, All-weaker, IsMade, IsFormed, IsKnown, IsDrawable)
 
 pub settled : (es : Pairs) (items : List Item) (all : ℕ) (o : Opened) (objects : List Object) (leaves : ℕ) → IsOpening o
     → IsSoundRepeated es objects leaves → IsSoundBuilt es items all
     → (is_left_out (repeat_by o objects) ≡ false
     → IsClosable es o objects × (length items < 1000000) × (all + o.columns * o.rows * leaves ≤ 4000000))
     → IsSoundBuilt es (items ++ repeat_by o objects) (all + o.columns * o.rows * leaves)
-settled es items all o [] leaves opening s b room =
-    subst (λ (p : List Item × ℕ). IsSoundBuilt es p.0 p.1) (λ i. (sym (append-nil items) i, zero_more i)) b
-  where
-    zero_more : all ≡ all + o.columns * o.rows * leaves
-    zero_more = sym (ap (λ n. all + o.columns * o.rows * n) s.count ∙ omega arith)
+settled es items all o [] leaves opening s b room = grind (arith, IsSoundBuilt, append-nil)
 settled es items all o (x ∷ xs) leaves opening s b room =
     let fits = room refl in
     let weighs : o.columns * o.rows * leaves ≡ o.columns * o.rows * block_count (weight_in es) (x ∷ xs) =

@@ -1,7 +1,6 @@
 -- File attributes that are found by their names.
 use Rattle.std.proofs.Common.{◌≡◌, ℕ, zero, suc, ◌+◌, ◌<◌, [], ◌∷◌, ◌++◌, ◌||◌, Bool, false, cond, leb, ltb, not, List, length}
-use Rattle.std.proofs.Common.{get_or, map, set}
-use Rattle.std.proofs.Common.{None, Some, nat_eq, refl, sym, ap, ap₂, ◌∙◌, arith}
+use Rattle.std.proofs.Common.{get_or, set, None, Some, nat_eq, refl, sym, ap, ap₂, ◌∙◌, arith}
 use Rattle.std.specs.Prelude.{Vec, position}
 use Rattle.std.specs.Cmp.Lexicographic.{pointwise}
 use Rattle.std.specs.List.{list_any, position_or_len}
@@ -43,8 +42,7 @@ module _ {A : Type 0} (name : List ℕ) where
       ap₂ (λ b n. cond (not b) (1 + n) 0) (same_test k x here) (first_at keys xs rest)
 
   pub same_place : (keys : List (Vec ℕ A)) (xs : List Attribute) → AreNamesOf xs keys → position is_key keys ≡ attribute_place name xs
-  same_place keys xs h =
-      ap₂ (λ n len. cond (ltb n len) (Some n) None) (first_at keys xs h) (same_length keys xs h)
+  same_place keys xs h = grind (arith, first_at, same_length)
 
   absent : (keys : List (Vec ℕ A)) (xs : List Attribute) → AreNamesOf xs keys → Lacks name xs → list_any is_key keys ≡ false
   absent [] xs h none = refl
@@ -76,12 +74,7 @@ kept_names a xs k e = same_names a xs k (position-Some (has_name a.name) xs k a 
 -- one more of another name
 pub grown : {A : Type 0} (xs ys : List Attribute) (keys more : List (Vec ℕ A)) (a : Attribute) (key : Vec ℕ A) → AreNamesOf xs keys
     → key.items ≡ a.name → ys ≡ xs ++ a ∷ [] → more ≡ keys ++ key ∷ [] → AreNamesOf ys more
-grown xs ys keys more a key h e listed keyed =
-    ap (map (λ k. k.items)) keyed
-    ∙ map-append (λ k. k.items) keys (key ∷ [])
-    ∙ ap₂ (λ (front : List (List ℕ)) (name : List ℕ). front ++ name ∷ []) h e
-    ∙ sym (map-append (λ (b : Attribute). b.name) xs (a ∷ []))
-    ∙ ap names_of (sym listed)
+grown xs ys keys more a key h e listed keyed = grind (arith, map-append)
 
 -- a list that has room for one more has 999 at most
 pub full_next : (n m : ℕ) → m ≡ n + 1 → leb 1000 n ≡ ltb 1000 m

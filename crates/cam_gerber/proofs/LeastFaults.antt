@@ -1,5 +1,5 @@
 -- The fault that is told is the least, and no fault is one of memory.
-use Rattle.std.proofs.Common.{◌≡◌, ℕ, ◌≤◌, List, [], ◌∷◌, length, map, true, false, cond, Option, Some, None, Ok, Err, refl, ap, subst}
+use Rattle.std.proofs.Common.{◌≡◌, ℕ, ◌≤◌, List, [], ◌∷◌, length, map, true, false, cond, Option, Ok, Err, refl, ap}
 use Rattle.std.proofs.Common.{arith, inl, inr}
 use Rattle.std.specs.Prelude.{MatchOption, nat_le}
 use Rattle.std.specs.List.{AllByRecursion}
@@ -13,7 +13,6 @@ use Rattle.cam_words.specs.Laws.{TellsFault}
 use Rattle.cam_words.specs.Reading.{WordAnswer, reading}
 use Rattle.cam_words.specs.declared.word.TextFault.{TextFault}
 use Rattle.cam_objects.specs.Contents.{Content}
-use Rattle.cam_commands.specs.Syntax.{command_of}
 use Rattle.cam_gerber.specs.State.{Past}
 use Rattle.cam_gerber.specs.Faults.{faults}
 use Rattle.cam_gerber.specs.Reading.{Means, is_end, layer_unless, places_from}
@@ -27,8 +26,7 @@ abbrev places_of : List ℕ → List Place
 places_of bytes = places_from (length bytes) [] (map told_of (reading 0 bytes))
 
 in_places : (bytes : List ℕ) (fault : ReadFault) → IsFault bytes fault → IsFileFault (places_of bytes) fault
-in_places bytes fault f =
-    subst (λ commands. IsFileFault (places_from (length bytes) [] commands) fault) (all_told (reading 0 bytes) f.commands f.are_told) f.is
+in_places bytes fault f = grind (arith, all_told, are_told)
 
 abbrev Tells : List ℕ → Option ReadFault → Type 0
 Tells bytes o = MatchOption o ((fault : ReadFault) → ¬ IsFileFault (places_of bytes) fault) (IsLeastFault (places_of bytes))
@@ -40,8 +38,7 @@ tells bytes = tells_least_fault (places_of bytes) (places_ascend bytes)
 
 told_is : (bytes : List ℕ) (fault : ReadFault) (o : Option ReadFault) (layer : Content) → Tells bytes o
     → Err fault ≡ layer_unless o layer → IsLeastFault (places_of bytes) fault
-told_is bytes fault None layer none e = absurd cc
-told_is bytes fault (Some other) layer is e = let same : other ≡ fault = cc in subst (IsLeastFault (places_of bytes)) same is
+told_is bytes fault o layer is e = grind arith
 
 least_fault : (bytes : List ℕ) (fault : ReadFault) → Means bytes (Err fault) → IsLeastFault (places_of bytes) fault
 unfolding reading_of
@@ -55,8 +52,7 @@ tells_least bytes f h =
 
 none_is : (bytes : List ℕ) (o : Option ReadFault) (layer content : Content) → Tells bytes o → Ok content ≡ layer_unless o layer
     → (fault : ReadFault) → ¬ IsFileFault (places_of bytes) fault
-none_is bytes None layer content none e = none
-none_is bytes (Some fault) layer content is e = absurd cc
+none_is bytes o layer content is e = grind arith
 
 pub faultless_files : GivesFaultlessFiles
 unfolding reading_of
@@ -71,19 +67,16 @@ IsLow (Ok word) = Unit {0}
 IsLow (Err fault) = nat_le (number_of fault.code) 29 ≡ true
 
 low_cut : (fault : TextFault) (text : List ℕ) → TellsFault fault.code text → IsLow (Err fault)
-low_cut fault text (inl bad) = ap (λ r. nat_le (number_of r) 29) bad.0
-low_cut fault text (inr unended) = ap (λ r. nat_le (number_of r) 29) unended.0
+low_cut fault text it = grind arith
 
 low_answer : (past : Past) (answer : WordAnswer) → IsLow answer → are_low (faults past (told_of answer).says) ≡ true
-low_answer past (Ok word) low = low_faults past (command_of word)
-low_answer past (Err fault) low = rw low refl
+low_answer past answer low = grind (arith, low_faults)
 
 low_places : (len : ℕ) (past : Past) (answers : List WordAnswer) (fault : ReadFault) → AllByRecursion IsLow answers
     → IsFileFault (places_from len past (map told_of answers)) fault → nat_le (number_of fault.code) 29 ≡ true
 low_places len past [] fault low (inl here) = low_number ((NoEnd, true) ∷ []) fault.code refl here.1
 low_places len past [] fault low (inr later) = absurd later
-low_places len past (answer ∷ answers) fault low (inl here) =
-    low_number (faults past (told_of answer).says) fault.code (low_answer past answer low.0) here.1
+low_places len past (answer ∷ answers) fault low (inl here) = grind (arith, low_number, low_answer)
 low_places len past (answer ∷ answers) fault low (inr later) =
     (elim (is_end (told_of answer).says)
     as (λ b. IsFileFault (cond b [] (places_from len ((told_of answer).says ∷ past) (map told_of answers))) fault

@@ -1,16 +1,15 @@
 -- What every command keeps to: the number that an opening of a block names is one of an entry's, a format has few decimals,
 -- and a text that is kept is that of one extended command.
-use Rattle.std.proofs.Common.{◌≡◌, ℕ, ◌-◌, ◌≤◌, List, [], ◌∷◌, length, take, Bool, true, false, cond, Option, Some, None, refl, sym}
-use Rattle.std.proofs.Common.{ap, ◌∙◌, arith}
+use Rattle.std.proofs.Common.{◌≡◌, ℕ, ◌-◌, ◌≤◌, List, length, take, Bool, true, false, cond, Option, Some, None, arith}
 use Rattle.std.proofs.lemmas.Bool.Decides.{nat_tests}
-use Rattle.std.specs.Prelude.{◌&&◌, not, IfSome, nat_lt, ◌==◌}
+use Rattle.std.specs.Prelude.{IfSome, nat_lt, ◌==◌}
 use Rattle.std.specs.List.{list_any}
 use Rattle.std.specs.Option.{option_and_then}
 use Rattle.cam_words.specs.Cutting.{FoundWord}
 use Rattle.cam_words.specs.Bytes.{is_star}
 use Rattle.cam_words.specs.Heads.{packed, behind_kept}
 use Rattle.cam_words.specs.declared.word.Kind.{Kind}
-use Rattle.cam_words.specs.declared.word.Kind.TheVariants.{Plain, Comment, Extended}
+use Rattle.cam_words.specs.declared.word.Kind.TheVariants.{Extended}
 use Rattle.cam_units.specs.declared.length.Unit.{Unit as FileUnit}
 use Rattle.cam_commands.specs.declared.parts.Format.{Format}
 use Rattle.cam_commands.specs.declared.parts.Style.{Style}
@@ -20,22 +19,18 @@ use Rattle.cam_commands.specs.declared.parts.Polarity.{Polarity}
 use Rattle.cam_commands.specs.declared.parts.OperationCode.{OperationCode}
 use Rattle.cam_commands.specs.declared.names.FreeText.{FreeText}
 use Rattle.cam_commands.specs.declared.names.Name.{Name}
-use Rattle.cam_commands.specs.declared.names.Name.TheVariants.{FormatSpecification, UnitMode, ApertureDefinition}
-use Rattle.cam_commands.specs.declared.names.Name.TheVariants.{ApertureMacro, ApertureBlock, StepAndRepeat}
-use Rattle.cam_commands.specs.declared.names.Name.TheVariants.{LoadPolarity, LoadMirroring, LoadRotation, LoadScaling}
-use Rattle.cam_commands.specs.declared.names.Name.TheVariants.{Free, Old}
+use Rattle.cam_commands.specs.declared.names.Name.TheVariants.{Free}
 use Rattle.cam_commands.specs.Commands.{Command, SetFormat, RefusedFormat, SetUnit, SetPolarity, SetMirror, SetRotation}
-use Rattle.cam_commands.specs.Commands.{KeepText, SetScale, CloseBlock, SetRepeat, CloseRepeat, NeutralOld, RefusedOld, SetMode}
+use Rattle.cam_commands.specs.Commands.{KeepText, SetScale, RefusedOld}
 use Rattle.cam_commands.specs.Commands.{SingleQuadrant, MultiQuadrant, BeginRegion, EndRegion, Nothing, End, Unknown}
 use Rattle.cam_numbers.specs.Numbers.{natural}
 use Rattle.cam_commands.specs.Fields.{field}
-use Rattle.cam_commands.specs.WordCommands.{OperationParts, by_run, by_code, by_mode, by_operation_code, operate, parts_said_by}
+use Rattle.cam_commands.specs.WordCommands.{OperationParts, by_run, by_code, by_mode, by_operation_code, parts_said_by}
 use Rattle.cam_commands.specs.WordCommands.{selection, operation_of, operation, prefixed_selection, lone_function}
 use Rattle.cam_commands.specs.WordCommands.{function, program_code, by_function, word_command}
-use Rattle.cam_commands.specs.ExtendedCommands.{name_of, format_by, format_of, format_by_head, format_of_axes}
-use Rattle.cam_commands.specs.ExtendedCommands.{is_format_digit, is_same_format, format_command, unit_command}
-use Rattle.cam_commands.specs.ExtendedCommands.{polarity_command, mirror_command, rotation_command, scale_command}
-use Rattle.cam_commands.specs.ExtendedCommands.{open_block, block_command, repeat_command, named_command, by_name, may_hold_star}
+use Rattle.cam_commands.specs.ExtendedCommands.{name_of, format_by, format_of, format_by_head, format_of_axes, is_format_digit}
+use Rattle.cam_commands.specs.ExtendedCommands.{format_command, unit_command, polarity_command, mirror_command, rotation_command}
+use Rattle.cam_commands.specs.ExtendedCommands.{scale_command, open_block, block_command, repeat_command, named_command, by_name}
 use Rattle.cam_commands.specs.ExtendedCommands.{extended_command}
 use Rattle.cam_commands.specs.Syntax.{command_by, command_of}
 use Rattle.cam_gerber.specs.Machinery.OpenNumbers.{OpensWithin}
@@ -61,17 +56,14 @@ module _ (Q : FreeText → List ℕ → Type 0) where
     keeps : Keeps Q command
 
   either : (b : Bool) (x y : Command) → IsWithin x → IsWithin y → IsWithin (cond b x y)
-  either true x y h k = h
-  either false x y h k = k
+  either b x y h k = grind arith
 
   coded : (o : Option ℕ) (meaning : ℕ → Command) → ((n : ℕ) → IsWithin (meaning n)) → IsWithin (by_code o meaning)
-  coded None meaning h = record { opens = tt; short = tt; keeps = tt }
-  coded (Some n) meaning h = h n
+  coded o meaning h = grind arith
 
   running : (o : Option (List ℕ)) (meaning : List ℕ → Command) (otherwise : Command) → ((run : List ℕ) → IsWithin (meaning run))
       → IsWithin otherwise → IsWithin (by_run o meaning otherwise)
-  running None meaning otherwise h k = k
-  running (Some run) meaning otherwise h k = h run
+  running o meaning otherwise h k = grind arith
 
   unknown : IsWithin Unknown
   unknown = record { opens = tt; short = tt; keeps = tt }
@@ -81,12 +73,10 @@ module _ (Q : FreeText → List ℕ → Type 0) where
   selects code = either (nat_lt code 10) Unknown _ unknown (record { opens = tt; short = tt; keeps = tt })
 
   by_operation : (p : OperationParts) (code : ℕ) (named : Option OperationCode) → IsWithin (by_operation_code p code named)
-  by_operation p code (Some named) = record { opens = tt; short = tt; keeps = tt }
-  by_operation p code None = either _ Unknown (selection code) unknown (selects code)
+  by_operation p code named = grind (arith, either, unknown, selects)
 
   said : (p : OperationParts) (d : Option (List ℕ)) → IsWithin (parts_said_by p d)
-  said p None = either _ (operate p None) Unknown (record { opens = tt; short = tt; keeps = tt }) unknown
-  said p (Some run) = coded (natural run) _ (λ code. by_operation p code _)
+  said p d = grind (arith, either, unknown, coded, by_operation)
 
   operates : (p : OperationParts) → IsWithin (operation_of p)
   unfolding operation_of
@@ -129,15 +119,11 @@ module _ (Q : FreeText → List ℕ → Type 0) where
   lone code = search (either, begins, ends, sets_unit, single, multi, nothing, refused_old, unknown) depth 12
 
   moded : (mode : Option Mode) (rest : List ℕ) (otherwise : Command) → IsWithin otherwise → IsWithin (by_mode mode rest otherwise)
-  moded None rest otherwise h = h
-  moded (Some mode) rest otherwise h =
-      either _ (SetMode mode) (operation (Some mode) rest) (record { opens = tt; short = tt; keeps = tt })
-      (operation_within (Some mode) rest)
+  moded mode rest otherwise h = grind (arith, either, operation_within)
 
   functions : (rest : List ℕ) (code : ℕ) → IsWithin (function rest code)
   unfolding function
-  functions rest code =
-      moded _ rest _ (either _ (prefixed_selection rest) _ (prefixed rest) (either _ (lone_function code) Unknown (lone code) unknown))
+  functions rest code = grind (arith, moded, either, prefixed, lone, unknown)
 
   programs : (code : ℕ) → IsWithin (program_code code)
   unfolding program_code
@@ -160,15 +146,11 @@ module _ (Q : FreeText → List ℕ → Type 0) where
   -- ---- extended commands
 
   opened : (o : Option (List ℕ)) → IsWithin (open_block o)
-  opened None = unknown
-  opened (Some run) = record { opens = numbers_within (natural run); short = tt; keeps = tt }
+  opened o = grind (arith, unknown, numbers_within)
 
   blocks : (text : List ℕ) → IsWithin (block_command text)
   unfolding block_command
-  blocks text =
-      let d = field 68 text in
-      either (length text == 0) CloseBlock (cond (length d.1 == 0) (open_block d.0) Unknown) (record { opens = tt; short = tt; keeps = tt })
-      (either (length d.1 == 0) (open_block d.0) Unknown (opened d.0) unknown)
+  blocks text = grind (arith, either, opened, unknown)
 
   sets_format : (format : Format) → format.decimals ≤ 6 → IsWithin (SetFormat format)
   sets_format format few = record { opens = tt; short = few; keeps = tt }
@@ -204,48 +186,27 @@ module _ (Q : FreeText → List ℕ → Type 0) where
 
   repeats : (text : List ℕ) → IsWithin (repeat_command text)
   unfolding repeat_command
-  repeats text =
-      either _ CloseRepeat _ (record { opens = tt; short = tt; keeps = tt })
-      (either _ (SetRepeat _) Unknown (record { opens = tt; short = tt; keeps = tt }) unknown)
+  repeats text = grind (arith, either, unknown)
 
   digit_small : (d : ℕ) → is_format_digit d ≡ true → d - 48 ≤ 6
   digit_small d h = grind (arith, nat_tests)
 
   few_decimals : (axes : List ℕ) → IfSome {T = Format} (format_of axes) (λ (f : Format). f.decimals ≤ 6)
   unfolding format_of
-  few_decimals [] = tt
-  few_decimals (i ∷ []) = tt
-  few_decimals (i ∷ d ∷ []) = go (is_format_digit i) (is_format_digit d) refl
-    where
-      go : (a b : Bool) → is_format_digit d ≡ b
-          → IfSome {T = Format} (cond (a && b) (Some (record { integers = i - 48; decimals = d - 48 })) None)
-          (λ (f : Format). f.decimals ≤ 6)
-      go true true e = digit_small d e
-      go true false e = tt
-      go false b e = tt
-  few_decimals (i ∷ d ∷ x ∷ axes) = tt
+  few_decimals axes = grind (arith, digit_small)
 
   few_of : (o : Option (List ℕ)) → IfSome (option_and_then format_of o) (λ (f : Format). f.decimals ≤ 6)
-  few_of None = tt
-  few_of (Some axes) = few_decimals axes
+  few_of o = grind (arith, few_decimals)
 
   formats_by : (x y : Option Format) → IfSome x (λ (f : Format). f.decimals ≤ 6) → IsWithin (format_by x y)
-  formats_by None y few = refused_format
-  formats_by (Some f) None few = refused_format
-  formats_by (Some f) (Some g) few = either (is_same_format f g) (SetFormat f) RefusedFormat (sets_format f few) refused_format
+  formats_by x y few = grind (arith, refused_format, either, sets_format)
 
   formats_of : (axes : List ℕ) → IsWithin (format_of_axes axes)
   unfolding format_of_axes
-  formats_of axes =
-      let x = field 88 axes in
-      let y = field 89 x.1 in
-      let f = option_and_then format_of x.0 in
-      let g = option_and_then format_of y.0 in
-      either (length y.1 == 0) (format_by f g) RefusedFormat (formats_by f g (few_of x.0)) refused_format
+  formats_of axes = grind (arith, either, formats_by, few_of, refused_format)
 
   formats_head : (o : Option (List ℕ)) → IsWithin (format_by_head o)
-  formats_head None = refused_format
-  formats_head (Some axes) = formats_of axes
+  formats_head o = grind (arith, refused_format, formats_of)
 
   formats : (text : List ℕ) → IsWithin (format_command text)
   unfolding format_command
@@ -253,40 +214,19 @@ module _ (Q : FreeText → List ℕ → Type 0) where
 
   named : (name : Name) (text : List ℕ) → ((free : FreeText) → name ≡ Free free → Q free text) → IsWithin (named_command name text)
   unfolding named_command
-  named FormatSpecification text h = formats (packed text)
-  named UnitMode text h = units (packed text)
-  named ApertureDefinition text h = record { opens = tt; short = tt; keeps = tt }
-  named ApertureMacro text h = record { opens = tt; short = tt; keeps = tt }
-  named ApertureBlock text h = blocks (packed text)
-  named StepAndRepeat text h = repeats (packed text)
-  named LoadPolarity text h = polarities (packed text)
-  named LoadMirroring text h = mirrors (packed text)
-  named LoadRotation text h = rotations (packed text)
-  named LoadScaling text h = scales (packed text)
-  named (Free name) text h = record { opens = tt; short = tt; keeps = h name refl }
-  named (Old form) text h =
-      either _ NeutralOld (RefusedOld _) (record { opens = tt; short = tt; keeps = tt }) (record { opens = tt; short = tt; keeps = tt })
+  named name text h = grind (arith, formats, units, blocks, repeats, polarities, mirrors, rotations, scales)
 
   by_names : (o : Option Name) (text : List ℕ)
       → ((free : FreeText) → o ≡ Some (Free free) → list_any is_star text ≡ false → Q free text) → IsWithin (by_name o text)
-  by_names None text h = unknown
-  by_names (Some name) text h = by (list_any is_star text) refl (may_hold_star name) refl where
-    by : (b : Bool) → list_any is_star text ≡ b → (c : Bool) → may_hold_star name ≡ c
-        → IsWithin (cond (b && not c) Unknown (named_command name text))
-    by false none c may = named name text (λ free e. h free (ap Some e) none)
-    by true some false may = unknown
-    by true some true may = named name text (λ free e. absurd (let wrong : false ≡ true = ap may_hold_star (sym e) ∙ may in cc))
+  by_names o text h = grind (arith, unknown, named)
 
   extends : (text : List ℕ) → ((free : FreeText) → IsNamed free text → Q free (behind_kept 2 text)) → IsWithin (extended_command text)
   unfolding extended_command
-  extends text h =
-      by_names (name_of (take 2 (packed text))) (behind_kept 2 text) (λ free e none. h free (record { named = e; starless = none }))
+  extends text h = grind (arith, by_names, named)
 
   by_kind : (kind : Kind) (text : List ℕ) → (kind ≡ Extended → (free : FreeText) → IsNamed free text → Q free (behind_kept 2 text))
       → IsWithin (command_by kind text)
-  by_kind Plain text h = words (packed text)
-  by_kind Comment text h = nothing
-  by_kind Extended text h = extends text (h refl)
+  by_kind kind text h = grind (arith, words, nothing, extends)
 
 pub opens_within : (word : FoundWord) → OpensWithin (command_of word)
 unfolding command_of

@@ -1,6 +1,7 @@
 -- One more operation: what the values in force and the contour become.
+use Rattle.std.proofs.Common.{arith}
 use Rattle.std.proofs.Common.{◌≡◌, ℕ, List, [], ◌∷◌, ◌++◌, Bool, true, false, Option, Some, None, refl, sym, ap, ◌∙◌, subst}
-use Rattle.std.specs.Prelude.{unwrap_or, is_none, not}
+use Rattle.std.specs.Prelude.{unwrap_or}
 use Rattle.std.specs.Option.{option_or}
 use Rattle.cam_refusals.specs.declared.refusal.Refusal.{Refusal}
 use Rattle.cam_refusals.specs.declared.refusal.Refusal.TheVariants.{TooMuch}
@@ -14,7 +15,7 @@ use Rattle.cam_objects.specs.Weights.{Weight as Weighing, object_count, object_d
 use Rattle.cam_objects.specs.Leaves.{meaning_in}
 use Rattle.cam_objects.specs.Turning.{after}
 use Rattle.cam_commands.specs.declared.parts.Mode.{Mode}
-use Rattle.cam_commands.specs.declared.parts.Mode.TheVariants.{Linear, Clockwise, Counterclockwise}
+use Rattle.cam_commands.specs.declared.parts.Mode.TheVariants.{Linear}
 use Rattle.cam_commands.specs.declared.parts.Operation.{Operation}
 use Rattle.cam_commands.specs.declared.parts.OperationCode.TheVariants.{Plot}
 use Rattle.cam_commands.specs.Commands.{Operate}
@@ -24,12 +25,11 @@ use Rattle.cam_gerber.specs.declared.running.Running.{Running}
 use Rattle.cam_gerber.specs.Laws.{IsFaultless}
 use Rattle.cam_shapes.specs.Contour.{end_of}
 use Rattle.cam_gerber.specs.Statements.{Says}
-use Rattle.cam_gerber.specs.State.{Past, mode_in, mode_told, newest, point_in, arc_centre, code_of, has_arcs, in_region}
-use Rattle.cam_gerber.specs.State.{aperture_in, turn_in, dark_in}
+use Rattle.cam_gerber.specs.State.{Past, mode_in, mode_told, newest, point_in, arc_centre, code_of, in_region, turn_in, dark_in}
 use Rattle.cam_gerber.specs.Homes.{home}
 use Rattle.cam_gerber.specs.Making.{segment, stroke, stroke_of, number_in, made}
 use Rattle.cam_gerber.specs.Layers.{entries_in}
-use Rattle.cam_gerber.specs.Faults.{can_draw, operated_faults, plot_faults, path_faults, is_full, is_unfit, is_arc}
+use Rattle.cam_gerber.specs.Faults.{can_draw, operated_faults, plot_faults, is_full, is_arc}
 use Rattle.cam_gerber.specs.Machinery.Tracking.{Tracks, TracksModal, TracksRegion, Keeps, IsOperated, mode_by}
 use Rattle.cam_gerber.specs.Machinery.Tracking.{moved_point, centre_by, path_faults_by, stroke_along}
 use Rattle.cam_objects.specs.declared.tip.Tip.{Tip}
@@ -49,8 +49,7 @@ passed ((told, false) ∷ checks) rest h = passed checks rest h
 -- ---- values in force
 
 either : (a b : Option Mode) (m d : Mode) → m ≡ unwrap_or b d → unwrap_or a m ≡ unwrap_or (option_or a b) d
-either None b m d h = h
-either (Some mode) b m d h = refl
+either a b m d h = grind arith
 
 pub mode_same : (past : Past) (m : Modal) (operation : Operation) → TracksModal past m
     → mode_by m operation ≡ mode_in (Says (Operate operation) ∷ past)
@@ -65,31 +64,12 @@ centre_same past m operation t = rw (t.format, t.unit, t.point) refl
 
 pub plot_same : (past : Past) (m : Modal) (operation : Operation) → TracksModal past m
     → path_faults_by m operation ≡ plot_faults past operation
-plot_same past m operation t =
-    let now = Says (Operate operation) ∷ past in
-    ap (λ mode. path_faults (is_arc mode) m.arcs m.point (moved_point m operation) (centre_by m operation)) (mode_same past m operation t)
-    ∙ ap (λ arcs. path_faults (is_arc (mode_in now)) arcs m.point (moved_point m operation) (centre_by m operation)) t.arcs
-    ∙ ap (λ from. path_faults (is_arc (mode_in now)) (has_arcs past) from (moved_point m operation) (centre_by m operation)) t.point
-    ∙ ap (λ to. path_faults (is_arc (mode_in now)) (has_arcs past) (point_in past) to (centre_by m operation))
-    (point_same past m operation t)
-    ∙ ap (λ centre. path_faults (is_arc (mode_in now)) (has_arcs past) (point_in past) (point_in now) centre)
-    (centre_same past m operation t)
+plot_same past m operation t = grind (arith, point_same, centre_same)
 
 pub operated_tracks : (past : Past) (m n : Modal) (operation : Operation) (to : Point) → TracksModal past m
     → IsOperated m operation to n → to ≡ moved_point m operation
     → TracksModal (Says (Operate operation) ∷ past) n
-operated_tracks past m n operation to t is e = record {
-  format = is.format ∙ t.format;
-  unit = is.unit ∙ t.unit;
-  dark = is.dark ∙ t.dark;
-  mirror = is.mirror ∙ t.mirror;
-  rotation = is.rotation ∙ t.rotation;
-  aperture = is.aperture ∙ t.aperture;
-  mode = is.mode ∙ mode_same past m operation t;
-  arcs = is.arcs ∙ t.arcs;
-  code = is.code;
-  point = is.point ∙ e ∙ point_same past m operation t;
-}
+operated_tracks past m n operation to t is e = grind (arith, point_same)
 
 -- ---- contours
 
@@ -102,31 +82,15 @@ contour_stays past r operation t h = record { inside = t.inside; start = rw h t.
 
 along : (m : Modal) (n : ℕ) (mode : Mode) (to centre : Point)
     → stroke_along m n (segment mode to centre) ≡ stroke mode n m.point to centre (after m.mirror m.rotation) m.dark
-along m n Linear to centre = refl
-along m n Clockwise to centre = refl
-along m n Counterclockwise to centre = refl
+along m n mode to centre = grind arith
 
 pub stroke_same : (past : Past) (m : Modal) (n : ℕ) (operation : Operation) → TracksModal past m → m.aperture ≡ Some n
     → stroke_along m n (segment (mode_by m operation) (moved_point m operation) (centre_by m operation)) ≡ stroke_of past operation
-stroke_same past m n operation t a =
-    along m n (mode_by m operation) (moved_point m operation) (centre_by m operation)
-    ∙ rw (
-      mode_same past m operation t,
-      point_same past m operation t,
-      centre_same past m operation t,
-      sym t.aperture
-          ∙ a,
-      t.point,
-      t.mirror,
-      t.rotation,
-      t.dark,
-    ) refl
+stroke_same past m n operation t a = grind (arith, along, point_same, centre_same)
 
 pub stroke_count : (weigh : ℕ → Weighing) (mode : Mode) (n : ℕ) (from to centre : Point) (turn : Turn) (dark : Bool)
     → (1 ≡ object_count weigh (stroke mode n from to centre turn dark)) × (0 ≡ object_depth weigh (stroke mode n from to centre turn dark))
-stroke_count weigh Linear n from to centre turn dark = (refl, refl)
-stroke_count weigh Clockwise n from to centre turn dark = (refl, refl)
-stroke_count weigh Counterclockwise n from to centre turn dark = (refl, refl)
+stroke_count weigh mode n from to centre turn dark = grind arith
 
 -- what the test of an aperture tells
 pub draws_along : (arc : Bool) (mode : Mode) (tip : Option Tip) (result : Bool) → result ≡ true → result ≡ can_draw arc tip
@@ -139,24 +103,14 @@ pub stroke_checks : (past : Past) (m : Modal) (entries : List (ℕ × Entry)) (n
     → true ≡ can_draw (is_arc (mode_by m operation)) (meaning_in entries n).tip
     → first_holding (operated_faults Plot false past operation)
     ≡ first_holding (path_faults_by m operation ++ (TooMuch, is_full (home past) past (stroke_of past operation)) ∷ [])
-stroke_checks past m entries n operation t e a solid =
-    let some : aperture_in past ≡ Some n = sym t.aperture ∙ a in
-    let arc = is_arc (mode_in (Says (Operate operation) ∷ past)) in
-    let fit : is_unfit past arc (Some n) ≡ false =
-    ap not (sym (solid ∙ ap (λ mode. can_draw (is_arc mode) (meaning_in entries n).tip) (mode_same past m operation t)
-    ∙ ap (λ es. can_draw arc (meaning_in es n).tip) e)) in
-    rw (ap is_none some, ap (is_unfit past arc) some ∙ fit)
-    (ap (λ checks. first_holding (checks ++ (TooMuch, is_full (home past) past (stroke_of past operation)) ∷ []))
-    (sym (plot_same past m operation t)))
+stroke_checks past m entries n operation t e a solid = grind (arith, plot_same)
 
 pub stroke_made : (past : Past) (operation : Operation) → in_region past ≡ false → code_of operation ≡ Plot
     → made past (Says (Operate operation)) ≡ stroke_of past operation ∷ []
 stroke_made past operation h e = rw (e, h) refl
 
 pub end_same : (mode : Mode) (to centre : Point) → end_of (segment mode to centre) ≡ to
-end_same Linear to centre = refl
-end_same Clockwise to centre = refl
-end_same Counterclockwise to centre = refl
+end_same mode to centre = grind arith
 
 -- a stroke joins its home
 pub stroke_tracks : (past : Past) (operation : Operation) (old kept : Running) (m : Modal) (n : ℕ) (seg : Seg) → IsFaultless past

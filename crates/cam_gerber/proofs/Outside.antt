@@ -1,7 +1,7 @@
 -- The tests of the board say what the demands say, and an item that is well made is refused for the board alone.
-use Rattle.std.proofs.Common.{◌≡◌, ℕ, List, [], ◌∷◌, Bool, true, false, Result, refl, sym, ap, ◌∙◌}
+use Rattle.std.proofs.Common.{arith, ◌≡◌, ℕ, List, [], ◌∷◌, Bool, true, false, Result, refl, sym, ap, ◌∙◌}
 use Rattle.std.specs.Prelude.{not, unsigned_abs}
-use Rattle.std.specs.List.{All, list_all}
+use Rattle.std.specs.List.{All}
 use Rattle.std.proofs.lemmas.Bool.{lt-ltb}
 use Rattle.std.proofs.lemmas.List.Elements.{All-weaker}
 use Rattle.std.proofs.lemmas.List.Sums.{list_all-from_AllPass}
@@ -12,7 +12,7 @@ use Rattle.cam_objects.specs.declared.item.Item.{Item}
 use Rattle.cam_objects.specs.declared.item_fault.ItemFault.{ItemFault}
 use Rattle.cam_objects.specs.declared.item_fault.ItemFault.TheVariants.{OutOfBoard, TooMuch}
 use Rattle.cam_objects.specs.Leaves.{Leaf, item_leaves, meaning_in}
-use Rattle.cam_objects.specs.Soundness.{AreOnBoard, IsInside, is_inside, is_within_limits, item_checks, objects_of, points_of, points_of_shape, is_on_board}
+use Rattle.cam_objects.specs.Soundness.{AreOnBoard, IsInside, is_inside, is_within_limits, item_checks, objects_of, points_of, is_on_board}
 use Rattle.cam_objects.proofs.SoundItems.{HasRadius, IsDrawable, IsFormed, IsKnown, drawable, formed, known, radii, repeated}
 use Rattle.cam_objects.proofs.TestLaws.{inside_law}
 use Rattle.cam_refusals.specs.Checks.{answer_of, first_holding}
@@ -26,12 +26,7 @@ pub passes_board : (p : Point) → IsOnBoard p → is_on_board p ≡ true
 passes_board p h = rw (lt-ltb (unsigned_abs p.x) 1000000000 h.x, lt-ltb (unsigned_abs p.y) 1000000000 h.y) refl
 
 pub leaves_pass : (leaves : List Leaf) → AreOnBoard leaves → are_leaves_on_board leaves ≡ true
-leaves_pass leaves h =
-    list_all-from_AllPass _ leaves
-    (All-weaker (λ (l : Leaf). All IsOnBoard (points_of_shape l.shape))
-    (λ (l : Leaf). list_all is_on_board (points_of_shape l.shape) ≡ true)
-    (λ l points. list_all-from_AllPass is_on_board (points_of_shape l.shape)
-    (All-weaker IsOnBoard (λ p. is_on_board p ≡ true) passes_board (points_of_shape l.shape) points)) leaves h)
+leaves_pass leaves h = grind (arith, list_all-from_AllPass, All-weaker, passes_board)
 
 module _ (es : List (ℕ × Entry)) (item : Item) (well : IsWellMadeItem es item) where
   inside : are_leaves_on_board (item_leaves (meaning_in es) item) ≡ true → IsInside es item
@@ -51,9 +46,7 @@ module _ (es : List (ℕ × Entry)) (item : Item) (well : IsWellMadeItem es item
   -- what is told of an item that passes all before that test
   told_by : (within few : Bool)
       → is_of_board (answer_of (first_holding ((OutOfBoard, not within) ∷ (TooMuch, not few) ∷ []))) ≡ not within
-  told_by true true = refl
-  told_by true false = refl
-  told_by false few = refl
+  told_by within few = grind arith
 
   -- a check tells the board exactly where a leaf lies outside
   told : is_of_board (answer_of (first_holding (item_checks es item))) ≡ not (are_leaves_on_board (item_leaves (meaning_in es) item))

@@ -1,7 +1,6 @@
 -- What pasts have made: homes do not collide, and a home that was left never comes back.
-use Rattle.std.proofs.Common.{◌≡◌, ◌≢◌, ℕ, zero, suc, ◌+◌, ◌<◌, List, [], ◌∷◌, ◌++◌, length, drop, get_or, Bool, true}
-use Rattle.std.proofs.Common.{false, cond, eqb, eq-eqb, Option, Some, None, refl, sym, ap, ap₂, ◌∙◌, arith, ◌⊎◌, inl}
-use Rattle.std.proofs.Common.{inr}
+use Rattle.std.proofs.Common.{◌≡◌, ◌≢◌, ℕ, zero, suc, ◌+◌, ◌<◌, List, [], ◌∷◌, ◌++◌, length, drop, get_or, Bool, true, false}
+use Rattle.std.proofs.Common.{cond, eqb, eq-eqb, Option, Some, None, refl, sym, ap, ◌∙◌, arith, ◌⊎◌, inl, inr}
 use Rattle.std.specs.Prelude.{map, ◌||◌, ◌&&◌, not, ◌==◌, unwrap_or, is_some, nat_eq}
 use Rattle.std.specs.List.{list_any, AllByRecursion, AllPairs}
 use Rattle.std.specs.Map.{lookup}
@@ -11,14 +10,13 @@ use Rattle.cam_objects.specs.declared.entry.Entry.{Entry}
 use Rattle.cam_objects.specs.Weights.{block_count, weight_in}
 use Rattle.cam_commands.specs.Commands.{OpenBlock, CloseBlock, SetRepeat, CloseRepeat, End, EndRegion, Operate, DefineAperture}
 use Rattle.cam_gerber.specs.Statements.{Statement, Says}
-use Rattle.cam_gerber.specs.State.{Past}
+use Rattle.cam_gerber.specs.State.{Past, in_region, unit_in}
 use Rattle.cam_gerber.specs.Homes.{open_blocks, Opened, repeat_opened, has_copies, open_repeat, Home, InBlock, InLayer}
 use Rattle.cam_gerber.specs.Homes.{home_by, home, is_same_home}
 use Rattle.cam_gerber.specs.Making.{made, made_at, home_objects, IsMaker}
 use Rattle.cam_gerber.specs.Layers.{entries_in, items_in, home_leaves, leaves_in, macros_in, item_made, closed_block}
 use Rattle.cam_gerber.specs.Layers.{defined_by, numbered_aperture}
 use Rattle.cam_gerber.specs.Faults.{command_faults, is_defined, is_taken, is_taken_again, is_left_out}
-use Rattle.cam_gerber.specs.State.{in_region, unit_in}
 use Rattle.cam_units.specs.Nearest.{unit_or_mm}
 use Rattle.cam_apertures.specs.Definition.{Definition, template_form, numbered}
 use Rattle.cam_numbers.specs.Numbers.{defined_number}
@@ -44,27 +42,7 @@ pub record Joins (past : Past) (says : Statement) : Type 0 where
   pub macros : macros_in (says ∷ past) ≡ macros_in past
 
 pub joins : (past : Past) (says : Statement) → IsMaker says → Joins past says
-joins past (Says (Operate operation)) h = record {
-  objects = λ h. refl;
-  leaves = λ h. refl;
-  items = refl;
-  all_leaves = refl;
-  blocks = refl;
-  repeat = refl;
-  entries = refl;
-  macros = refl;
-}
-joins past (Says EndRegion) h = record {
-  objects = λ h. refl;
-  leaves = λ h. refl;
-  items = refl;
-  all_leaves = refl;
-  blocks = refl;
-  repeat = refl;
-  entries = refl;
-  macros = refl;
-}
-joins past _ h = absurd h
+joins past says h = grind arith
 
 -- what is made at another home
 pub elsewhere : (h : Home) (past : Past) (says : Statement) → is_same_home (home past) h ≡ false → made_at h past says ≡ []
@@ -109,13 +87,11 @@ still_free es m e (n ∷ numbers) h free =
     (ap is_some (lookup_append es n m e parts.0) ∙ free.0, still_free es m e numbers parts.1 free.1)
 
 pub none_of : {A : Type 0} (o : Option A) → is_some o ≡ false → o ≡ None
-none_of None h = refl
-none_of (Some x) h = absurd cc
+none_of o h = grind arith
 
 closed : (past : Past) (numbers : List ℕ) → AreApart numbers → AreFree (entries_in past) numbers
     → AreApart (drop 1 numbers) × AreFree (entries_in past ++ closed_block past numbers) (drop 1 numbers)
-closed past [] h free = (tt, tt)
-closed past (n ∷ outer) h free = (h.1, still_free (entries_in past) n _ outer h.0 free.1)
+closed past numbers h free = grind (arith, still_free)
 
 unchanged : (es : List (ℕ × Entry)) (numbers : List ℕ) → AreFree es numbers → AreFree (es ++ []) numbers
 unchanged es numbers free = rw append-nil free
@@ -123,10 +99,7 @@ unchanged es numbers free = rw append-nil free
 numbering : (past : Past) (n : Option ℕ) (aperture : Option Aperture) → is_taken_again past n ≡ false
     → AreFree (entries_in past) (open_blocks past)
     → AreFree (entries_in past ++ numbered_aperture n aperture) (open_blocks past)
-numbering past None aperture h free = unchanged (entries_in past) (open_blocks past) free
-numbering past (Some n) None h free = unchanged (entries_in past) (open_blocks past) free
-numbering past (Some n) (Some a) h free =
-    still_free (entries_in past) n _ (open_blocks past) (or_parts (is_defined past n) (has n (open_blocks past)) h).1 free
+numbering past n aperture h free = grind (arith, unchanged, still_free, or_parts)
 
 defining : (past : Past) (d : Option Definition) (macros : List Macro) (unit : FileUnit) → is_taken_again past (numbered d) ≡ false
     → AreFree (entries_in past) (open_blocks past)
@@ -135,19 +108,15 @@ defining past None macros unit h free = unchanged (entries_in past) (open_blocks
 defining past (Some d) macros unit h free = numbering past (defined_number d.number) _ h free
 
 outside : (numbers : List ℕ) (repeat : Option Opened) → (numbers ≡ []) ⊎ (repeat ≡ None) → (drop 1 numbers ≡ []) ⊎ (repeat ≡ None)
-outside numbers repeat (inl none) = inl (ap (drop 1) none)
-outside numbers repeat (inr none) = inr none
+outside numbers repeat it = grind arith
 
 repeating : (many empty : Bool) (numbers : List ℕ) (o : Opened) → (many && not (is_left_out numbers)) ≡ false
     → (numbers ≡ []) ⊎ (cond many (Some o) None ≡ None)
-repeating true empty [] o h = inl refl
-repeating true empty (n ∷ outer) o h = absurd cc
-repeating false empty numbers o h = inr refl
+repeating many empty numbers o h = grind arith
 
 pub stay_apart : (past : Past) → IsFaultless past → StayApart past
 stay_apart [] h = record { numbers = tt; entries = tt; repeat = inl refl }
-stay_apart (Says (OpenBlock None) ∷ older) h =
-    absurd (let met : true ≡ false = (pass_least (command_faults older (OpenBlock None)) h.0).0 in cc)
+stay_apart (Says (OpenBlock None) ∷ older) h = grind (arith, pass_least)
 stay_apart (Says (OpenBlock (Some n)) ∷ older) h =
     let met = pass_least (command_faults older (OpenBlock (Some n))) h.0 in
     let before = stay_apart older h.1 in
@@ -182,8 +151,7 @@ stay_apart (Says (SetRepeat repeat) ∷ older) h =
     }
 stay_apart (Says CloseRepeat ∷ older) h = let before = stay_apart older h.1 in
     record { numbers = before.numbers; entries = before.entries; repeat = inr refl }
-stay_apart (Says End ∷ older) h = let before = stay_apart older h.1 in
-    record { numbers = before.numbers; entries = before.entries; repeat = inr refl }
+stay_apart (Says End ∷ older) h = grind arith
 stay_apart (_ ∷ older) h = let before = stay_apart older h.1 in
     record { numbers = before.numbers; entries = before.entries; repeat = before.repeat }
 
@@ -206,9 +174,7 @@ others_stay past says n (m ∷ outer) j h e =
 
 not_home : (n : ℕ) (blocks : List ℕ) (repeat : Option Opened) → has n blocks ≡ false
     → is_same_home (home_by blocks repeat) (InBlock n) ≡ false
-not_home n [] None h = refl
-not_home n [] (Some repeat) h = refl
-not_home n (m ∷ outer) repeat h = (or_parts (eqb m n) (has n outer) h).0
+not_home n blocks repeat h = grind (arith, or_parts)
 
 -- nothing was made at its home
 pub record IsUnused (n : ℕ) (past : Past) : Type 0 where
@@ -217,19 +183,11 @@ pub record IsUnused (n : ℕ) (past : Past) : Type 0 where
 
 still_unused : (n : ℕ) (past : Past) (says : Statement) → IsMaker says → has n (open_blocks past) ≡ false → IsUnused n past
     → IsUnused n (says ∷ past)
-still_unused n past says maker h u =
-    let j = joins past says maker in
-    let away = elsewhere (InBlock n) past says (not_home n (open_blocks past) (open_repeat past) h) in
-    record {
-      objects = j.objects (InBlock n) ∙ ap₂ (λ a b. a ++ b) u.objects away;
-      leaves = omega (arith, j.leaves (InBlock n), u.leaves, ap (block_count (weight_in (entries_in past))) away);
-    }
+still_unused n past says maker h u = grind (arith, joins, elsewhere, not_home)
 
 lookup_before : (es : List (ℕ × Entry)) (n m : ℕ) (e : Entry) → is_some (lookup (nat_eq n) (es ++ (m, e) ∷ [])) ≡ false
     → (is_some (lookup (nat_eq n) es) ≡ false) × (eqb n m ≡ false)
-lookup_before [] n m e h =
-    (elim (eqb n m) as (λ b. is_some (cond b (Some e) None) ≡ false → (false ≡ false) × (b ≡ false))
-    [ true ↦ λ k. absurd cc | false ↦ λ k. (refl, refl) ]) h
+lookup_before [] n m e h = grind arith
 lookup_before (x ∷ es) n m e h =
     (elim (nat_eq n x.0)
     as (λ b. is_some (cond b (Some x.1) (lookup (nat_eq n) (es ++ (m, e) ∷ []))) ≡ false
@@ -245,28 +203,20 @@ eqb-swap m n h = ne_eqb n m (λ e. eqb-false m n h (sym e))
 before_close : (n : ℕ) (past : Past) (numbers : List ℕ)
     → (is_some (lookup (nat_eq n) (entries_in past ++ closed_block past numbers)) || has n (drop 1 numbers)) ≡ false
     → (is_defined past n || has n numbers) ≡ false
-before_close n past [] h = rw append-nil at h
-before_close n past (m ∷ outer) h =
-    let parts = or_parts _ (has n outer) h in
-    let both = lookup_before (entries_in past) n m _ parts.0 in
-    rw (both.0, eqb-swap n m both.1, parts.1) refl
+before_close n past numbers h = grind (arith, append-nil, or_parts, lookup_before, eqb-swap)
 
 before_number : (n : ℕ) (past : Past) (k : Option ℕ) (aperture : Option Aperture)
     → is_some (lookup (nat_eq n) (entries_in past ++ numbered_aperture k aperture)) ≡ false → is_defined past n ≡ false
-before_number n past None aperture h = rw append-nil at h
-before_number n past (Some k) None h = rw append-nil at h
-before_number n past (Some k) (Some a) h = (lookup_before (entries_in past) n k _ h).0
+before_number n past k aperture h = grind (arith, append-nil, lookup_before)
 
 before_definition : (n : ℕ) (past : Past) (d : Option Definition) (macros : List Macro) (unit : FileUnit)
     → is_some (lookup (nat_eq n) (entries_in past ++ defined_by d macros unit)) ≡ false
     → is_defined past n ≡ false
-before_definition n past None macros unit h = rw append-nil at h
-before_definition n past (Some d) macros unit h = before_number n past (defined_number d.number) _ h
+before_definition n past d macros unit h = grind (arith, append-nil, before_number)
 
 pub unused : (n : ℕ) (past : Past) → is_taken past n ≡ false → IsUnused n past
 unused n [] h = record { objects = refl; leaves = refl }
-unused n (Says (Operate operation) ∷ older) h =
-    still_unused n older (Says (Operate operation)) tt (or_parts (is_defined older n) _ h).1 (unused n older h)
+unused n (Says (Operate operation) ∷ older) h = grind (arith, still_unused, or_parts, unused n older h)
 unused n (Says EndRegion ∷ older) h = still_unused n older (Says EndRegion) tt (or_parts (is_defined older n) _ h).1 (unused n older h)
 unused n (Says (OpenBlock number) ∷ older) h =
     let parts = or_parts (is_defined older n) _ h in
@@ -297,8 +247,7 @@ open_same past blocks n e = ap (list_any (λ (b : Frame). b.number == n)) e ∙ 
 
 not_at : (n : ℕ) (numbers : List ℕ) (k d : ℕ) → has n numbers ≡ false → k < length numbers → get_or numbers k d ≢ n
 not_at n [] k d h lt = absurd (omega (arith, lt))
-not_at n (m ∷ numbers) zero d h lt = λ e. let is : eqb m n ≡ true = eq-eqb m n e in
-    absurd (let wrong : true ≡ false = sym is ∙ (or_parts (eqb m n) (has n numbers) h).0 in cc)
+not_at n (m ∷ numbers) zero d h lt = λ e. grind (arith, eq-eqb, or_parts)
 not_at n (m ∷ numbers) (suc k) d h lt = not_at n numbers k d (or_parts (eqb m n) (has n numbers) h).1 (omega arith)
 
 all_apart : (numbers : List ℕ) → AreApart numbers → AllPairs (λ m n. m ≢ n) numbers
@@ -313,11 +262,4 @@ all_free past [] h = tt
 all_free past (n ∷ numbers) h = (h.0, all_free past numbers h.1)
 
 pub homes_apart : KeepsHomesApart
-homes_apart past none =
-    let apart = stay_apart past none in
-    record {
-      blocks = all_apart (open_blocks past) apart.numbers;
-      entries = all_free past (open_blocks past) apart.entries;
-      repeat =
-          apart.repeat;
-    }
+homes_apart past none = grind (arith, stay_apart, all_apart, all_free)

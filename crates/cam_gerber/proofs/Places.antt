@@ -1,20 +1,17 @@
 -- What the cutting of a file answers, and where: the places of the file ascend.
-use Rattle.std.proofs.Common.{◌≡◌, ℕ, ◌+◌, ◌<◌, ◌≤◌, List, [], ◌∷◌, ◌++◌, length, map, true, false, cond, Ok, Err, refl, sym, ap, subst}
+use Rattle.std.proofs.Common.{◌≡◌, ℕ, ◌+◌, ◌<◌, ◌≤◌, List, [], ◌∷◌, ◌++◌, length, map, true, false, cond, Ok, Err, sym, ap, subst}
 use Rattle.std.proofs.Common.{◌∙◌, ◌⊎◌, inl, inr, arith, length-append}
 use Rattle.std.specs.List.{AllByRecursion, flat_map}
 use Rattle.std.proofs.lemmas.List.{append-nil}
 use Rattle.cam_refusals.specs.FileFaults.{AscendFrom}
-use Rattle.cam_words.specs.Bytes.{star}
-use Rattle.cam_words.specs.Heads.{is_comment}
-use Rattle.cam_words.specs.Cutting.{Command, WordCommand, ExtendedCommand, IsCommand, IsPiece, Piece, Blank, Whole}
+use Rattle.cam_words.specs.Cutting.{Command, IsCommand, IsPiece, Piece, Blank, Whole}
 use Rattle.cam_words.specs.Cutting.{bytes_of, bytes_of_command, word_of, words_of}
 use Rattle.cam_words.specs.Laws.{BeginsCommand, HasCutFront, HasCutting, TellsFault}
 use Rattle.cam_words.specs.Reading.{WordAnswer, reading, words_told}
-use Rattle.cam_words.specs.declared.word.Kind.TheVariants.{Plain, Comment}
 use Rattle.cam_words.specs.declared.word.TextFault.{TextFault}
 use Rattle.cam_words.proofs.Cuttings.{reads_its_words}
 use Rattle.cam_words.proofs.Longest.{stops_at_the_longest_front}
-use Rattle.cam_commands.specs.Syntax.{command_of, start_of, place_by}
+use Rattle.cam_commands.specs.Syntax.{command_of, start_of}
 use Rattle.cam_gerber.specs.State.{Past}
 use Rattle.cam_gerber.specs.Reading.{is_end, places_from}
 use Rattle.cam_gerber.specs.Computing.{statement_said, told_of}
@@ -44,17 +41,13 @@ module _ (P : WordAnswer → Type 0) (of_word : (at : ℕ) (command : Command) �
 -- ---- places
 
 start_of_command : (at : ℕ) (command : Command) → start_of (word_of at command) ≡ at
-start_of_command at (WordCommand text) =
-    elim (is_comment text) as (λ b. place_by (cond b Comment Plain) at ≡ at) [ true ↦ refl | false ↦ refl ]
-start_of_command at (ExtendedCommand text tail) = omega arith
+start_of_command at command = grind arith
 
 some_bytes : (command : Command) → 0 < length (bytes_of_command command)
-some_bytes (WordCommand text) = omega (arith, length-append text (star ∷ []))
-some_bytes (ExtendedCommand text tail) = omega arith
+some_bytes command = grind (arith, length-append)
 
 some_behind : (text : List ℕ) → BeginsCommand text → 0 < length text
-some_behind [] h = absurd h
-some_behind (byte ∷ text) h = omega arith
+some_behind text h = grind arith
 
 abbrev Ascend : ℕ → ℕ → List WordAnswer → Type 0
 Ascend len low answers = (past : Past) → AscendFrom low (places_from len past (map told_of answers))

@@ -1,6 +1,6 @@
 -- A file means what is computed of it, and nothing else; a reading goes on behind its front.
-use Rattle.std.proofs.Common.{◌≡◌, ℕ, List, [], ◌∷◌, ◌++◌, map, Bool, true, false, Option, Some, None, Result, Ok, Err, refl}
-use Rattle.std.proofs.Common.{sym, ap, ap₂, ◌∙◌, subst, length}
+use Rattle.std.proofs.Common.{arith, ◌≡◌, ℕ, List, [], ◌∷◌, ◌++◌, map, Bool, true, false, Option, None, Result, Ok, refl, sym, ap}
+use Rattle.std.proofs.Common.{ap₂, ◌∙◌, subst, length}
 use Rattle.std.specs.Prelude.{◌&&◌, not}
 use Rattle.std.specs.Option.{option_map}
 use Rattle.std.specs.List.{list_all}
@@ -17,7 +17,6 @@ use Rattle.cam_macros.specs.Reading.{pieces, first}
 use Rattle.cam_macros.proofs.OneReading.{one_reading}
 use Rattle.cam_macros.proofs.Parsed.{parsed_by_the_grammar}
 use Rattle.cam_commands.specs.Commands.{Command, DefineMacro}
-use Rattle.cam_commands.specs.Syntax.{command_of}
 use Rattle.cam_objects.specs.Contents.{Content}
 use Rattle.cam_gerber.specs.Statements.{Statement, Says, NamesMacro, Uncut, IsMacroRead, IsMacroOf, IsSaidBy, Told, IsCommandTold}
 use Rattle.cam_gerber.specs.State.{Past}
@@ -30,16 +29,13 @@ use Rattle.cam_gerber.specs.Laws.{AreEndless, AreFaultless, behind, MeansOneThin
 -- ---- what is told is computed
 
 read_as : (text : List ℕ) (parts : Option (List Part)) → parsing.IsReadAs text parts → IsMacroRead text (first (pieces text)) parts
-read_as text (Some parts) h = h
-read_as text None h = λ parts. h (first (pieces text)) parts
+read_as text parts h = grind arith
 
 pub said : (command : Command) → IsSaidBy command (statement_said command)
-said (DefineMacro text) = (refl, read_as text (parts_of text) (parsed_by_the_grammar text))
-said _ = refl
+said command = grind (arith, read_as, parsed_by_the_grammar)
 
 told : (answer : WordAnswer) → IsCommandTold answer (told_of answer)
-told (Ok word) = (said (command_of word), refl)
-told (Err fault) = (refl, refl)
+told answer = grind (arith, said)
 
 pub are_told : (answers : List WordAnswer) → AreTold answers (map told_of answers)
 are_told [] = tt
@@ -48,10 +44,7 @@ are_told (answer ∷ answers) = (told answer, are_told answers)
 -- ---- nothing else is told
 
 same_parts : (text name : List ℕ) (a b : Option (List Part)) → IsMacroRead text name a → IsMacroRead text name b → a ≡ b
-same_parts text name (Some a) (Some b) h k = ap Some (one_reading text name name a b h k).1
-same_parts text name (Some a) None h k = absurd (k a h)
-same_parts text name None (Some b) h k = absurd (h b k)
-same_parts text name None None h k = refl
+same_parts text name a b h k = grind (arith, one_reading)
 
 same_macro : (text : List ℕ) (says : Statement) → IsMacroOf text says → says ≡ statement_said (DefineMacro text)
 same_macro text (Says command) h = absurd h
@@ -62,19 +55,16 @@ same_macro text (NamesMacro name parts) h =
     (same_parts text (first (pieces text)) parts (parts_of text) read (read_as text (parts_of text) (parsed_by_the_grammar text)))
 
 pub same_said : (command : Command) (says : Statement) → IsSaidBy command says → says ≡ statement_said command
-same_said (DefineMacro text) says h = same_macro text says h
-same_said _ says h = h
+same_said command says h = grind (arith, same_macro)
 
 same_told : (answer : WordAnswer) (t : Told) → IsCommandTold answer t → t ≡ told_of answer
-same_told (Ok word) t h = ap₂ (λ says at. record { says = says; at = at }) (same_said (command_of word) t.says h.0) h.1
-same_told (Err fault) t h = ap₂ (λ says at. record { says = says; at = at }) h.0 h.1
+same_told answer t h = grind (arith, same_said)
 
 pub all_told : (answers : List WordAnswer) (commands : List Told) → AreTold answers commands → commands ≡ map told_of answers
 all_told [] [] h = refl
 all_told [] (command ∷ commands) h = absurd h
 all_told (answer ∷ answers) [] h = absurd h
-all_told (answer ∷ answers) (command ∷ commands) h =
-    ap₂ (λ (c : Told) cs. c ∷ cs) (same_told answer command h.0) (all_told answers commands h.1)
+all_told (answer ∷ answers) (command ∷ commands) h = grind (arith, same_told, all_told answers commands h.1)
 
 -- ---- what a file means is computed
 
@@ -100,10 +90,6 @@ means_one_thing bytes a b h k = reading_is bytes a h ∙ sym (reading_is bytes b
 -- ---- what the first of some commands does
 
 module _ (len : ℕ) (past : Past) (command : Told) (later : List Told) where
-  pub refused : (refusal : Refusal) → least number_of (faults past command.says) ≡ Some refusal
-      → given len past (command ∷ later) ≡ Err (record { code = refusal; at = command.at })
-  refused refusal e = rw e refl
-
   pub ends : least number_of (faults past command.says) ≡ None → is_end command.says ≡ true
       → given len past (command ∷ later) ≡ Ok (layer_in (command.says ∷ past))
   ends none e = rw (none, e) refl
@@ -115,12 +101,10 @@ module _ (len : ℕ) (past : Past) (command : Told) (later : List Told) where
 -- ---- behind a front
 
 none_told : (at : ℕ) (o : Option Refusal) → option_map {U = ReadFault} (λ refusal. record { code = refusal; at = at }) o ≡ None → o ≡ None
-none_told at None e = refl
-none_told at (Some refusal) e = absurd cc
+none_told at o e = grind arith
 
 goes : (ends rest : Bool) → (not ends && rest) ≡ true → (ends ≡ false) × (rest ≡ true)
-goes true rest e = absurd cc
-goes false rest e = (refl, e)
+goes ends rest e = grind arith
 
 behind_front : (len : ℕ) (past : Past) (front later : List Told) → AreEndless front → AreFaultless past front
     → given len past (front ++ later) ≡ given len (behind past front) later
@@ -133,8 +117,7 @@ behind_front len past (command ∷ front) later endless none =
 module _ (len : ℕ) (past : Past) (front rest : List WordAnswer) (commands : List Told) (are : AreTold front commands)
     (endless : AreEndless commands) (none : AreFaultless past commands) where
   same_lead : lead_of len past (front ++ rest) ≡ lead_of len (behind past commands) rest
-  same_lead = ap (given len past) (map-append told_of front rest ∙ ap (λ all. all ++ map told_of rest) (sym (all_told front commands are)))
-      ∙ behind_front len past commands (map told_of rest) endless none
+  same_lead = grind (arith, map-append, all_told, behind_front)
 
   pub to_behind : (result : Result Content ReadFault) → Leads len past (front ++ rest) result → Leads len (behind past commands) rest result
   to_behind result h = leads len (behind past commands) rest result (leads_is len past (front ++ rest) result h ∙ same_lead)

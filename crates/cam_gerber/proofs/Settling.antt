@@ -1,32 +1,25 @@
 -- Another repeat is opened.
-use Rattle.std.proofs.Common.{◌≡◌, ℕ, List, [], ◌∷◌, length, min, Bool, true, false, Option, Some, None, Global}
-use Rattle.std.proofs.Common.{refl, sym, ap, ap₂, subst, ◌∙◌, arith}
+use Rattle.std.proofs.Common.{◌≡◌, ℕ, List, ◌∷◌, Bool, true, false, Option, Some, None, refl, ap, ◌∙◌, arith}
 use Rattle.std.specs.Prelude.{ℤ, map, ◌||◌, ◌&&◌, not}
 use Rattle.std.specs.Option.{option_map}
-use Rattle.std.specs.declared.collections.VecDeque.{VecDeque}
 use Rattle.cam_refusals.specs.Checks.{first_holding}
-use Rattle.cam_objects.specs.declared.object.Object.{Object}
 use Rattle.cam_commands.specs.declared.parts.Repeat.{Repeat}
 use Rattle.cam_commands.specs.declared.parts.Slot.{Slot}
-use Rattle.cam_commands.specs.declared.parts.Slot.TheVariants.{Omitted, Malformed, Written}
 use Rattle.cam_units.specs.declared.length.Unit.{Unit as FileUnit}
-use Rattle.cam_units.specs.Nearest.{fix9_of, unit_or_mm}
 use Rattle.cam_commands.specs.Commands.{SetRepeat}
-use Rattle.cam_gerber.specs.declared.frames.OpenBlock.{OpenBlock}
 use Rattle.cam_gerber.specs.declared.frames.OpenRepeat.{OpenRepeat}
 use Rattle.cam_gerber.specs.declared.running.Running.{Running}
 use Rattle.cam_gerber.specs.Statements.{Says}
-use Rattle.cam_gerber.specs.State.{Past, in_region, unit_in}
-use Rattle.cam_gerber.specs.Homes.{copies_written, has_copies, open_blocks, open_repeat, repeat_opened, step_written}
-use Rattle.cam_gerber.specs.Faults.{closing_faults, command_faults, has_steps_on_board, is_left_out, is_malformed}
+use Rattle.cam_gerber.specs.State.{Past, unit_in}
+use Rattle.cam_gerber.specs.Homes.{has_copies, open_blocks, open_repeat, repeat_opened, step_written}
+use Rattle.cam_gerber.specs.Faults.{closing_faults, command_faults, is_left_out, is_malformed}
 use Rattle.cam_objects.specs.Soundness.{is_short}
-use Rattle.cam_gerber.specs.Machinery.Tracking.{IsSettled, Tracks, TracksModal, TracksRegion, block_of, repeat_of}
+use Rattle.cam_gerber.specs.Machinery.Tracking.{IsSettled, Tracks, block_of, repeat_of}
 use Rattle.cam_gerber.specs.Machinery.Closing.{opened_by, step_by}
 use Rattle.cam_gerber.proofs.UnusedRepeats.{unused_repeat}
 
 pub empty_map : (past : Past) (numbers : List ℕ) → is_left_out (map (block_of past) numbers) ≡ is_left_out numbers
-empty_map past [] = refl
-empty_map past (n ∷ outer) = refl
+empty_map past numbers = grind arith
 
 no_blocks : (past : Past) (old : Running) → Tracks past old → is_left_out old.frames.blocks.items ≡ is_left_out (open_blocks past)
 no_blocks past old t = ap is_left_out t.frames.blocks ∙ empty_map past (open_blocks past)
@@ -34,9 +27,7 @@ no_blocks past old t = ap is_left_out t.frames.blocks ∙ empty_map past (open_b
 -- ---- faults before the close
 
 step_same : (past : Past) (unit : FileUnit) (slot : Slot ℤ) → unit_in past ≡ Some unit → step_by unit slot ≡ step_written past slot
-step_same past unit Omitted e = refl
-step_same past unit Malformed e = refl
-step_same past unit (Written n) e = ap (λ u. fix9_of n (unit_or_mm u)) (sym e)
+step_same past unit slot e = grind arith
 
 -- what the record tells of the faults that come before the close
 pub record IsSettable (old : Running) (unit : FileUnit) (repeat : Repeat) : Type 0 where
@@ -49,57 +40,19 @@ pub opening_checks : (past : Past) (old : Running) (unit : FileUnit) (repeat : R
     → IsSettable old unit repeat
     → (is_short (step_by unit repeat.i) && is_short (step_by unit repeat.j)) ≡ short
     → first_holding (command_faults past (SetRepeat repeat)) ≡ first_holding (closing_faults past short)
-opening_checks past old unit repeat short t s e =
-    let set : unit_in past ≡ Some unit = sym t.modal.unit ∙ s.known in
-    let nested : (has_copies repeat && not (is_left_out (open_blocks past))) ≡ false =
-    ap (λ b. has_copies repeat && not b) (sym (no_blocks past old t)) ∙ s.nested in
-    let out : in_region past ≡ false = sym t.region.inside ∙ s.outside in
-    let steps : has_steps_on_board past repeat ≡ short =
-    ap₂ (λ i j. is_short i && is_short j) (sym (step_same past unit repeat.i set)) (sym (step_same past unit repeat.j set)) ∙ e in
-    rw (s.formed, set, nested, out, steps) refl
+opening_checks past old unit repeat short t s e = grind (arith, no_blocks, step_same)
 
 -- ---- a repeat that is opened has no object yet
 
 opened_same : (past : Past) (unit : FileUnit) (repeat : Repeat) → unit_in past ≡ Some unit
     → opened_by unit repeat ≡ repeat_of (Says (SetRepeat repeat) ∷ past) (repeat_opened past repeat)
-opened_same past unit repeat e =
-    let none = unused_repeat past (length past) (omega arith) in
-    ap₂ (λ (i j : ℤ).
-    record { columns = copies_written repeat.columns; rows = copies_written repeat.rows; i = i; j = j; objects = []; leaves = 0 })
-    (step_same past unit repeat.i e) (step_same past unit repeat.j e)
-    ∙ ap₂ (λ (objects : List Object) (leaves : ℕ).
-    record {
-      columns = copies_written repeat.columns;
-      rows = copies_written repeat.rows;
-      i = step_written past repeat.i;
-      j = step_written past repeat.j;
-      objects = objects;
-      leaves = min 4000001 leaves;
-    })
-    (sym none.objects) (sym none.leaves)
+opened_same past unit repeat e = grind (arith, unused_repeat, step_same)
 
 -- what is open behind the close of the one before
 set_tracks : (past : Past) (old new : Running) (repeat : Repeat) (opens : Option OpenRepeat) → Tracks past old → IsSettled past old new
     → opens ≡ option_map (repeat_of (Says (SetRepeat repeat) ∷ past)) (open_repeat (Says (SetRepeat repeat) ∷ past))
     → Tracks (Says (SetRepeat repeat) ∷ past) (record new { frames = record new.frames { repeat = opens } })
-set_tracks past old new repeat opens t settled is =
-    let now : Past = Says (SetRepeat repeat) ∷ past in
-    record {
-      modal = subst (TracksModal now) (sym settled.modal) (search t.modal);
-      region = subst (TracksRegion now) (sym settled.region)
-          (record { inside = t.region.inside; start = t.region.start; segs = t.region.segs });
-      frames = record {
-        blocks = ap (λ (blocks : VecDeque OpenBlock Global). blocks.items) settled.blocks ∙ t.frames.blocks;
-        repeat = is;
-      };
-      built = record {
-        entries = settled.entries ∙ t.built.entries;
-        items = settled.items;
-        macros = settled.macros ∙ t.built.macros;
-        leaves = settled.leaves;
-      };
-      attributes = settled.attributes ∙ t.attributes;
-    }
+set_tracks past old new repeat opens t settled is = grind arith
 
 pub set_one : (past : Past) (old new : Running) (unit : FileUnit) (repeat : Repeat) → Tracks past old → IsSettable old unit repeat
     → (is_short (step_by unit repeat.i) && is_short (step_by unit repeat.j)) ≡ true → has_copies repeat ≡ false
@@ -115,8 +68,5 @@ pub set_many : (past : Past) (old new : Running) (unit : FileUnit) (repeat : Rep
     → (first_holding (closing_faults past true) ≡ None) × IsSettled past old new
     → (first_holding (command_faults past (SetRepeat repeat)) ≡ None)
     × Tracks (Says (SetRepeat repeat) ∷ past) (record new { frames = record new.frames { repeat = Some opens } })
-set_many past old new unit repeat opens t s short many made (none, settled) = (
-  opening_checks past old unit repeat true t s short ∙ none,
-  set_tracks past old new repeat (Some opens) t settled
-      (ap Some (made ∙ opened_same past unit repeat (sym t.modal.unit ∙ s.known)) ∙ rw many refl),
-)
+set_many past old new unit repeat opens t s short many made (none, settled) =
+    grind (arith, opening_checks, set_tracks, opened_same)

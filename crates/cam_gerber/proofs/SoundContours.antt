@@ -1,7 +1,7 @@
 -- Contours of regions that operations without a fault make are sound, and end at the current point.
-use Rattle.std.proofs.Common.{◌≡◌, ◌<◌, ◌≤◌, List, [], ◌∷◌, ◌++◌, length, Bool, true, false, cond, refl, sym, ap}
-use Rattle.std.proofs.Common.{subst, arith, lit≤, length-append}
-use Rattle.std.specs.Prelude.{◌&&◌, not}
+use Rattle.std.proofs.Common.{◌≡◌, ◌<◌, ◌≤◌, List, [], ◌∷◌, ◌++◌, length, Bool, true, false, cond, refl, sym}
+use Rattle.std.proofs.Common.{subst, arith, length-append}
+use Rattle.std.specs.Prelude.{◌&&◌}
 use Rattle.std.specs.List.{All, flat_map}
 use Rattle.std.proofs.lemmas.Bool.{and_parts, or_parts}
 use Rattle.std.proofs.lemmas.List.Elements.{All-append, All-cons, All-head, All-nil, All-tail}
@@ -9,14 +9,13 @@ use Rattle.cam_units.specs.Board.{IsOnBoard}
 use Rattle.cam_units.specs.declared.point.Point.{Point}
 use Rattle.cam_shapes.specs.declared.segments.Seg.{Seg}
 use Rattle.cam_shapes.specs.declared.segments.Seg.TheVariants.{Line, Curve}
-use Rattle.cam_objects.specs.Soundness.{have_radii, is_apart, points_of_seg, is_on_board}
+use Rattle.cam_objects.specs.Soundness.{have_radii, is_apart, points_of_seg}
 use Rattle.cam_objects.proofs.SoundItems.{HaveRadii}
 use Rattle.cam_commands.specs.declared.parts.Mode.{Mode}
-use Rattle.cam_commands.specs.declared.parts.Mode.TheVariants.{Linear, Clockwise, Counterclockwise}
 use Rattle.cam_commands.specs.declared.parts.OperationCode.{OperationCode}
 use Rattle.cam_commands.specs.declared.parts.OperationCode.TheVariants.{Plot, Move, Flash}
 use Rattle.cam_gerber.specs.Making.{segment, segments_by, start_by}
-use Rattle.cam_gerber.specs.Faults.{is_arc, is_same_point, path_faults}
+use Rattle.cam_gerber.specs.Faults.{is_arc, path_faults}
 use Rattle.cam_gerber.proofs.Least.{ArePassed}
 use Rattle.cam_gerber.proofs.JoiningParts.{told, on_board}
 
@@ -28,18 +27,11 @@ pub record IsPath (mode : Mode) (from to centre : Point) : Type 0 where
   pub radius : is_arc mode ≡ true → is_apart from centre ≡ true
 
 under : (a b : Bool) → (a && b) ≡ false → a ≡ true → b ≡ false
-under true b h e = h
-under false b h e = absurd cc
+under a b h e = grind arith
 
 pub path_of : (mode : Mode) (arcs : Bool) (from to centre : Point) → ArePassed (path_faults (is_arc mode) arcs from to centre)
     → IsPath mode from to centre
-path_of mode arcs from to centre pass =
-    let parts = or_parts (not (is_on_board to)) (is_arc mode && not (is_on_board centre)) pass.1.1.0 in
-    record {
-      to_on = on_board to (told (is_on_board to) parts.0);
-      centre_on = λ arc. on_board centre (told (is_on_board centre) (under (is_arc mode) (not (is_on_board centre)) parts.1 arc));
-      radius = λ arc. ap not (under (is_arc mode) (is_same_point from centre) pass.1.0 arc);
-    }
+path_of mode arcs from to centre pass = grind (arith, or_parts, on_board, told, under)
 
 -- ---- contours
 
@@ -91,17 +83,7 @@ record IsSegment (from to : Point) (seg : Seg) : Type 0 where
   radius : HaveRadii from (seg ∷ [])
 
 segment_of : (mode : Mode) (from to centre : Point) → IsPath mode from to centre → IsSegment from to (segment mode to centre)
-segment_of Linear from to centre p = record { ends = λ q. refl; points = All-cons IsOnBoard to [] p.to_on (All-nil IsOnBoard); radius = refl }
-segment_of Clockwise from to centre p = record {
-  ends = λ q. refl;
-  points = All-cons IsOnBoard to (centre ∷ []) p.to_on (All-cons IsOnBoard centre [] (p.centre_on refl) (All-nil IsOnBoard));
-  radius = rw (p.radius refl) refl;
-}
-segment_of Counterclockwise from to centre p = record {
-  ends = λ q. refl;
-  points = All-cons IsOnBoard to (centre ∷ []) p.to_on (All-cons IsOnBoard centre [] (p.centre_on refl) (All-nil IsOnBoard));
-  radius = rw (p.radius refl) refl;
-}
+segment_of mode from to centre p = grind (arith, All-cons, All-nil)
 
 -- what an operation in a region meets
 abbrev pub IsTurnOf : OperationCode → Mode → Point → Point → Point → List Seg → Type 0
@@ -129,10 +111,7 @@ turned_by Plot mode start from to centre segs s e t =
       };
       ends = λ r. end_behind start segs (segment mode to centre) to seg.ends;
     }
-turned_by Move mode start from to centre segs s e t = record {
-  sound = record { start_on = t; segs_on = All-nil IsOnBoard; radii = refl; few = lit≤ tt };
-  ends = λ r. refl;
-}
+turned_by Move mode start from to centre segs s e t = grind (arith, All-nil)
 turned_by Flash mode start from to centre segs s e t = absurd t
 
 -- the contour behind an operation

@@ -1,6 +1,6 @@
 -- A definition without a fault defines a sound aperture, of a number that apertures have.
-use Rattle.std.proofs.Common.{◌≡◌, ℕ, List, [], ◌∷◌, length, leb, Bool, true, false, cond, Option, Some, None, Result, Ok, Err, refl, arith}
-use Rattle.std.specs.Prelude.{ℤ, pos, negsuc, ◌&&◌, codes, IfSome, nat_lt, unwrap_or}
+use Rattle.std.proofs.Common.{◌≡◌, ℕ, List, [], ◌∷◌, length, Bool, true, cond, Option, Some, None, Result, Ok, arith}
+use Rattle.std.specs.Prelude.{ℤ, pos, ◌&&◌, codes, IfSome, nat_lt, unwrap_or}
 use Rattle.std.specs.Option.{option_and_then}
 use Rattle.std.specs.Str.{bytes_eq}
 use Rattle.std.proofs.lemmas.Int.{ints}
@@ -33,50 +33,36 @@ use Rattle.cam_gerber.proofs.JoiningParts.{told}
 
 within : (n : ℕ) (low high : Bool) → nat_lt n 10 ≡ low → nat_lt 2147483647 n ≡ high
     → IfSome (cond low None (cond high None (Some n))) IsEntryNumber
-within n true high e f = tt
-within n false true e f = tt
-within n false false e f = (ltb-false n 10 e, ltb-false 2147483647 n f)
+within n low high e f = grind (arith, ltb-false)
 
 pub numbers_within : (o : Option ℕ)
     → IfSome (option_and_then (λ n. cond (nat_lt n 10) None (cond (nat_lt 2147483647 n) None (Some n))) o) IsEntryNumber
-numbers_within None = tt
-numbers_within (Some n) = within n (nat_lt n 10) (nat_lt 2147483647 n) refl refl
+numbers_within o = grind (arith, within)
 
 -- ---- apertures
 
 sized : (z : ℤ) → is_size_between (pos 0) z ≡ true → IsSize z
-sized (pos n) h = let on = and_parts (leb 0 n) (leb n 200000000) h in let high = leb-true n 200000000 on.1 in
-    (omega (arith, ints), omega (arith, ints, high))
-sized (negsuc n) h = absurd cc
+sized z h = grind (arith, and_parts, leb-true, ints)
 
 sided : (z : ℤ) → is_size_between (pos 1) z ≡ true → IsSideLength z
-sided (pos n) h =
-    let on = and_parts (leb 1 n) (leb n 200000000) h in
-    let low = leb-true 1 n on.0 in
-    let high = leb-true n 200000000 on.1 in
-    (omega (arith, ints, low), omega (arith, ints, high))
-sided (negsuc n) h = absurd cc
+sided z h = grind (arith, and_parts, leb-true, ints)
 
 circles : (d h : ℤ) → (is_size_between (pos 0) d && is_size_between (pos 0) h) ≡ true → IsSize d × IsSize h
 circles d h e = let on = and_parts (is_size_between (pos 0) d) (is_size_between (pos 0) h) e in (sized d on.0, sized h on.1)
 
 sides : (w h k : ℤ) → (is_size_between (pos 1) w && (is_size_between (pos 1) h && is_size_between (pos 0) k)) ≡ true → IsSideLength w × IsSideLength h × IsSize k
-sides w h k e =
-    let on = and_parts (is_size_between (pos 1) w) (is_size_between (pos 1) h && is_size_between (pos 0) k) e in
-    let rest = and_parts (is_size_between (pos 1) h) (is_size_between (pos 0) k) on.1 in (sided w on.0, sided h rest.0, sized k rest.1)
+sides w h k e = grind (arith, and_parts, sided, sized)
 
 abbrev IfMade : Option Aperture → Type 0
 IfMade o = IfSome o IsSoundAperture
 
 by_test : (b : Bool) (s t : Checks Refusal) (a c : Option Aperture) → (ArePassed s → IfMade a) → (ArePassed t → IfMade c)
     → ArePassed (cond b s t) → IfMade (cond b a c)
-by_test true s t a c h k all = h all
-by_test false s t a c h k all = k all
+by_test b s t a c h k all = grind arith
 
 of_made : (made : Result (List MacroPrimitive) MacroFault)
     → ((prims : List MacroPrimitive) → made ≡ Ok prims → IsSoundAperture (Prims prims)) → IfMade (primitives_aperture made)
-of_made (Ok prims) h = h prims refl
-of_made (Err fault) h = tt
+of_made made h = grind arith
 
 of_macro : (found : Option Macro) (unit : FileUnit) (values : List ℤ)
     → IfMade (by_macro found None (λ m. primitives_aperture (expansion_of unit values m.parts)))

@@ -1,5 +1,5 @@
 -- Operations without a fault make sound objects that fit their home.
-use Rattle.std.proofs.Common.{◌≡◌, ℕ, List, [], ◌∷◌, length, Bool, true, false, Option, Some, None, refl, arith, lit≤}
+use Rattle.std.proofs.Common.{◌≡◌, ℕ, List, [], ◌∷◌, length, Bool, true, false, Option, refl, arith, lit≤}
 use Rattle.std.specs.Prelude.{not, is_none, unwrap_or}
 use Rattle.std.specs.List.{flat_map}
 use Rattle.std.proofs.lemmas.Bool.{leb-false, lt-ltb, or_parts}
@@ -15,7 +15,6 @@ use Rattle.cam_objects.specs.Leaves.{meaning_in, object_leaves, origin}
 use Rattle.cam_objects.specs.Soundness.{AreOnBoard, points_of_seg, is_on_board}
 use Rattle.cam_objects.proofs.SoundItems.{HasNumber}
 use Rattle.cam_commands.specs.declared.parts.Mode.{Mode}
-use Rattle.cam_commands.specs.declared.parts.Mode.TheVariants.{Linear, Clockwise, Counterclockwise}
 use Rattle.cam_commands.specs.declared.parts.Operation.{Operation}
 use Rattle.cam_commands.specs.declared.parts.OperationCode.{OperationCode}
 use Rattle.cam_commands.specs.declared.parts.OperationCode.TheVariants.{Plot, Move, Flash}
@@ -36,9 +35,7 @@ use Rattle.cam_gerber.proofs.SoundViews.{IsKnownNumber, IsSoundView, view, insid
 -- ---- where the leaves lie
 
 bound : (h : Home) (past : Past) (o : Object) → AreOnBoard (object_leaves (meaning_in (entries_in past)) origin o) → IsBoundAt h past o
-bound (InBlock n) past o on = on
-bound (InRepeat before) past o on = tt
-bound InLayer past o on = on
+bound h past o on = grind arith
 
 bound_flash : (h : Home) (past : Past) (o : Object) → is_outside_at h past o ≡ false → IsBoundAt h past o
 bound_flash (InBlock n) past o out = inside past (One o) out
@@ -55,42 +52,7 @@ record IsMark (es : Pairs) (o : Object) : Type 0 where
 stroked : (es : Pairs) (mode : Mode) (n : ℕ) (from to centre : Point) (turn : Turn) (dark : Bool) → HasNumber es n
     → can_draw (is_arc mode) (meaning_in es n).tip ≡ true → IsOnBoard from → IsPath mode from to centre
     → IsMark es (stroke mode n from to centre turn dark)
-stroked es Linear n from to centre turn dark known wide on path = record {
-  made = record {
-    formed = refl;
-    known = known;
-    drawable = wide;
-    radius = refl;
-    points =
-        All-cons IsOnBoard from (to ∷ []) on (All-cons IsOnBoard to [] path.to_on (All-nil IsOnBoard));
-    segs = lit≤ tt;
-  };
-  none = tt;
-}
-stroked es Clockwise n from to centre turn dark known wide on path = record {
-  made = record {
-    formed = refl;
-    known = known;
-    drawable = wide;
-    radius = path.radius refl;
-    points = All-cons IsOnBoard from (to ∷ centre ∷ []) on
-        (All-cons IsOnBoard to (centre ∷ []) path.to_on (All-cons IsOnBoard centre [] (path.centre_on refl) (All-nil IsOnBoard)));
-    segs = lit≤ tt;
-  };
-  none = tt;
-}
-stroked es Counterclockwise n from to centre turn dark known wide on path = record {
-  made = record {
-    formed = refl;
-    known = known;
-    drawable = wide;
-    radius = path.radius refl;
-    points = All-cons IsOnBoard from (to ∷ centre ∷ []) on
-        (All-cons IsOnBoard to (centre ∷ []) path.to_on (All-cons IsOnBoard centre [] (path.centre_on refl) (All-nil IsOnBoard)));
-    segs = lit≤ tt;
-  };
-  none = tt;
-}
+stroked es mode n from to centre turn dark known wide on path = grind (arith, All-cons, All-nil)
 
 fit_mark : (past : Past) (o : Object) → IsMark (entries_in past) o → is_full (home past) past o ≡ false → AreFit past (o ∷ []) (home past)
 fit_mark past o m room =
@@ -104,13 +66,11 @@ fit_mark past o m room =
 -- ---- the current aperture
 
 known_number : (es : Pairs) (a : Option ℕ) → is_none a ≡ false → IsKnownNumber es a → HasNumber es (unwrap_or a 0)
-known_number es None some h = absurd cc
-known_number es (Some n) some h = h
+known_number es a some h = grind arith
 
 fit_number : (past : Past) (arc : Bool) (a : Option ℕ) → is_none a ≡ false → is_unfit past arc a ≡ false
     → can_draw arc (meaning_in (entries_in past) (unwrap_or a 0)).tip ≡ true
-fit_number past arc None some h = absurd cc
-fit_number past arc (Some n) some h = told (can_draw arc (meaning_in (entries_in past) n).tip) h
+fit_number past arc a some h = grind (arith, told)
 
 -- ---- regions
 
@@ -171,14 +131,8 @@ done Plot true past operation s pass =
     let path = path_of (mode_in now) (has_arcs past) (point_in past) (point_in now) (arc_centre past operation)
     (pass.0, (pass.1.0, (pass.1.1.0, tt))) in
     record { fit = tt; to_on = path.to_on; turn = λ e. (path, leb-false 1000000 (length (segments_in past)) pass.1.1.1.0) }
-done Move false past operation s pass =
-    let on = on_board (point_in (Says (Operate operation) ∷ past))
-    (told (is_on_board (point_in (Says (Operate operation) ∷ past))) pass.0) in
-    record { fit = tt; to_on = on; turn = λ e. never e }
-done Move true past operation s pass =
-    let on = on_board (point_in (Says (Operate operation) ∷ past))
-    (told (is_on_board (point_in (Says (Operate operation) ∷ past))) pass.0) in
-    record { fit = fit_region past s.contour.sound pass.1.0; to_on = on; turn = λ e. on }
+done Move false past operation s pass = grind (arith, on_board, told, never)
+done Move true past operation s pass = grind (arith, on_board, told, fit_region)
 done Flash false past operation s pass =
     let to = point_in (Says (Operate operation) ∷ past) in
     let flash = object.Flash (number_in past) to (turn_in past) (dark_in past) in

@@ -1,19 +1,17 @@
 -- What a reading has made so far, where it is sound: the objects of an open block and of an open repeat, and the items;
 -- and that one entry more in the dictionary leaves it so.
-use Rattle.std.proofs.Common.{◌≡◌, ℕ, ◌≤◌, List, [], ◌∷◌, ◌++◌, length, max, None, nat_eq, sum_by, refl, sym, ap, ◌∙◌, arith, lit≤}
+use Rattle.std.proofs.Common.{◌≡◌, ℕ, ◌≤◌, List, [], ◌∷◌, ◌++◌, length, max, None, nat_eq, sum_by, sym, ◌∙◌, arith}
 use Rattle.std.specs.Prelude.{fold}
 use Rattle.std.specs.List.{All}
 use Rattle.std.specs.Map.{lookup}
 use Rattle.std.proofs.lemmas.List.Elements.{All-cons, All-head, All-nil, All-tail, All-weaker}
 use Rattle.cam_units.specs.Board.{IsOnBoard}
 use Rattle.cam_objects.specs.declared.object.Object.{Object}
-use Rattle.cam_objects.specs.declared.object.Object.TheVariants.{Flash, Draw, Arc, Region}
 use Rattle.cam_objects.specs.declared.entry.Entry.{Entry}
 use Rattle.cam_objects.specs.declared.item.Item.{Item}
 use Rattle.cam_objects.specs.declared.item.Item.TheVariants.{One}
 use Rattle.cam_objects.specs.Leaves.{meaning_in, object_leaves, origin}
-use Rattle.cam_objects.specs.Soundness.{AreOnBoard, IsSoundBlock, IsSoundItem}
-use Rattle.cam_objects.specs.Soundness.{objects_of, points_of, segs_of}
+use Rattle.cam_objects.specs.Soundness.{AreOnBoard, IsSoundBlock, IsSoundItem, objects_of, points_of, segs_of}
 use Rattle.cam_objects.specs.Weights.{Weight, block_count, item_count, object_count, object_depth, weight_in}
 use Rattle.cam_objects.proofs.SoundItems.{HasRadius, IsDrawable, IsFormed, IsKnown, meets, sound}
 use Rattle.cam_objects.proofs.GrownDictionaries.{block_count_same, drawable_same, known_same, sound_same, sum_same, weighs_same}
@@ -37,24 +35,7 @@ pub record IsPlaced (es : Pairs) (o : Object) : Type 0 where
   pub count : object_count (weight_in es) o ≤ 4000000
 
 pub one_item : (es : Pairs) (o : Object) → IsPlaced es o → IsSoundItem es (One o)
-one_item es o p =
-    sound es (One o) (record {
-      repeated = tt;
-      formed = All-cons IsFormed o [] p.made.formed (All-nil IsFormed);
-      known = All-cons (IsKnown es) o [] p.made.known (All-nil (IsKnown es));
-      drawable = All-cons (IsDrawable (meaning_in es)) o [] p.made.drawable (All-nil (IsDrawable (meaning_in es)));
-      radii = All-cons HasRadius o [] p.made.radius (All-nil HasRadius);
-      inside = record {
-        points = All-cons (λ x. All IsOnBoard (points_of x)) o [] p.made.points (All-nil (λ x. All IsOnBoard (points_of x)));
-        steps = tt;
-        leaves = p.leaves;
-      };
-      limits = record {
-        segs = All-cons (λ x. length (segs_of x) ≤ 1000000) o [] p.made.segs (All-nil (λ x. length (segs_of x) ≤ 1000000));
-        objects = lit≤ tt;
-        leaves = p.count;
-      };
-    })
+one_item es o p = grind (arith, sound, All-cons, IsFormed, All-nil, IsKnown, IsDrawable)
 
 -- an open block, with the count of its leaves
 pub record IsSoundOpen (es : Pairs) (objects : List Object) (leaves : ℕ) : Type 0 where
@@ -87,12 +68,7 @@ deepest w (o ∷ objects) so_far le h =
     (All-tail (λ x. object_depth w x ≤ 7) o objects h)
 
 pub closed : (es : Pairs) (objects : List Object) (leaves : ℕ) → IsSoundOpen es objects leaves → IsSoundBlock es objects
-closed es objects leaves s = record {
-  each = s.each;
-  few = s.few;
-  leaves = omega (arith, s.most, s.count);
-  depth = omega (arith, deepest (weight_in es) objects 0 (omega arith) s.depth);
-}
+closed es objects leaves s = grind (arith, deepest)
 
 known_one : (es : Pairs) (o : Object) → IsSoundItem es (One o) → IsKnown es o
 known_one es o h = All-head (IsKnown es) o [] (meets es (One o) h).known
@@ -111,18 +87,21 @@ module _ (es : Pairs) (n : ℕ) (e : Entry) (absent : lookup (nat_eq n) es ≡ N
   }
 
   depth_same : (o : Object) → IsKnown es o → object_depth (weight_in (es ++ (n, e) ∷ [])) o ≡ object_depth (weight_in es) o
-  depth_same (Flash m at t dark) h = ap (λ (w : Weight). w.depth) (weighs_same es n e absent m h)
-  depth_same (Draw m from to t dark) h = refl
-  depth_same (Arc ccw dark m from to centre) h = refl
-  depth_same (Region c dark) h = refl
+  depth_same o h = grind (arith, weighs_same)
 
   depths : (objects : List Object) → All (IsKnown es) objects → All (λ o. object_depth (weight_in es) o ≤ 7) objects
       → All (λ o. object_depth (weight_in (es ++ (n, e) ∷ [])) o ≤ 7) objects
   depths [] h k = All-nil (λ o. object_depth (weight_in (es ++ (n, e) ∷ [])) o ≤ 7)
   depths (o ∷ objects) h k =
-      All-cons (λ o. object_depth (weight_in (es ++ (n, e) ∷ [])) o ≤ 7) o objects
-      (omega (arith, depth_same o (All-head (IsKnown es) o objects h), All-head (λ o. object_depth (weight_in es) o ≤ 7) o objects k))
-      (depths objects (All-tail (IsKnown es) o objects h) (All-tail (λ o. object_depth (weight_in es) o ≤ 7) o objects k))
+      grind (
+        arith,
+        All-cons,
+        depth_same,
+        All-head,
+        IsKnown,
+        All-tail,
+        depths objects (All-tail (IsKnown es) o objects h) (All-tail (λ o. object_depth (weight_in es) o ≤ 7) o objects k),
+      )
 
   pub open_more : (objects : List Object) (leaves : ℕ) → IsSoundOpen es objects leaves → IsSoundOpen (es ++ (n, e) ∷ []) objects leaves
   open_more objects leaves s =

@@ -1,7 +1,7 @@
 -- Each statement without a fault leaves what is in hand sound.
 use Rattle.std.proofs.Common.{◌≡◌, ℕ, ◌+◌, ◌*◌, ◌<◌, ◌≤◌, List, [], ◌∷◌, ◌++◌, drop, length, map, Bool, true, false}
-use Rattle.std.proofs.Common.{cond, Option, Some, None, nat_eq, refl, sym, subst, arith, lit≤, lit<}
-use Rattle.std.specs.Prelude.{◌||◌, ◌&&◌, not, IfSome, unsigned_abs, unwrap_or}
+use Rattle.std.proofs.Common.{cond, Option, Some, None, nat_eq, refl, arith, lit≤}
+use Rattle.std.specs.Prelude.{◌||◌, ◌&&◌, not, IfSome, unsigned_abs}
 use Rattle.std.specs.Option.{option_map}
 use Rattle.std.specs.List.{AllByRecursion, list_any}
 use Rattle.std.specs.Map.{lookup}
@@ -12,12 +12,9 @@ use Rattle.cam_refusals.specs.Refusals.{number_of}
 use Rattle.cam_units.specs.Board.{IsOnBoard}
 use Rattle.cam_macros.specs.declared.aperture_macro.Macro.{Macro}
 use Rattle.cam_units.specs.declared.length.Unit.{Unit as FileUnit}
-use Rattle.cam_apertures.specs.declared.aperture.Aperture.{Aperture}
-use Rattle.cam_numbers.specs.Numbers.{defined_number}
-use Rattle.cam_apertures.specs.Definition.{Definition, template_aperture, template_form, numbered, values_of}
+use Rattle.cam_apertures.specs.Definition.{Definition, template_form, numbered}
 use Rattle.cam_objects.specs.declared.entry.Entry.TheVariants.{Block}
 use Rattle.cam_objects.specs.declared.object.Object.{Object}
-use Rattle.cam_objects.specs.Weights.{object_depth, weight_in}
 use Rattle.cam_commands.specs.declared.names.FreeText.TheVariants.{FileAttribute, ApertureAttribute, ObjectAttribute}
 use Rattle.cam_commands.specs.declared.names.FreeText.TheVariants.{DeleteAttribute, ImageName, LoadName}
 use Rattle.cam_commands.specs.declared.parts.Operation.{Operation}
@@ -32,10 +29,9 @@ use Rattle.cam_units.specs.Nearest.{unit_or_mm}
 use Rattle.cam_gerber.specs.Homes.{InBlock, InRepeat, copies_written, has_copies, open_blocks, open_repeat, repeat_opened, step_written}
 use Rattle.cam_gerber.specs.Making.{made, home_objects, region_ended, segments_in, start_in}
 use Rattle.cam_gerber.specs.Layers.{closed_block, closed_leaves, closed_repeat, defined, defined_by, entries_in}
-use Rattle.cam_gerber.specs.Layers.{items_in, leaves_in, home_leaves, macros_in, numbered_aperture}
+use Rattle.cam_gerber.specs.Layers.{items_in, leaves_in, home_leaves, macros_in}
 use Rattle.cam_gerber.specs.Faults.{faults, has_steps_on_board, holds_of_one, is_defined, is_left_out, is_layer_full}
 use Rattle.cam_gerber.specs.Faults.{is_outside, is_taken, is_taken_again}
-use Rattle.cam_objects.specs.Soundness.{is_short}
 use Rattle.cam_gerber.specs.Laws.{IsFaultless}
 use Rattle.cam_gerber.specs.Machinery.OpenNumbers.{IsEntryNumber, StatesWithin}
 use Rattle.cam_gerber.proofs.Least.{pass_least}
@@ -90,63 +86,20 @@ ends_region past s h =
     }
 
 begins_region : (past : Past) → Sound past → Sound (Says BeginRegion ∷ past)
-begins_region past s = record {
-  dictionary = s.dictionary;
-  built = s.built;
-  blocks = s.blocks;
-  repeat = s.repeat;
-  aperture = s.aperture;
-  point = s.point;
-  contour = record { sound = record { start_on = s.point; segs_on = All-nil IsOnBoard; radii = refl; few = lit≤ tt }; ends = λ r. refl };
-}
+begins_region past s = grind (arith, All-nil)
 
 selects : (past : Past) (number : Option ℕ) → Sound past → least number_of (faults past (Says (Select number))) ≡ None
     → Sound (Says (Select number) ∷ past)
-selects past None s h = absurd cc
-selects past (Some n) s h =
-    let pass = pass_least (faults past (Says (Select (Some n)))) h in
-    record {
-      dictionary = s.dictionary;
-      built = s.built;
-      blocks = s.blocks;
-      repeat = s.repeat;
-      aperture = told (is_defined past n) pass.1.0;
-      point = s.point;
-      contour = s.contour;
-    }
+selects past number s h = grind (arith, pass_least, told)
 
 -- ---- blocks
 
 no_objects : (es : Pairs) (objects : List Object) (leaves : ℕ) → objects ≡ [] → leaves ≡ 0 → IsSoundOpen es objects leaves
-no_objects es objects leaves e k = subst (λ (p : List Object × ℕ). IsSoundOpen es p.0 p.1) (λ i. (sym e i, sym k i)) (record {
-  each = All-nil _;
-  few = lit≤ tt;
-  count = refl;
-  most = lit≤ tt;
-  depth = All-nil (λ o. object_depth (weight_in es) o ≤ 7);
-})
+no_objects es objects leaves e k = grind (arith, IsSoundOpen, All-nil)
 
 opens : (past : Past) (number : Option ℕ) → IfSome number IsEntryNumber → Sound past
     → least number_of (faults past (Says (OpenBlock number))) ≡ None → Sound (Says (OpenBlock number) ∷ past)
-opens past None within s h = absurd cc
-opens past (Some n) within s h =
-    let pass = pass_least (faults past (Says (OpenBlock (Some n)))) h in
-    let none = unused n past pass.1.0 in
-    record {
-      dictionary = s.dictionary;
-      built = s.built;
-      blocks = (
-        (
-          within,
-          no_objects (entries_in past) (home_objects (InBlock n) past) (home_leaves (InBlock n) past) none.objects none.leaves,
-        ),
-        s.blocks,
-      );
-      repeat = s.repeat;
-      aperture = s.aperture;
-      point = s.point;
-      contour = s.contour;
-    }
+opens past number within s h = grind (arith, pass_least, unused, no_objects)
 
 -- what is in hand behind a close of the innermost of these blocks
 abbrev closed_view : Past → List ℕ → View
@@ -176,24 +129,13 @@ closes_at past (n ∷ ns) some free blocks s =
     rest
 
 closes : (past : Past) → IsFaultless past → Sound past → least number_of (faults past (Says CloseBlock)) ≡ None → Sound (Says CloseBlock ∷ past)
-closes past faultless s h =
-    let pass = pass_least (faults past (Says CloseBlock)) h in
-    closes_at past (open_blocks past) (or_parts (in_region past) (is_left_out (open_blocks past)) pass.0).1
-    (stay_apart past faultless).entries s.blocks s
+closes past faultless s h = grind (arith, pass_least, closes_at, or_parts, stay_apart)
 
 -- ---- definitions
 
 pub defined_free : (past : Past) (d : Option Definition) (macros : List Macro) (unit : FileUnit) → is_taken_again past (numbered d) ≡ false
     → AllByRecursion (λ e. is_taken past e.0 ≡ false) (defined_by d macros unit)
-defined_free past None macros unit h = tt
-defined_free past (Some d) macros unit h =
-    by (defined_number d.number) (template_aperture d.name macros unit (unwrap_or (values_of d.parameters) [])) h
-  where
-    by : (n : Option ℕ) (a : Option Aperture) → is_taken_again past n ≡ false
-        → AllByRecursion (λ e. is_taken past e.0 ≡ false) (numbered_aperture n a)
-    by None a k = tt
-    by (Some n) None k = tt
-    by (Some n) (Some a) k = (k, tt)
+defined_free past d macros unit h = grind arith
 
 pub all_absent : (past : Past) (more : Pairs) → AllByRecursion (λ e. is_taken past e.0 ≡ false) more
     → AllByRecursion (λ e. lookup (nat_eq e.0) (entries_in past) ≡ None) more
@@ -223,26 +165,14 @@ settles_to : (past : Past) (r : Option RepeatView) (short : Bool)
     → (not short || holds_of_one (is_outside past) (closed_repeat past)) ≡ false
     → (not (is_left_out (closed_repeat past)) && is_layer_full past (closed_leaves past)) ≡ false → IsRepeatView (entries_in past) r
     → Sound past → IsSoundView (settled_view past r)
-settles_to past r short out full repeat s = record {
-  dictionary = s.dictionary;
-  built = settles past (open_repeat past) s.repeat
-      (or_parts (not short) (holds_of_one (is_outside past) (closed_repeat past)) out).1 full s.built;
-  blocks = s.blocks;
-  repeat = repeat;
-  aperture = s.aperture;
-  point = s.point;
-  contour = s.contour;
-}
+settles_to past r short out full repeat s = grind (arith, settles, or_parts)
 
 no_repeated : (es : Pairs) (objects : List Object) (leaves : ℕ) → objects ≡ [] → leaves ≡ 0 → IsSoundRepeated es objects leaves
-no_repeated es objects leaves e k =
-    subst (λ (p : List Object × ℕ). IsSoundRepeated es p.0 p.1) (λ i. (sym e i, sym k i))
-    (record { each = All-nil (IsMade es); few = lit≤ tt; count = refl })
+no_repeated es objects leaves e k = grind (arith, IsSoundRepeated, All-nil, IsMade)
 
 short_steps : (past : Past) (repeat : Repeat) → has_steps_on_board past repeat ≡ true
     → (unsigned_abs (step_written past repeat.i) < 1000000000) × (unsigned_abs (step_written past repeat.j) < 1000000000)
-short_steps past repeat h = let parts = and_parts (is_short (step_written past repeat.i)) (is_short (step_written past repeat.j)) h in
-    (ltb-true _ _ parts.0, ltb-true _ _ parts.1)
+short_steps past repeat h = grind (arith, and_parts, ltb-true)
 
 repeats : (past : Past) (repeat : Repeat) → Sound past → least number_of (faults past (Says (SetRepeat repeat))) ≡ None
     → Sound (Says (SetRepeat repeat) ∷ past)
@@ -312,15 +242,4 @@ sound_step past (NamesMacro name parts) within a s h = s
 sound_step past (Uncut code) within a s h = s
 
 pub at_start : Sound []
-at_start = record {
-  dictionary = λ k d low. absurd (omega (arith, low));
-  built = record { each = All-nil _; few = lit≤ tt; count = refl; most = lit≤ tt };
-  blocks = tt;
-  repeat = tt;
-  aperture = tt;
-  point = record { x = lit< tt; y = lit< tt };
-  contour = record {
-    sound = record { start_on = record { x = lit< tt; y = lit< tt }; segs_on = All-nil IsOnBoard; radii = refl; few = lit≤ tt };
-    ends = λ r. refl;
-  };
-}
+at_start = grind (arith, All-nil, ends)

@@ -1,13 +1,12 @@
 -- A layer that a file gives is sound.
-use Rattle.std.proofs.Common.{◌≡◌, ℕ, List, [], ◌∷◌, length, map, Bool, true, false, cond, Option, Some, None, Ok, Err, refl, subst, arith}
+use Rattle.std.proofs.Common.{◌≡◌, ℕ, List, [], ◌∷◌, length, map, Bool, true, false, cond, Option, Some, None, Ok, refl, subst, arith}
 use Rattle.std.specs.List.{AllByRecursion}
 use Rattle.std.specs.Option.{option_map, option_or}
 use Rattle.cam_words.specs.Reading.{WordAnswer, reading}
 use Rattle.cam_objects.specs.Attributes.{AreAttributes}
 use Rattle.cam_objects.specs.Soundness.{IsSoundContent}
-use Rattle.cam_commands.specs.Commands.{Command, DefineMacro}
-use Rattle.cam_commands.specs.Syntax.{command_of}
-use Rattle.cam_objects.specs.Contents.{Content, content_of}
+use Rattle.cam_commands.specs.Commands.{Command}
+use Rattle.cam_objects.specs.Contents.{Content}
 use Rattle.cam_refusals.specs.declared.refusal.Refusal.{Refusal}
 use Rattle.cam_refusals.specs.Checks.{least}
 use Rattle.cam_refusals.specs.FileFaults.{first_told}
@@ -29,21 +28,15 @@ use Rattle.cam_gerber.proofs.SoundPasts.{Sound, at_start, sound_step}
 -- ---- what is told names numbers of entries
 
 pub stated_within : (command : Command) → OpensWithin command → StatesWithin (statement_said command)
-stated_within (DefineMacro text) within = tt
-stated_within command within = within
+stated_within command within = grind arith
 
 told_within : (answer : WordAnswer) → StatesWithin (told_of answer).says
-told_within (Ok word) = stated_within (command_of word) (opens_within word)
-told_within (Err fault) = tt
+told_within answer = grind (arith, stated_within, opens_within)
 
 -- ---- the layer
 
 sound_lists : (past : Past) → Sound past → IsSoundContent (layer_in past).entries (layer_in past).items
-sound_lists past s = record {
-  entries = s.dictionary;
-  items = s.built.each;
-  limits = record { few = s.built.few; leaves = omega (arith, s.built.most, s.built.count) };
-}
+sound_lists past s = grind arith
 
 -- what a file gives has sound attributes, entries and items
 record IsSoundAnswer (content : Content) : Type 0 where
@@ -92,7 +85,4 @@ pub attributes_are_sound : (bytes : List ℕ) (content : Content) → Means byte
 attributes_are_sound bytes content h = (content_answer bytes content h).attributes
 
 pub reading_is_sound : GivesSoundLayers
-reading_is_sound bytes layer h = record {
-  attributes = attributes_are_sound bytes (content_of layer) h;
-  content = content_is_sound bytes (content_of layer) h;
-}
+reading_is_sound bytes layer h = grind (arith, attributes_are_sound, content_is_sound)

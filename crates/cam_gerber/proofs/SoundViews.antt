@@ -110,8 +110,7 @@ repeat_more es n e absent None h = tt
 repeat_more es n e absent (Some r) h = (h.0, repeated_more es n e absent r.objects r.leaves h.1)
 
 number_more : (es more : Pairs) (a : Option ℕ) → IsKnownNumber es a → IsKnownNumber (es ++ more) a
-number_more es more None h = tt
-number_more es more (Some n) h = known_more es more n h
+number_more es more a h = grind (arith, known_more)
 
 pub grown : (v : View) (n : ℕ) (e : Entry) → MayAddEntry v.entries n e → IsSoundView v → IsSoundView (with_entries v ((n, e) ∷ []))
 grown v n e may s = record {
@@ -175,15 +174,12 @@ repeat_with past more o =
 pub made_repeat : (past : Past) (more : List Object) → AreFit past more (home past) → (r : Option Opened)
     → IsRepeatView (entries_in past) (option_map (repeat_at past) r)
     → IsRepeatView (entries_in past) (option_map (repeat_with past more) r)
-made_repeat past more fit None h = tt
-made_repeat past more fit (Some o) h =
-    (h.0, joined_repeat past o.before more (is_same_home (home past) (InRepeat o.before)) (fit_at past more (InRepeat o.before) fit) h.1)
+made_repeat past more fit r h = grind (arith, joined_repeat, fit_at)
 
 -- ---- a repeat that is closed
 
 under : (a b : Bool) → (not a && b) ≡ false → a ≡ false → b ≡ false
-under true b h e = absurd cc
-under false b h e = h
+under a b h e = grind arith
 
 pub inside : (past : Past) (item : Item) → is_outside past item ≡ false → AreOnBoard (item_leaves (meaning_in (entries_in past)) item)
 unfolding is_outside
@@ -201,11 +197,7 @@ pub settles : (past : Past) (r : Option Opened) → IsRepeatView (entries_in pas
     → (not (is_left_out (closed_by past r)) && is_layer_full past (copied_leaves past r)) ≡ false
     → IsSoundBuilt (entries_in past) (items_in past) (leaves_in past)
     → IsSoundBuilt (entries_in past) (items_in past ++ closed_by past r) (leaves_in past + copied_leaves past r)
-settles past None h out full s =
-    subst (λ (p : List Item × ℕ). IsSoundBuilt (entries_in past) p.0 p.1) (λ i. (sym (append-nil (items_in past)) i, zero_more i)) s
-  where
-    zero_more : leaves_in past ≡ leaves_in past + 0
-    zero_more = omega arith
+settles past None h out full s = grind (arith, IsSoundBuilt, append-nil)
 settles past (Some o) h out full s =
     settled (entries_in past) (items_in past) (leaves_in past) o (home_objects (InRepeat o.before) past)
     (home_leaves (InRepeat o.before) past) h.0 h.1 s room

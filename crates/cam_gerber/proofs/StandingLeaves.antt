@@ -28,7 +28,6 @@ use Rattle.cam_objects.specs.Leaves.{
 use Rattle.cam_objects.specs.Soundness.{AreOnBoard, points_of, points_of_seg, points_of_shape}
 use Rattle.cam_objects.proofs.Placed.{turned_on_board}
 use Rattle.cam_objects.specs.declared.tip.Tip.{Tip}
-use Rattle.cam_objects.specs.declared.tip.Tip.TheVariants.{Round, Rectangular}
 use Rattle.cam_units.specs.declared.turn.Turn.{Turn}
 use Rattle.cam_objects.specs.Turning.{after}
 
@@ -42,14 +41,11 @@ one : (l : Leaf) → IsLeafOnBoard l → AreOnBoard (l ∷ [])
 one l h = All-cons IsLeafOnBoard l [] h (All-nil IsLeafOnBoard)
 
 ends : (tip : Tip) (from to : Point) → IsOnBoard from → IsOnBoard to → All IsOnBoard (points_of_shape (drawn tip from to))
-ends (Round width) from to h k = All-cons IsOnBoard from (to ∷ []) h (All-cons IsOnBoard to [] k (All-nil IsOnBoard))
-ends (Rectangular width height) from to h k =
-    All-cons IsOnBoard from (to ∷ []) h (All-cons IsOnBoard to [] k (All-nil IsOnBoard))
+ends tip from to h k = grind (arith, All-cons, All-nil)
 
 straight : (tip : Option Tip) (t : Turn) (from to : Point) (dark : Bool) → IsOnBoard from → IsOnBoard to
     → AreOnBoard (draw_leaves tip t from to dark)
-straight None t from to dark h k = All-nil IsLeafOnBoard
-straight (Some tip) t from to dark h k = one _ (ends (turned_tip t tip) from to h k)
+straight tip t from to dark h k = grind (arith, All-nil, one, ends)
 
 arced : (width : Option Nm) (from to centre : Point) (ccw dark : Bool) → IsOnBoard from → IsOnBoard to → IsOnBoard centre
     → AreOnBoard (arc_leaves width from to centre ccw dark)

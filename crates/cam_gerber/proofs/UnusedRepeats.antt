@@ -1,13 +1,13 @@
 -- Nothing was made in a repeat that is not yet open.
-use Rattle.std.proofs.Common.{◌≡◌, ℕ, ◌+◌, ◌<◌, ◌≤◌, List, [], ◌∷◌, ◌++◌, length, Bool, true, false, cond, Option, Some}
-use Rattle.std.proofs.Common.{None, refl, ◌∙◌, arith, append-nil}
+use Rattle.std.proofs.Common.{◌≡◌, ℕ, ◌+◌, ◌<◌, ◌≤◌, List, [], ◌∷◌, ◌++◌, length, Bool, false, cond, Option, Some}
+use Rattle.std.proofs.Common.{None, refl, arith, append-nil}
 use Rattle.std.proofs.lemmas.Bool.{ne_eqb}
 use Rattle.cam_objects.specs.declared.object.Object.{Object}
 use Rattle.cam_objects.specs.Weights.{block_count, weight_in}
 use Rattle.cam_commands.specs.Commands.{SetRepeat, CloseRepeat, End, EndRegion, Operate}
 use Rattle.cam_gerber.specs.Statements.{Says}
 use Rattle.cam_gerber.specs.State.{Past}
-use Rattle.cam_gerber.specs.Homes.{Home, InRepeat, Opened, open_blocks, open_repeat, repeat_opened, has_copies, home, home_by, is_same_home}
+use Rattle.cam_gerber.specs.Homes.{Home, InRepeat, Opened, open_blocks, open_repeat, home, home_by, is_same_home}
 use Rattle.cam_gerber.specs.Making.{made, home_objects}
 use Rattle.cam_gerber.specs.Layers.{entries_in, home_leaves}
 
@@ -18,8 +18,7 @@ pub record IsEmptyHome (past : Past) (h : Home) : Type 0 where
 
 none_added : (past : Past) (h : Home) (more : List Object) (b : Bool) → b ≡ false → IsEmptyHome past h
     → (home_objects h past ++ cond b more [] ≡ []) × (home_leaves h past + block_count (weight_in (entries_in past)) (cond b more []) ≡ 0)
-none_added past h more true e u = absurd cc
-none_added past h more false e u = (append-nil (home_objects h past) ∙ u.objects, omega (arith, u.leaves))
+none_added past h more b e u = grind (arith, append-nil)
 
 -- the open repeat was opened behind fewer commands
 abbrev IsOpenedBefore : ℕ → Option Opened → Type 0
@@ -27,25 +26,18 @@ IsOpenedBefore len None = Unit {0}
 IsOpenedBefore len (Some o) = o.before < len
 
 later : (m n : ℕ) (o : Option Opened) → m ≤ n → IsOpenedBefore m o → IsOpenedBefore n o
-later m n None le h = tt
-later m n (Some o) le h = omega (arith, le, h)
+later m n o le h = grind arith
 
 opened_before : (past : Past) → IsOpenedBefore (length past) (open_repeat past)
 opened_before [] = tt
-opened_before (Says (SetRepeat repeat) ∷ past) = by (has_copies repeat)
-  where
-    by : (b : Bool) → IsOpenedBefore (length (Says (SetRepeat repeat) ∷ past)) (cond b (Some (repeat_opened past repeat)) None)
-    by true = omega arith
-    by false = tt
+opened_before (Says (SetRepeat repeat) ∷ past) = grind arith
 opened_before (Says CloseRepeat ∷ past) = tt
 opened_before (Says End ∷ past) = tt
 opened_before (says ∷ past) = later (length past) (length (says ∷ past)) (open_repeat past) (omega arith) (opened_before past)
 
 other_repeat : (before : ℕ) (ns : List ℕ) (repeat : Option Opened) (len : ℕ) → IsOpenedBefore len repeat → len ≤ before
     → is_same_home (home_by ns repeat) (InRepeat before) ≡ false
-other_repeat before [] None len h le = refl
-other_repeat before [] (Some o) len h le = ne_eqb o.before before (λ e. absurd (omega (arith, e, h, le)))
-other_repeat before (n ∷ ns) repeat len h le = refl
+other_repeat before ns repeat len h le = grind (arith, ne_eqb)
 
 pub unused_repeat : (past : Past) (before : ℕ) → length past ≤ before → IsEmptyHome past (InRepeat before)
 unused_repeat [] before le = record { objects = refl; leaves = refl }

@@ -1,7 +1,7 @@
 -- A text has one cutting into lines, and that is the computed one.
-use Rattle.std.proofs.Common.{◌≡◌, ◌≢◌, ℕ, suc, ◌+◌, ◌-◌, ◌<◌, ◌≤◌, not, List, [], ◌∷◌, ◌++◌, length, take, drop, Bool}
-use Rattle.std.proofs.Common.{true, false, cond, eqb, refl, sym, ap, ◌∙◌, subst, arith, length-append, append_assoc}
-use Rattle.std.proofs.Common.{append-nil, inl, inr}
+use Rattle.std.proofs.lemmas.Grind.{common_steps}
+use Rattle.std.proofs.Common.{◌≡◌, ℕ, suc, ◌+◌, ◌-◌, ◌<◌, ◌≤◌, not, List, [], ◌∷◌, ◌++◌, length, take, drop, Bool, true, false}
+use Rattle.std.proofs.Common.{cond, eqb, refl, sym, ap, ◌∙◌, subst, arith, length-append, append_assoc, append-nil, inl, inr}
 use Rattle.std.specs.List.{flat_map, AllByRecursion, position_or_len}
 use Rattle.std.proofs.lemmas.List.{take-append-drop, drop-drop, length-take-le, take_rest}
 use Rattle.std.proofs.lemmas.Bool.Decides.{eqb_tells}
@@ -18,10 +18,7 @@ data Front (byte : ℕ) : Type 0 where
   IsOther : eqb byte 10 ≡ false → eqb byte 13 ≡ false → Front byte
 
 front : (byte : ℕ) → Front byte
-front byte = elim (eqb_tells byte 10) [
-  | inl h ↦ IsFeed h.1
-  | inr h ↦ elim (eqb_tells byte 13) [ inl k ↦ IsReturn k.1 | inr k ↦ IsOther h.0 k.0 ]
-]
+front byte = grind (arith, eqb_tells)
 
 cut-other : (byte : ℕ) (text : List ℕ) → eqb byte 10 ≡ false → eqb byte 13 ≡ false → cut (byte ∷ text) ≡ onto_line byte (cut text)
 unfolding cut
@@ -41,44 +38,19 @@ cut-nil = refl
 
 -- CR before lines that do not begin with LF
 return_alone : (lines : List TextLine) → ¬ BeginsWithFeed lines → return_before lines ≡ empty_line CarriageReturn ∷ lines
-return_alone [] never = refl
-return_alone (line ∷ lines) never = go line.text line.ending never
-  where
-    go : (text : List ℕ) (ending : LineEnd) → ¬ ((text ≡ []) × (ending ≡ LineFeed))
-        → return_before (record { text = text; ending = ending } ∷ lines)
-        ≡ empty_line CarriageReturn ∷ record { text = text; ending = ending } ∷ lines
-    go [] LineFeed never = absurd (never (refl, refl))
-    go [] CarriageReturn never = refl
-    go [] ReturnAndFeed never = refl
-    go [] InputEnd never = refl
-    go (byte ∷ text) LineFeed never = refl
-    go (byte ∷ text) CarriageReturn never = refl
-    go (byte ∷ text) ReturnAndFeed never = refl
-    go (byte ∷ text) InputEnd never = refl
+return_alone lines never = grind arith
 
 -- what stands before a line end belongs to its line
 onto_text : (front text : List ℕ) (ending : LineEnd) (lines : List TextLine) → AllByRecursion (λ byte. is_line_end byte ≡ false) front
     → cut text ≡ record { text = []; ending = ending } ∷ lines → cut (front ++ text) ≡ record { text = front; ending = ending } ∷ lines
 onto_text [] text ending lines all e = e
-onto_text (byte ∷ bytes) text ending lines all e = elim (front byte) [
-  | IsFeed h ↦ absurd (let wrong : is_line_end 10 ≡ false = subst (λ (b : ℕ). is_line_end b ≡ false) h all.0 in cc)
-  | IsReturn h ↦ absurd (let wrong : is_line_end 13 ≡ false = subst (λ (b : ℕ). is_line_end b ≡ false) h all.0 in cc)
-  | IsOther h k ↦ cut-other byte (bytes ++ text) h k ∙ ap (onto_line byte) (onto_text bytes text ending lines all.1 e)
-]
+onto_text (byte ∷ bytes) text ending lines all e = grind (arith, front, cut-other, onto_text bytes text ending lines all.1 e)
 
 last_text : (text : List ℕ) → AllByRecursion (λ byte. is_line_end byte ≡ false) text → 0 < length text
     → cut text ≡ record { text = text; ending = InputEnd } ∷ []
 last_text [] all h = absurd (omega (arith, h))
-last_text (byte ∷ []) all h = elim (front byte) [
-  | IsFeed h ↦ absurd (let wrong : is_line_end 10 ≡ false = subst (λ (b : ℕ). is_line_end b ≡ false) h all.0 in cc)
-  | IsReturn h ↦ absurd (let wrong : is_line_end 13 ≡ false = subst (λ (b : ℕ). is_line_end b ≡ false) h all.0 in cc)
-  | IsOther h k ↦ cut-other byte [] h k ∙ ap (onto_line byte) cut-nil
-]
-last_text (byte ∷ next ∷ text) all h = elim (front byte) [
-  | IsFeed h ↦ absurd (let wrong : is_line_end 10 ≡ false = subst (λ (b : ℕ). is_line_end b ≡ false) h all.0 in cc)
-  | IsReturn h ↦ absurd (let wrong : is_line_end 13 ≡ false = subst (λ (b : ℕ). is_line_end b ≡ false) h all.0 in cc)
-  | IsOther h k ↦ cut-other byte (next ∷ text) h k ∙ ap (onto_line byte) (last_text (next ∷ text) all.1 (omega arith))
-]
+last_text (byte ∷ []) all h = grind (arith, front, cut-other, cut-nil)
+last_text (byte ∷ next ∷ text) all h = grind (arith, front, cut-other, last_text (next ∷ text) all.1 (omega arith))
 
 -- the lines of a cutting are found again
 cut_line : (text : List ℕ) (ending : LineEnd) (lines : List TextLine) → AllByRecursion (λ byte. is_line_end byte ≡ false) text
@@ -98,10 +70,7 @@ cut_line text ReturnAndFeed lines all here more =
     ∙ onto_text text (13 ∷ 10 ∷ flat_map line_bytes lines) ReturnAndFeed lines all
     (cut-return (10 ∷ flat_map line_bytes lines) ∙ ap return_before (cut-feed (flat_map line_bytes lines))
     ∙ ap (λ (ls : List TextLine). empty_line ReturnAndFeed ∷ ls) more)
-cut_line text InputEnd lines all here more =
-    let none : flat_map line_bytes lines ≡ [] = ap (flat_map line_bytes) here.1 in
-    ap cut (append_assoc text [] (flat_map line_bytes lines) ∙ ap (λ (bytes : List ℕ). text ++ bytes) none ∙ append-nil text)
-    ∙ last_text text all here.0 ∙ ap (λ (ls : List TextLine). record { text = text; ending = InputEnd } ∷ ls) (sym here.1)
+cut_line text InputEnd lines all here more = grind (arith, append_assoc, append-nil, last_text)
 
 cut_again : (lines : List TextLine) → AllByRecursion IsLine lines → AreEnded lines → cut (flat_map line_bytes lines) ≡ lines
 cut_again [] each ended = cut-nil
@@ -113,57 +82,18 @@ feed_before text lines is = record { joined = ap (λ (bytes : List ℕ). 10 ∷ 
 
 alone : (text : List ℕ) (lines : List TextLine) → ¬ BeginsWithFeed lines → IsLineCutting text lines
     → IsLineCutting (13 ∷ text) (return_before lines)
-alone text lines never is =
-    subst (IsLineCutting (13 ∷ text)) (sym (return_alone lines never))
-    (record { joined = ap (λ (bytes : List ℕ). 13 ∷ bytes) is.joined; each = (tt, is.each); ended = (never, is.ended) })
+alone text lines never is = grind (arith, return_alone)
 
 return_onto_cutting : (text : List ℕ) (lines : List TextLine) → IsLineCutting text lines → IsLineCutting (13 ∷ text) (return_before lines)
-return_onto_cutting text [] is = alone text [] (λ never. never) is
-return_onto_cutting text (first ∷ lines) is = go first.text first.ending is
-  where
-    go : (front : List ℕ) (ending : LineEnd) → IsLineCutting text (record { text = front; ending = ending } ∷ lines)
-        → IsLineCutting (13 ∷ text) (return_before (record { text = front; ending = ending } ∷ lines))
-    go [] LineFeed is = record { joined = ap (λ (bytes : List ℕ). 13 ∷ bytes) is.joined; each = (tt, is.each.1); ended = (tt, is.ended.1) }
-    go [] CarriageReturn is = alone text _ (λ never. absurd (let wrong : CarriageReturn ≡ LineFeed = never.1 in cc)) is
-    go [] ReturnAndFeed is = alone text _ (λ never. absurd (let wrong : ReturnAndFeed ≡ LineFeed = never.1 in cc)) is
-    go [] InputEnd is = alone text _ (λ never. absurd (let wrong : InputEnd ≡ LineFeed = never.1 in cc)) is
-    go (byte ∷ front) ending is = alone text _ (λ never. absurd (let wrong : byte ∷ front ≡ [] = never.0 in cc)) is
+return_onto_cutting text lines is = grind (arith, alone, front)
 
 no_end : (byte : ℕ) → eqb byte 10 ≡ false → eqb byte 13 ≡ false → is_line_end byte ≡ false
 no_end byte h k = rw (h, k) refl
 
-onto_cutting : (byte : ℕ) (text : List ℕ) (lines : List TextLine) → is_line_end byte ≡ false → IsLineCutting text lines
-    → IsLineCutting (byte ∷ text) (onto_line byte lines)
-onto_cutting byte text [] h is =
-    record { joined = ap (λ (bytes : List ℕ). byte ∷ bytes) is.joined; each = ((h, tt), tt); ended = ((omega arith, refl), tt) }
-onto_cutting byte text (first ∷ lines) h is = go first.text first.ending is
-  where
-    go : (front : List ℕ) (ending : LineEnd) → IsLineCutting text (record { text = front; ending = ending } ∷ lines)
-        → IsLineCutting (byte ∷ text) (record { text = byte ∷ front; ending = ending } ∷ lines)
-    go front LineFeed is =
-        record { joined = ap (λ (bytes : List ℕ). byte ∷ bytes) is.joined; each = ((h, is.each.0), is.each.1); ended = (tt, is.ended.1) }
-    go front CarriageReturn is =
-        record { joined = ap (λ (bytes : List ℕ). byte ∷ bytes) is.joined; each = ((h, is.each.0), is.each.1); ended = is.ended }
-    go front ReturnAndFeed is =
-        record { joined = ap (λ (bytes : List ℕ). byte ∷ bytes) is.joined; each = ((h, is.each.0), is.each.1); ended = (tt, is.ended.1) }
-    go front InputEnd is =
-        record {
-          joined = ap (λ (bytes : List ℕ). byte ∷ bytes) is.joined;
-          each = ((h, is.each.0), is.each.1);
-          ended =
-              ((omega arith, is.ended.0.1), is.ended.1);
-        }
-
 pub cut_is_cutting : (text : List ℕ) → IsLineCutting text (cut text)
 cut_is_cutting [] = subst (IsLineCutting []) (sym cut-nil) (record { joined = refl; each = tt; ended = tt })
-cut_is_cutting (byte ∷ text) = elim (front byte) [
-  | IsFeed h ↦ subst (λ (b : ℕ). IsLineCutting (b ∷ text) (cut (b ∷ text))) (sym h)
-      (subst (IsLineCutting (10 ∷ text)) (sym (cut-feed text)) (feed_before text (cut text) (cut_is_cutting text)))
-  | IsReturn h ↦ subst (λ (b : ℕ). IsLineCutting (b ∷ text) (cut (b ∷ text))) (sym h)
-      (subst (IsLineCutting (13 ∷ text)) (sym (cut-return text)) (return_onto_cutting text (cut text) (cut_is_cutting text)))
-  | IsOther h k ↦ subst (IsLineCutting (byte ∷ text)) (sym (cut-other byte text h k))
-      (onto_cutting byte text (cut text) (no_end byte h k) (cut_is_cutting text))
-]
+cut_is_cutting (byte ∷ text) =
+    grind (arith, front, cut-feed, feed_before, cut-return, return_onto_cutting, cut-other, cut_is_cutting text)
 
 pub one_cutting : OneCutting
 one_cutting text = (cut_is_cutting text, λ others is. sym (cut_again others is.each is.ended) ∙ ap cut (sym is.joined))
@@ -198,11 +128,7 @@ feed_first (first ∷ lines) h = (
 )
 
 no_feed : (byte : ℕ) (text : List ℕ) → eqb byte 10 ≡ false → ¬ BeginsWithFeed (cut (byte ∷ text))
-no_feed byte text h begins =
-    let first = feed_first (cut (byte ∷ text)) begins in
-    let same : byte ∷ text ≡ 10 ∷ first.0 = (cut_is_cutting (byte ∷ text)).joined ∙ first.1 in
-    let ten : byte ≡ 10 = cc in
-    absurd (let wrong : eqb 10 10 ≡ false = subst (λ (b : ℕ). eqb b 10 ≡ false) ten h in cc)
+no_feed byte text h begins = grind (arith, feed_first, cut_is_cutting)
 
 -- the line end at the front
 record IsEnd (text : List ℕ) : Type 0 where
@@ -211,13 +137,7 @@ record IsEnd (text : List ℕ) : Type 0 where
   len : length (bytes_of_end ending) ≡ end_len text
 
 return_end : (text : List ℕ) → IsEnd (13 ∷ text)
-return_end [] =
-    record {
-      ending = CarriageReturn;
-      cuts = cut-return [] ∙ ap return_before cut-nil
-          ∙ ap (λ (ls : List TextLine). empty_line CarriageReturn ∷ ls) (sym cut-nil);
-      len = refl;
-    }
+return_end [] = grind (arith, cut-return, cut-nil)
 return_end (byte ∷ text) = elim (eqb_tells byte 10) [
   | inl h ↦ subst (λ (b : ℕ). IsEnd (13 ∷ b ∷ text)) (sym h.1)
       (record { ending = ReturnAndFeed; cuts = cut-return (10 ∷ text) ∙ ap return_before (cut-feed text); len = refl })
@@ -231,11 +151,7 @@ return_end (byte ∷ text) = elim (eqb_tells byte 10) [
 ]
 
 end_at : (byte : ℕ) (text : List ℕ) → is_line_end byte ≡ true → IsEnd (byte ∷ text)
-end_at byte text is = elim (front byte) [
-  | IsFeed h ↦ subst (λ (b : ℕ). IsEnd (b ∷ text)) (sym h) (record { ending = LineFeed; cuts = cut-feed text; len = refl })
-  | IsReturn h ↦ subst (λ (b : ℕ). IsEnd (b ∷ text)) (sym h) (return_end text)
-  | IsOther h k ↦ absurd (let wrong = no_end byte h k in cc)
-]
+end_at byte text is = grind (arith, front, cut-feed, return_end, no_end)
 
 -- the line at the front of a text, of so many bytes without its end
 record IsNext (text : List ℕ) (len : ℕ) : Type 0 where
@@ -282,19 +198,14 @@ found_next at len text some is within =
     ∙ ap (λ (n : ℕ). record { text = take len text; at = at } ∷ found_at n (cut (drop (len + end_len (drop len text)) text))) size
 
 pub nothing_left : (at : ℕ) (text : List ℕ) → length text ≡ 0 → found_at at (cut text) ≡ []
-nothing_left at [] is = ap (found_at at) cut-nil
-nothing_left at (byte ∷ text) is = absurd (omega (arith, is))
+nothing_left at text is = grind (arith, common_steps, cut-nil)
 
 pub some_left : (n : ℕ) (empty : Bool) → empty ≡ eqb n 0 → empty ≡ false → 0 < n
-some_left n empty is no_more =
-    elim (eqb_tells n 0)
-    [ inl h ↦ absurd (let wrong : true ≡ false = sym h.0 ∙ sym is ∙ no_more in cc) | inr h ↦ (let some : n ≢ 0 = h.1 in omega arith) ]
+some_left n empty is no_more = grind (arith, eqb_tells)
 
 -- the same, of slices
 pub given_next : (at len after : ℕ) (text : List ℕ) → 0 < length text → len ≡ position_or_len is_line_end text → len ≤ length text
     → after ≡ end_len (take (length text - len) (drop len text))
     → found_at at (cut text) ≡ record { text = take len text; at = at }
     ∷ found_at (at + (len + after)) (cut (take (length text - (len + after)) (drop (len + after) text)))
-given_next at len after text some is within ends =
-    let end : after ≡ end_len (drop len text) = ends ∙ ap end_len (take_rest text len) in
-    rw (take_rest text (len + after), end) (found_next at len text some is within)
+given_next at len after text some is within ends = grind (arith, take_rest, found_next)

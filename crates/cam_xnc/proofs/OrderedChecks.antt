@@ -1,6 +1,6 @@
 -- The checks of a line, and of the end, have ascending numbers, so that the first that holds is told. None is that memory
 -- was refused, or that a file could not be read.
-use Rattle.std.proofs.Common.{◌≡◌, ℕ, List, [], ◌∷◌, Bool, true, false, cond, not, refl, inl, inr}
+use Rattle.std.proofs.Common.{arith, ◌≡◌, ℕ, List, [], ◌∷◌, Bool, true, false, cond, not, refl, inl, inr}
 use Rattle.std.specs.Prelude.{◌&&◌}
 use Rattle.std.specs.List.{list_all}
 use Rattle.std.proofs.lemmas.Bool.{and_parts}
@@ -12,9 +12,7 @@ use Rattle.cam_refusals.specs.FileFaults.{IsFileFault}
 use Rattle.cam_refusals.specs.Refusals.{is_same, number_of}
 use Rattle.cam_refusals.proofs.Checks.{each_has, is_ascending, least_is_first}
 use Rattle.cam_xnc.specs.declared.modes.Part.{Part}
-use Rattle.cam_xnc.specs.declared.modes.Part.TheVariants.{Start, Header, Body}
 use Rattle.cam_xnc.specs.declared.statement.Statement.{Statement}
-use Rattle.cam_xnc.specs.declared.statement.Statement.TheVariants.{BeginHeader, Neutral}
 use Rattle.cam_xnc.specs.DrillState.{DrillPast, part_in}
 use Rattle.cam_xnc.specs.Faults.{checks_by, end_checks}
 use Rattle.cam_xnc.specs.Lines.{FoundLine}
@@ -28,12 +26,7 @@ abbrev is_ordered : Checks Refusal → Bool
 is_ordered list = is_ascending number_of 1 list && list_all (λ c. is_own c.0) list
 
 ordered_by : (part : Part) (past : DrillPast) (says : Statement) → is_ordered (checks_by part past says) ≡ true
-ordered_by Start past BeginHeader = refl
-ordered_by Start past _ = refl
-ordered_by Header past Neutral = refl
-ordered_by Header past _ = refl
-ordered_by Body past Neutral = refl
-ordered_by Body past _ = refl
+ordered_by part past says = grind arith
 
 line_ordered : (past : DrillPast) (line : FoundLine) → is_ordered (line_checks past line) ≡ true
 line_ordered past line = ordered_by (part_in past) past (line_said line)

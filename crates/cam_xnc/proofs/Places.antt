@@ -1,14 +1,14 @@
 -- The places of a file ascend: those of its lines lie within it, and its end behind them.
-use Rattle.std.proofs.Common.{◌≡◌, ℕ, suc, ◌+◌, ◌<◌, ◌≤◌, List, [], ◌∷◌, length, Bool, true, false, cond, refl, ap, arith}
+use Rattle.std.proofs.Common.{◌≡◌, ℕ, suc, ◌+◌, ◌<◌, ◌≤◌, List, [], ◌∷◌, length, Bool, true, false, cond, refl, arith}
 use Rattle.std.proofs.Common.{length-append, length-take}
 use Rattle.std.specs.Prelude.{filter, ◌&&◌}
-use Rattle.std.specs.List.{flat_map, prefix_len, position_or_len}
+use Rattle.std.specs.List.{flat_map, prefix_len}
 use Rattle.std.proofs.lemmas.Bool.{not-true}
 use Rattle.cam_refusals.specs.FileFaults.{AscendFrom}
 use Rattle.cam_refusals.proofs.FileFaults.{ascend_lower}
-use Rattle.cam_xnc.specs.Bytes.{is_line_blank, is_semicolon, is_blank, code_of}
+use Rattle.cam_xnc.specs.Bytes.{is_line_blank, is_blank}
 use Rattle.cam_xnc.specs.DrillState.{DrillPast}
-use Rattle.cam_xnc.specs.Lines.{TextLine, line_bytes, bytes_of_end, FoundLine, cut, found_at}
+use Rattle.cam_xnc.specs.Lines.{TextLine, line_bytes, bytes_of_end, FoundLine, found_at}
 use Rattle.cam_xnc.specs.Reading.{is_told, is_last_line, line_place, drill_places_from, places_of, line_said, through_end}
 use Rattle.cam_xnc.proofs.Cuttings.{cut_is_cutting}
 
@@ -22,18 +22,12 @@ unskipped (byte ∷ code) h =
 
 -- a line that is told has a byte at its place
 in_line : (line : FoundLine) → is_told line ≡ true → line_place line < line.at + length line.text
-in_line line h =
-    omega (
-      arith,
-      unskipped (code_of line.text) (not-true (is_blank (code_of line.text)) h),
-      length-take (position_or_len is_semicolon line.text) line.text,
-    )
+in_line line h = grind (arith, unskipped, not-true, length-take)
 
 -- behind M30 stands no place
 through : (low len : ℕ) (past : DrillPast) (lines : List FoundLine) (ends : Bool) → AscendFrom low (drill_places_from len past lines)
     → AscendFrom low (cond ends [] (drill_places_from len past (cond ends [] lines)))
-through low len past lines true up = tt
-through low len past lines false up = up
+through low len past lines ends up = grind arith
 
 ascend : (lines : List TextLine) (at len : ℕ) (past : DrillPast) → at + length (flat_map line_bytes lines) ≤ len
     → AscendFrom at (drill_places_from len past (through_end (filter is_told (found_at at lines))))
@@ -55,6 +49,4 @@ ascend (line ∷ lines) at len past fits =
     ]) refl
 
 pub places_ascend : (bytes : List ℕ) → AscendFrom 0 (places_of bytes)
-places_ascend bytes =
-    let size : length bytes ≡ length (flat_map line_bytes (cut bytes)) = ap length (cut_is_cutting bytes).joined in
-    ascend (cut bytes) 0 (length bytes) [] (omega (arith, size))
+places_ascend bytes = grind (arith, cut_is_cutting, ascend)

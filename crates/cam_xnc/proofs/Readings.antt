@@ -1,6 +1,6 @@
 -- A reading, one line after the other.
-use Rattle.std.proofs.Common.{◌≡◌, ℕ, ◌+◌, List, [], ◌∷◌, Bool, true, false, cond, not, Option, Some, None, Result, Ok, Err}
-use Rattle.std.proofs.Common.{refl, sym, ap, ◌∙◌, length}
+use Rattle.std.proofs.Common.{arith, ◌≡◌, ℕ, ◌+◌, List, [], ◌∷◌, Bool, true, false, cond, Option, Some, None, Result, Ok, Err}
+use Rattle.std.proofs.Common.{refl, ◌∙◌, length}
 use Rattle.std.specs.Prelude.{filter, if◌then◌else◌}
 use Rattle.std.specs.Option.{option_map, option_or}
 use Rattle.std.specs.List.{list_any, prefix_len}
@@ -17,7 +17,7 @@ use Rattle.cam_xnc.specs.Syntax.{statement_of}
 use Rattle.cam_xnc.specs.Lines.{FoundLine, lines_of}
 use Rattle.cam_xnc.specs.DrillState.{DrillPast, drill_layer_in}
 use Rattle.cam_xnc.specs.Faults.{checks}
-use Rattle.cam_xnc.specs.Reading.{is_told, line_place, line_said, is_last_line, is_end_statement, through_end, line_checks, drill_places_from}
+use Rattle.cam_xnc.specs.Reading.{is_told, line_place, line_said, is_last_line, is_end_statement, through_end, drill_places_from}
 use Rattle.cam_xnc.specs.Reading.{drill_past_from, drill_layer_unless, reading_from, drill_reading_of}
 use Rattle.cam_xnc.specs.Machinery.Tracking.{Tracks}
 use Rattle.cam_xnc.proofs.OrderedChecks.{first_of_line}
@@ -56,18 +56,11 @@ told_then len past at o ends lines =
 
 by_told : (len : ℕ) (past : DrillPast) (at : ℕ) (o : Option Refusal) (ends : Bool) (lines : List FoundLine)
     → told_then len past at o ends lines ≡ unless_refused at o (cond ends (Ok (drill_layer_in past)) (reading_from len past lines))
-by_told len past at (Some refusal) ends lines = refl
-by_told len past at None true lines = refl
-by_told len past at None false lines = refl
+by_told len past at o ends lines = grind arith
 
 pub goes_by : (len : ℕ) (past : DrillPast) (line : FoundLine) (lines : List FoundLine) → is_told line ≡ true
     → goes_on len past (line ∷ lines) ≡ leads_to len past (line_place line) (list_any is_bad (code_of line.text)) (line_said line) lines
-goes_by len past line lines h =
-    let rest = filter is_told lines in
-    ap (λ (b : Bool). reading_from len past (through_end (cond b (line ∷ rest) rest))) h
-    ∙ ap (λ (o : Option Refusal). told_then len (line_said line ∷ past) (line_place line) o (is_last_line line) (through_end rest))
-    (first_of_line past line)
-    ∙ by_told len (line_said line ∷ past) (line_place line) (first_holding (line_checks past line)) (is_last_line line) (through_end rest)
+goes_by len past line lines h = grind (arith, first_of_line, by_told)
 
 -- past a line without a fault
 pub goes_past : (len : ℕ) (past : DrillPast) (line : FoundLine) (lines : List FoundLine) → is_told line ≡ true
@@ -86,12 +79,7 @@ pub takes : (bytes : List ℕ) (past : DrillPast) (line : FoundLine) (lines rest
     (says : Statement) → drill_reading_of bytes ≡ goes_on (length bytes) past lines → lines ≡ line ∷ rest
     → code ≡ code_of line.text → is_blank code ≡ false → skipped ≡ prefix_len is_line_blank code → says ≡ statement_of (line_packed code)
     → drill_reading_of bytes ≡ leads_to (length bytes) past (line.at + skipped) (list_any is_bad code) says rest
-takes bytes past line lines rest code skipped says reads begins is_code some before says_so =
-    let at_code = λ (c : List ℕ).
-    leads_to (length bytes) past (line.at + prefix_len is_line_blank c) (list_any is_bad c) (statement_of (line_packed c)) rest in
-    reads ∙ ap (goes_on (length bytes) past) begins
-    ∙ goes_by (length bytes) past line rest (ap (λ (c : List ℕ). not (is_blank c)) (sym is_code) ∙ ap not some)
-    ∙ ap at_code (sym is_code) ∙ rw (before, says_so) refl
+takes bytes past line lines rest code skipped says reads begins is_code some before says_so = grind (arith, goes_by)
 
 -- the layer of the state
 pub layer_is : (past : DrillPast) (s : DrillState) → Tracks past s → drill_content_of s.layer ≡ drill_layer_in past

@@ -1,16 +1,15 @@
 -- The layers that files give are sound.
-use Rattle.std.proofs.Common.{◌≡◌, ℕ, ◌+◌, ◌<◌, ◌≤◌, List, [], ◌∷◌, ◌++◌, length, Bool, true, false, cond, not, eqb}
-use Rattle.std.proofs.Common.{leb, ltb, nat_eq, Option, Some, None, refl, arith, lit≤, is_some, is_none, length-append}
-use Rattle.std.specs.Prelude.{ℤ, pos, negsuc, ◌&&◌, unwrap_or, IfSome, unsigned_abs}
+use Rattle.std.proofs.Common.{◌≡◌, ℕ, ◌+◌, ◌<◌, ◌≤◌, List, [], ◌∷◌, ◌++◌, length, Bool, true, false, cond, not}
+use Rattle.std.proofs.Common.{leb, Option, Some, None, arith, lit≤, is_some, is_none, length-append}
+use Rattle.std.specs.Prelude.{ℤ, ◌&&◌, unwrap_or, IfSome}
 use Rattle.std.specs.List.{All}
-use Rattle.std.specs.Map.{lookup}
 use Rattle.std.proofs.lemmas.Int.{ints}
 use Rattle.std.proofs.lemmas.Bool.{and_parts, both_ways, false≢true, leb-true, leb-false, ltb-true, not-false, not_from_true, or_parts}
 use Rattle.std.proofs.lemmas.List.Elements.{All-append, All-cons, All-nil, All-weaker}
 use Rattle.std.proofs.lemmas.List.Sums.{sum_by-append}
 use Rattle.cam_refusals.specs.declared.refusal.Refusal.{Refusal}
 use Rattle.cam_refusals.specs.Checks.{Checks, first_holding}
-use Rattle.cam_refusals.specs.Limits.{board_limit, count_limit, leaf_limit, size_limit}
+use Rattle.cam_refusals.specs.Limits.{count_limit, leaf_limit}
 use Rattle.cam_units.specs.Board.{IsOnBoard}
 use Rattle.cam_units.specs.declared.length.Nm.{Nm}
 use Rattle.cam_units.specs.declared.point.Point.{Point}
@@ -18,7 +17,7 @@ use Rattle.cam_objects.proofs.SoundItems.{meets_drill, sound_drill}
 use Rattle.cam_objects.specs.declared.drill_item.DrillItem.{DrillItem}
 use Rattle.cam_objects.specs.declared.drill_item.DrillItem.TheVariants.{Hit, Rout}
 use Rattle.cam_objects.specs.Drilling.{diameter_of}
-use Rattle.cam_objects.specs.DrillSoundness.{IsSoundDrillContent, IsSoundDrillItem, IsSoundTool, drill_count_of, tool_of}
+use Rattle.cam_objects.specs.DrillSoundness.{IsSoundDrillContent, IsSoundDrillItem, IsSoundTool, drill_count_of}
 use Rattle.cam_objects.proofs.SoundDrilling.{distinct_more}
 use Rattle.cam_xnc.specs.declared.modes.Mode.{Mode}
 use Rattle.cam_xnc.specs.declared.statement.Coordinate.{Coordinate}
@@ -53,8 +52,7 @@ AllFail [] = Unit {0}
 AllFail (check ∷ later) = (check.1 ≡ false) × AllFail later
 
 pub fails : {A : Type 0} (b : Bool) (x : A) (o : Option A) → cond b (Some x) o ≡ None → (b ≡ false) × (o ≡ None)
-fails true x o h = absurd cc
-fails false x o h = (refl, h)
+fails b x o h = grind arith
 
 -- the checks of a faultless line fail
 passes : (list : Checks Refusal) → first_holding list ≡ None → AllFail list
@@ -62,50 +60,32 @@ passes [] h = tt
 passes (check ∷ later) h = let both = fails check.1 check.0 (first_holding later) h in (both.0, passes later both.1)
 
 none_of : {A : Type 0} (o : Option A) → is_some o ≡ false → o ≡ None
-none_of None h = refl
-none_of (Some x) h = absurd cc
+none_of o h = grind arith
 
 one_more : {X : Type 0} (P : X → Type 0) (xs : List X) (x : X) → All P xs → P x → All P (xs ++ x ∷ [])
 one_more P xs x all here = All-append P xs (x ∷ []) all (All-cons P x [] here (All-nil P))
 
 known_more : (tools more : List (ℕ × Nm)) (n : ℕ) → is_some (diameter_of tools n) ≡ true → is_some (diameter_of (tools ++ more) n) ≡ true
 known_more [] more n h = absurd cc
-known_more (t ∷ ts) more n h = by (nat_eq n t.0) (known_more ts more n) h
-  where
-    by : (b : Bool) → (is_some (lookup (nat_eq n) ts) ≡ true → is_some (lookup (nat_eq n) (ts ++ more)) ≡ true)
-        → is_some (cond b (Some t.1) (lookup (nat_eq n) ts)) ≡ true → is_some (cond b (Some t.1) (lookup (nat_eq n) (ts ++ more))) ≡ true
-    by true rest e = refl
-    by false rest e = rest e
+known_more (t ∷ ts) more n h = grind (arith, known_more ts more n)
 
 sound_more : (tools more : List (ℕ × Nm)) (item : DrillItem) → IsSoundDrillItem tools item → IsSoundDrillItem (tools ++ more) item
-sound_more tools more item h =
-    let met = meets_drill tools item h in
-    sound_drill (tools ++ more) item
-    (record { some = met.some; known = known_more tools more (tool_of item) met.known; inside = met.inside; few = met.few })
+sound_more tools more item h = grind (arith, meets_drill, sound_drill, known_more)
 
 still_known : (tools more : List (ℕ × Nm)) (tool : Option ℕ) → IsKnown tools tool → IsKnown (tools ++ more) tool
-still_known tools more None h = tt
-still_known tools more (Some n) h = known_more tools more n h
+still_known tools more tool h = grind (arith, known_more)
 
 known_number : (tools : List (ℕ × Nm)) (tool : Option ℕ) → IsKnown tools tool → is_none tool ≡ false
     → is_some (diameter_of tools (unwrap_or tool 0)) ≡ true
-known_number tools None h some = absurd cc
-known_number tools (Some n) h some = h
+known_number tools tool h some = grind arith
 
 on_board : (p : Point) → not (is_on_board p) ≡ false → IsOnBoard p
-on_board p h =
-    let on = and_parts (ltb (unsigned_abs p.x) board_limit) (ltb (unsigned_abs p.y) board_limit) (not-false (is_on_board p) h) in
-    record { x = ltb-true _ _ on.0; y = ltb-true _ _ on.1 }
+on_board p h = grind (arith, and_parts, not-false, ltb-true)
 
 -- a tool of this number and diameter is sound
 sound_tool : (n : ℕ) (z : ℤ) → IsToolNumber n → not (is_diameter z) ≡ false → IsSoundTool n (record { 0 = z })
 unfolding is_diameter
-sound_tool n (pos k) number h =
-    let on = and_parts (leb 1 k) (leb k size_limit) (not-false (leb 1 k && leb k size_limit) h) in
-    let some : 1 ≤ k = leb-true 1 k on.0 in
-    let most : k ≤ size_limit = leb-true k size_limit on.1 in
-    record { some = number.0; few = number.1; wide = omega (arith, ints); narrow = omega (arith, ints) }
-sound_tool n (negsuc k) number h = absurd cc
+sound_tool n z number h = grind (arith, and_parts, not-false, leb-true, ints)
 
 -- one item more, for which there is room
 with_item : (past : DrillPast) (item : DrillItem) → IsSoundPast past → is_too_much past (drill_count_of item) ≡ false
@@ -154,42 +134,18 @@ declare_step past (Some n) (Some d) s h small =
 
 chosen : (tools : List (ℕ × Nm)) (n : ℕ) (b : Bool) → (not b && not (is_some (diameter_of tools n))) ≡ false
     → IsKnown tools (cond b None (Some n))
-chosen tools n true h = tt
-chosen tools n false h = not-false (is_some (diameter_of tools n)) h
+chosen tools n b h = grind (arith, not-false)
 
 pub select_step : (past : DrillPast) (number : Option ℕ) → IsSoundPast past → first_holding (body_checks past (Select number)) ≡ None
     → IsSoundPast (Select number ∷ past)
-select_step past None s h = absurd cc
-select_step past (Some n) s h =
-    let pass = passes (body_checks past (Select (Some n))) h in
-    record {
-      layer = s.layer;
-      at = s.at;
-      points = s.points;
-      room = s.room;
-      lowered = λ low. absurd (both_ways (is_lowered (drill_mode_in past)) pass.1.1.0 low);
-      tool = chosen (tools_in past) n (eqb n 0) pass.1.0;
-    }
+select_step past number s h = grind (arith, passes, both_ways, chosen)
 
 pub drill_mode_step : (past : DrillPast) → IsSoundPast past → IsSoundPast (DrillMode ∷ past)
-drill_mode_step past s = record {
-  layer = s.layer;
-  at = s.at;
-  points = s.points;
-  room = s.room;
-  lowered = λ low. absurd (false≢true low);
-  tool = s.tool;
-}
+drill_mode_step past s = grind (arith, false≢true)
 
 sound_hit : (tools : List (ℕ × Nm)) (n : ℕ) (p : Point) → is_some (diameter_of tools n) ≡ true → IsOnBoard p
     → IsSoundDrillItem tools (Hit n p)
-sound_hit tools n p known on =
-    sound_drill tools (Hit n p) (record {
-      some = omega arith;
-      known = known;
-      inside = All-cons IsOnBoard p [] on (All-nil IsOnBoard);
-      few = lit≤ tt;
-    })
+sound_hit tools n p known on = grind (arith, sound_drill, All-cons, All-nil)
 
 pub hit_step : (past : DrillPast) (x y : Coordinate) → IsSoundPast past → first_holding (body_checks past (HitAt x y)) ≡ None
     → IsSoundPast (HitAt x y ∷ past)
@@ -211,8 +167,7 @@ hit_step past x y s h =
 
 sound_rout : (tools : List (ℕ × Nm)) (n : ℕ) (ps : List Point) → is_some (diameter_of tools n) ≡ true → 0 < length ps
     → All IsOnBoard ps → length ps ≤ count_limit → IsSoundDrillItem tools (Rout n ps)
-sound_rout tools n ps known some on few =
-    sound_drill tools (Rout n ps) (record { some = some; known = known; inside = on; few = few })
+sound_rout tools n ps known some on few = grind (arith, sound_drill)
 
 pub slot_step : (past : DrillPast) (start_x start_y end_x end_y : Coordinate) → IsSoundPast past
     → first_holding (body_checks past (Slot start_x start_y end_x end_y)) ≡ None → IsSoundPast (Slot start_x start_y end_x end_y ∷ past)
@@ -238,24 +193,10 @@ slot_step past start_x start_y end_x end_y s h =
 
 pub rout_step : (past : DrillPast) (x y : Coordinate) → IsSoundPast past → first_holding (body_checks past (RoutTo x y)) ≡ None
     → IsSoundPast (RoutTo x y ∷ past)
-rout_step past x y s h = record {
-  layer = s.layer;
-  at = on_board (drill_point_in (RoutTo x y ∷ past)) (passes (body_checks past (RoutTo x y)) h).1.0;
-  points = s.points;
-  room = s.room;
-  lowered = λ low. absurd (false≢true low);
-  tool = s.tool;
-}
+rout_step past x y s h = grind (arith, on_board, passes, false≢true)
 
 pub lower_step : (past : DrillPast) → IsSoundPast past → first_holding (body_checks past Lower) ≡ None → IsSoundPast (Lower ∷ past)
-lower_step past s h = record {
-  layer = s.layer;
-  at = s.at;
-  points = All-cons IsOnBoard (drill_point_in past) [] s.at (All-nil IsOnBoard);
-  room = lit≤ tt;
-  lowered = λ low. (omega arith, (passes (body_checks past Lower) h).0);
-  tool = s.tool;
-}
+lower_step past s h = grind (arith, All-cons, All-nil, passes)
 
 pub cut_step : (past : DrillPast) (x y : Coordinate) → IsSoundPast past → first_holding (body_checks past (CutTo x y)) ≡ None
     → IsSoundPast (CutTo x y ∷ past)

@@ -1,26 +1,22 @@
 -- The layer of a file is sound: each of its lines keeps the layer so.
-use Rattle.std.proofs.Common.{◌≡◌, ℕ, List, [], ◌∷◌, Bool, true, false, cond, Option, Some, None, Result, Ok, Err, refl}
-use Rattle.std.proofs.Common.{sym, ◌∙◌, subst, lit≤, lit<, length, nat_eq}
-use Rattle.std.specs.List.{IsDistinct, list_any}
+use Rattle.std.proofs.Common.{arith, ◌≡◌, ℕ, List, [], ◌∷◌, Bool, true, false, cond, Option, Some, None, Result, Ok, Err, refl}
+use Rattle.std.proofs.Common.{sym, subst, nat_eq}
+use Rattle.std.specs.List.{IsDistinct}
 use Rattle.std.proofs.lemmas.Bool.{false≢true}
 use Rattle.std.proofs.lemmas.List.Elements.{All-nil}
 use Rattle.cam_refusals.specs.declared.read_fault.ReadFault.{ReadFault}
 use Rattle.cam_refusals.specs.declared.refusal.Refusal.{Refusal}
-use Rattle.cam_refusals.specs.declared.refusal.Refusal.TheVariants.{BadByte}
 use Rattle.cam_refusals.specs.Checks.{first_holding}
-use Rattle.cam_units.specs.Board.{IsOnBoard}
 use Rattle.cam_objects.specs.Contents.{DrillContent}
 use Rattle.cam_objects.specs.DrillSoundness.{IsSoundDrillContent}
 use Rattle.cam_xnc.specs.declared.modes.Part.{Part}
 use Rattle.cam_xnc.specs.declared.modes.Part.TheVariants.{Start, Header, Body}
 use Rattle.cam_xnc.specs.declared.statement.Statement.{Statement}
-use Rattle.cam_xnc.specs.declared.statement.Statement.TheVariants.{BeginHeader, SetUnit, Declare, Neutral, EndHeader}
-use Rattle.cam_xnc.specs.declared.statement.Statement.TheVariants.{Select, DrillMode, HitAt, Slot, RoutTo, Lower}
-use Rattle.cam_xnc.specs.declared.statement.Statement.TheVariants.{CutTo, Raise, End}
-use Rattle.cam_xnc.specs.Bytes.{is_bad, code_of, line_packed}
-use Rattle.cam_xnc.specs.Lines.{FoundLine, lines_of}
-use Rattle.cam_xnc.specs.DrillState.{DrillPast, part_in, drill_layer_in}
-use Rattle.cam_xnc.specs.Faults.{checks, checks_by}
+use Rattle.cam_xnc.specs.declared.statement.Statement.TheVariants.{BeginHeader, SetUnit, Declare, Neutral, EndHeader, Select}
+use Rattle.cam_xnc.specs.declared.statement.Statement.TheVariants.{DrillMode, HitAt, Slot, RoutTo, Lower, CutTo, Raise, End}
+use Rattle.cam_xnc.specs.Lines.{FoundLine}
+use Rattle.cam_xnc.specs.DrillState.{DrillPast, drill_layer_in}
+use Rattle.cam_xnc.specs.Faults.{checks_by}
 use Rattle.cam_xnc.specs.Reading.{is_told, line_place, line_said, is_last_line, line_checks, drill_layer_unless}
 use Rattle.cam_xnc.specs.Laws.{GivesSoundDrillLayers}
 use Rattle.cam_xnc.proofs.Readings.{goes_by, goes_on, goes_over, reading_goes_on, unless_refused}
@@ -58,20 +54,11 @@ unfolding IsDistinct
 no_keys = tt
 
 at_start : IsSoundPast []
-at_start = record {
-  layer = record { tools = All-nil _; distinct = no_keys; items = All-nil _; limits = record { few = lit≤ tt; leaves = lit≤ tt } };
-  at = record { x = lit< tt; y = lit< tt };
-  points = All-nil IsOnBoard;
-  room = lit≤ tt;
-  lowered = λ low. absurd (false≢true low);
-  tool = tt;
-}
+at_start = grind (arith, All-nil, no_keys, false≢true)
 
 -- what a line without a fault leaves
 line_step : (past : DrillPast) (line : FoundLine) → IsSoundPast past → first_holding (line_checks past line) ≡ None → IsSoundPast (line_said line ∷ past)
-line_step past line s e =
-    step (part_in past) past (line_said line) s (has_tool_number (line_packed (code_of line.text)))
-    (fails (list_any is_bad (code_of line.text)) BadByte (first_holding (checks past (line_said line))) e).1
+line_step past line s e = grind (arith, step, has_tool_number, fails)
 
 abbrev IsSoundContent : DrillContent → Type 0
 IsSoundContent content = IsSoundDrillContent content.tools content.items
@@ -81,8 +68,7 @@ IsSoundReading (Ok content) = IsSoundContent content
 IsSoundReading (Err fault) = Unit {0}
 
 sound_unless : (o : Option ReadFault) (past : DrillPast) → IsSoundPast past → IsSoundReading (drill_layer_unless o (drill_layer_in past))
-sound_unless None past s = s.layer
-sound_unless (Some fault) past s = tt
+sound_unless o past s = grind arith
 
 -- a line that says something
 sound_by : (past : DrillPast) (line : FoundLine) (more : Result DrillContent ReadFault) → IsSoundPast past
@@ -106,5 +92,4 @@ sound_from len (line ∷ lines) past s =
     ]) refl
 
 pub reading_is_sound : GivesSoundDrillLayers
-reading_is_sound bytes layer e =
-    subst IsSoundReading (sym (reading_goes_on bytes) ∙ e) (sound_from (length bytes) (lines_of bytes) [] at_start)
+reading_is_sound bytes layer e = grind (arith, reading_goes_on, sound_from, at_start)

@@ -1,4 +1,4 @@
-use Rattle.std.proofs.Common.{◌≡◌, ap, ◌∙◌, take, ℕ, List}
+use Rattle.std.proofs.Common.{arith, ◌≡◌, ap, ◌∙◌, take, ℕ, List}
 use Rattle.cam_words.specs.Heads.{packed}
 use Rattle.cam_numbers.specs.Numbers.{integer, run_of}
 use Rattle.cam_commands.specs.WordCommands.{written}
@@ -14,5 +14,4 @@ returns-clause-slot c =
     c.slot_of.ensures ∙ ap written number.ensures.value ∙ ap (λ (r : List ℕ). written (integer r)) run
 
 pub returns-clause-behind : goal.returns-clause-behind
-returns-clause-behind c =
-    packed_rest c.args.text.now c.leading_integer-number.result.len c.leading_integer-number.ensures.len
+returns-clause-behind c = grind (arith, packed_rest)

@@ -1,15 +1,13 @@
-use Rattle.std.proofs.Common.{sym}
+use Rattle.std.proofs.Common.{arith, sym}
 use Rattle.cam_commands.specs.declared.names.FreeText.TheVariants.{FileAttribute, ApertureAttribute, ObjectAttribute}
 use Rattle.cam_commands.specs.declared.names.FreeText.TheVariants.{DeleteAttribute, ImageName, LoadName}
 use Rattle.cam_commands.specs.declared.names.OldForm.TheVariants.{ImagePolarity, AxesSelect, ImageRotation, MirrorImage}
 use Rattle.cam_commands.specs.declared.names.OldForm.TheVariants.{Offset, ScaleFactor}
-use Rattle.cam_commands.specs.declared.names.Name.TheVariants.{FormatSpecification, UnitMode, ApertureDefinition}
-use Rattle.cam_commands.specs.declared.names.Name.TheVariants.{ApertureMacro, ApertureBlock, StepAndRepeat}
-use Rattle.cam_commands.specs.declared.names.Name.TheVariants.{LoadPolarity, LoadMirroring, LoadRotation, LoadScaling}
-use Rattle.cam_commands.specs.declared.names.Name.TheVariants.{Free, Old}
-use Rattle.cam_commands.proofs.NameLetters.{named, none_behind_70, none_behind_77, none_behind_65, none_behind_83}
-use Rattle.cam_commands.proofs.NameLetters.{none_behind_76, none_behind_84, none_behind_73, none_behind_79}
-use Rattle.cam_commands.proofs.NameLetters.{none_of_letters}
+use Rattle.cam_commands.specs.declared.names.Name.TheVariants.{FormatSpecification, UnitMode, ApertureDefinition, ApertureMacro}
+use Rattle.cam_commands.specs.declared.names.Name.TheVariants.{ApertureBlock, StepAndRepeat, LoadPolarity, LoadMirroring}
+use Rattle.cam_commands.specs.declared.names.Name.TheVariants.{LoadRotation, LoadScaling, Free, Old}
+use Rattle.cam_commands.proofs.NameLetters.{named, none_behind_70, none_behind_77, none_behind_65, none_behind_83, none_behind_76}
+use Rattle.cam_commands.proofs.NameLetters.{none_behind_84, none_behind_73, none_behind_79, none_of_letters}
 use Rattle.cam_commands.proofs.names.name_of.Goals as goal
 
 pub returns-in-70-eq83 : goal.returns-in-70-eq83
@@ -85,32 +83,22 @@ pub returns-in_default-2 : goal.returns-in_default-2
 returns-in_default-2 c = none_behind_77 c.args.first c.args.second c.in_default.is-0 c.in_default.is-1.0.1 c.in_default.is-1.1
 
 pub returns-in_default-3 : goal.returns-in_default-3
-returns-in_default-3 c =
-    none_behind_65 c.args.first c.args.second c.in_default.is-0 c.in_default.is-1.0.0.0.1 c.in_default.is-1.0.0.1 c.in_default.is-1.0.1
-    c.in_default.is-1.1
+returns-in_default-3 c = grind (arith, none_behind_65)
 
 pub returns-in_default-4 : goal.returns-in_default-4
 returns-in_default-4 c = none_behind_83 c.args.first c.args.second c.in_default.is-0 c.in_default.is-1.0.1 c.in_default.is-1.1
 
 pub returns-in_default-5 : goal.returns-in_default-5
-returns-in_default-5 c =
-    none_behind_76 c.args.first c.args.second c.in_default.is-0 c.in_default.is-1.0.0.0.0.1 c.in_default.is-1.0.0.0.1
-    c.in_default.is-1.0.0.1 c.in_default.is-1.0.1 c.in_default.is-1.1
+returns-in_default-5 c = grind (arith, none_behind_76)
 
 pub returns-in_default-6 : goal.returns-in_default-6
-returns-in_default-6 c =
-    none_behind_84 c.args.first c.args.second c.in_default.is-0 c.in_default.is-1.0.0.0.1 c.in_default.is-1.0.0.1 c.in_default.is-1.0.1
-    c.in_default.is-1.1
+returns-in_default-6 c = grind (arith, none_behind_84)
 
 pub returns-in_default-7 : goal.returns-in_default-7
-returns-in_default-7 c =
-    none_behind_73 c.args.first c.args.second c.in_default.is-0 c.in_default.is-1.0.0.1 c.in_default.is-1.0.1 c.in_default.is-1.1
+returns-in_default-7 c = grind (arith, none_behind_73)
 
 pub returns-in_default-8 : goal.returns-in_default-8
 returns-in_default-8 c = none_behind_79 c.args.first c.args.second c.in_default.is-0 c.in_default.is-1.1
 
 pub returns-in_default-9 : goal.returns-in_default-9
-returns-in_default-9 c =
-    none_of_letters c.args.first c.args.second c.in_default.is-0.0.0.0.0.0.0.0.1 c.in_default.is-0.0.0.0.0.0.0.1
-    c.in_default.is-0.0.0.0.0.0.1 c.in_default.is-0.0.0.0.0.1 c.in_default.is-0.0.0.0.1 c.in_default.is-0.0.0.1 c.in_default.is-0.0.1
-    c.in_default.is-0.1
+returns-in_default-9 c = grind (arith, none_of_letters)

@@ -1,5 +1,4 @@
-use Rattle.std.proofs.Common.{◌≡◌, List, Some, OnOk, ap, ap₂, sym, subst, ◌∙◌}
-use Rattle.cam_objects.specs.declared.attribute.Attribute.{Attribute}
+use Rattle.std.proofs.Common.{arith, ◌≡◌, Some, ap, ap₂, sym, ◌∙◌}
 use Rattle.cam_objects.specs.Attributes.{attribute_of, attribute_place, with_attribute}
 use Rattle.cam_objects.proofs.EditedAttributes.{added_last, kept_place}
 use Rattle.cam_gerber.proofs.KeptAttributes.{kept_names, named_at}
@@ -9,9 +8,7 @@ at : (c : goal.After-drop-index_mut) → attribute_place c.args.name.now c.self.
 at c = ap (attribute_place c.args.name.now) c.self.view_is ∙ sym c.place.ensures ∙ c.in-Some.is
 
 named : (c : goal.After-drop-index_mut) → c.index_mut.result.now.name ≡ c.args.name.now
-named c =
-    ap (λ (a : Attribute). a.name) c.index_mut.ensures.value
-    ∙ named_at c.args.name.now c.self.inside.list.items c.in-Some.place _ (at c)
+named c = grind (arith, named_at, at)
 
 pub invariant_of-self : goal.invariant_of-self
 invariant_of-self c =
@@ -28,7 +25,4 @@ returns-in_ok-from_slice-in-Some c =
     ∙ ap₂ with_attribute (ap₂ attribute_of (named c) (c.from_vec.ensures ∙ c.in_ok-from_slice-in-Some.ensures.items)) c.self.view_is
 
 pub returns-in-None : goal.returns-in-None
-returns-in-None c =
-    subst (λ (list : List Attribute). OnOk c.push.result (c.push.new.self ≡ list))
-    (sym (added_last (attribute_of c.args.name.now c.args.fields.now) c.args.self.now (sym c.place.ensures ∙ c.in-None.is)))
-    c.push.ensures
+returns-in-None c = grind (arith, added_last)

@@ -1,7 +1,6 @@
-use Rattle.std.proofs.Common.{◌∙◌}
+use Rattle.std.proofs.Common.{arith}
 use Rattle.cam_gerber.proofs.Outside.{told_outside}
 use Rattle.cam_gerber.proofs.built.Built.is_outside.Goals as goal
 
 pub returns : goal.returns
-returns c = c.is_of_board.ensures
-    ∙ told_outside c.args.self.now.layer.apertures c.args.item.now c.check_item.result c.requires c.check_item.ensures
+returns c = grind (arith, told_outside)

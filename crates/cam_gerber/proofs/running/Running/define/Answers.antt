@@ -8,8 +8,7 @@ use Rattle.cam_gerber.specs.Statements.{Says}
 use Rattle.cam_gerber.specs.Layers.{macros_in}
 use Rattle.cam_gerber.specs.State.{unit_in}
 use Rattle.cam_units.specs.Nearest.{unit_or_mm}
-use Rattle.cam_gerber.proofs.Defining.{meant, definition_faults, some_fault, new_number, defined_tracks}
-use Rattle.cam_gerber.proofs.Defining.{same_macros}
+use Rattle.cam_gerber.proofs.Defining.{meant, definition_faults, some_fault, new_number, defined_tracks, same_macros}
 use Rattle.cam_gerber.proofs.Defining.{defined_number_is, faultless_definition}
 use Rattle.cam_gerber.proofs.Least.{least_of}
 use Rattle.cam_gerber.proofs.SoundEntries.{definition_may_add}

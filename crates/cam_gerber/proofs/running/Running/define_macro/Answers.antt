@@ -7,7 +7,7 @@ use Rattle.cam_apertures.specs.Definition.{named}
 use Rattle.cam_gerber.specs.Faults.{is_reserved}
 use Rattle.cam_gerber.specs.Statements.{NamesMacro}
 use Rattle.cam_gerber.proofs.Defining.{said_macro, said_none, refused_name, refused_again, refused_inside, by_parts}
-use Rattle.cam_gerber.proofs.Defining.{macro_tracks, bad_parts, bad_name, no_name, name_before_star, not_taken}
+use Rattle.cam_gerber.proofs.Defining.{macro_tracks, bad_parts, bad_name, no_name, name_before_star}
 use Rattle.cam_gerber.proofs.running.Running.define_macro.Goals as goal
 
 pub returns-in-BadName : goal.returns-in-BadName
@@ -38,12 +38,6 @@ returns-then-self-2 c = λ past none t.
       refused_inside past c.in-Ok.made.name (Some c.in-Ok.made.parts) c.args.self.now.built.macros t.built.macros r.named new
           (sym t.region.inside ∙ c.if-self-2.true),
     )
-
-pub add-requires : goal.add-requires
-add-requires c =
-    not_taken (named c.args.self.now.built.macros c.in-Ok.made.name) (is_reserved c.in-Ok.made.name)
-    (sym (ap (λ n. is_some (named c.args.self.now.built.macros n) || is_reserved n) c.as_slice.ensures)
-    ∙ sym c.is_named-in-Ok.ensures ∙ c.if-is_named-2.false)
 
 pub returns-in_ok-add-in-Ok : goal.returns-in_ok-add-in-Ok
 returns-in_ok-add-in-Ok c = λ past none t.

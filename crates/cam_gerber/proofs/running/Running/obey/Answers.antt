@@ -1,4 +1,4 @@
-use Rattle.std.proofs.Common.{refl, ap}
+use Rattle.std.proofs.Common.{arith, refl, ap}
 use Rattle.std.specs.Prelude.{Ok, Err}
 use Rattle.cam_refusals.specs.declared.refusal.Refusal.TheVariants.{FormatRefused, UnknownCommand}
 use Rattle.cam_refusals.specs.declared.stop.Stop.TheVariants.{Fault}
@@ -7,72 +7,55 @@ use Rattle.cam_gerber.proofs.Obedience.{idle, taken}
 use Rattle.cam_gerber.proofs.running.Running.obey.Goals as goal
 
 pub returns-in-SetFormat : goal.returns-in-SetFormat
-returns-in-SetFormat c =
-    taken _ _ c.args.self.now c.set_format.new.self c.set_format.result (ap shown c.in-SetFormat.is) tt c.set_format.ensures
+returns-in-SetFormat c = grind (arith, taken)
 
 pub returns-in-SetUnit : goal.returns-in-SetUnit
-returns-in-SetUnit c =
-    taken _ _ c.args.self.now c.set_unit.new.self c.set_unit.result (ap shown c.in-SetUnit.is) tt c.set_unit.ensures
+returns-in-SetUnit c = grind (arith, taken)
 
 pub returns-in-SetPolarity : goal.returns-in-SetPolarity
-returns-in-SetPolarity c =
-    taken _ _ c.args.self.now c.set_polarity.new.self c.set_polarity.result (ap shown c.in-SetPolarity.is) tt c.set_polarity.ensures
+returns-in-SetPolarity c = grind (arith, taken)
 
 pub returns-in-SetMirror : goal.returns-in-SetMirror
-returns-in-SetMirror c =
-    taken _ _ c.args.self.now c.set_mirror.new.self c.set_mirror.result (ap shown c.in-SetMirror.is) tt c.set_mirror.ensures
+returns-in-SetMirror c = grind (arith, taken)
 
 pub returns-in-SetRotation : goal.returns-in-SetRotation
-returns-in-SetRotation c =
-    taken _ _ c.args.self.now c.set_rotation.new.self c.set_rotation.result (ap shown c.in-SetRotation.is) tt c.set_rotation.ensures
+returns-in-SetRotation c = grind (arith, taken)
 
 pub returns-in-SetScale : goal.returns-in-SetScale
-returns-in-SetScale c =
-    taken _ _ c.args.self.now c.set_scale.new.self c.set_scale.result (ap shown c.in-SetScale.is) tt c.set_scale.ensures
+returns-in-SetScale c = grind (arith, taken)
 
 pub returns-in-OpenBlock : goal.returns-in-OpenBlock
-returns-in-OpenBlock c =
-    taken _ _ c.args.self.now c.open_block.new.self c.open_block.result (ap shown c.in-OpenBlock.is) tt c.open_block.ensures
+returns-in-OpenBlock c = grind (arith, taken)
 
 pub returns-in-CloseBlock : goal.returns-in-CloseBlock
-returns-in-CloseBlock c =
-    taken _ _ c.args.self.now c.close_block.new.self c.close_block.result (ap shown c.in-CloseBlock.is) tt c.close_block.ensures
+returns-in-CloseBlock c = grind (arith, taken)
 
 pub returns-in-SetRepeat : goal.returns-in-SetRepeat
-returns-in-SetRepeat c =
-    taken _ _ c.args.self.now c.set_repeat.new.self c.set_repeat.result (ap shown c.in-SetRepeat.is) tt c.set_repeat.ensures
+returns-in-SetRepeat c = grind (arith, taken)
 
 pub returns-in-CloseRepeat : goal.returns-in-CloseRepeat
-returns-in-CloseRepeat c =
-    taken _ _ c.args.self.now c.close_repeat.new.self c.close_repeat.result (ap shown c.in-CloseRepeat.is) tt c.close_repeat.ensures
+returns-in-CloseRepeat c = grind (arith, taken)
 
 pub returns-in-NeutralOld : goal.returns-in-NeutralOld
-returns-in-NeutralOld c =
-    taken _ _ c.args.self.now c.neutral_old.new.self c.neutral_old.result (ap shown c.in-NeutralOld.is) tt c.neutral_old.ensures
+returns-in-NeutralOld c = grind (arith, taken)
 
 pub returns-in-RefusedOld : goal.returns-in-RefusedOld
-returns-in-RefusedOld c =
-    taken _ _ c.args.self.now c.refused_old.new.self c.refused_old.result (ap shown c.in-RefusedOld.is) tt c.refused_old.ensures
+returns-in-RefusedOld c = grind (arith, taken)
 
 pub returns-in-BeginRegion : goal.returns-in-BeginRegion
-returns-in-BeginRegion c =
-    taken _ _ c.args.self.now c.begin_region.new.self c.begin_region.result (ap shown c.in-BeginRegion.is) tt c.begin_region.ensures
+returns-in-BeginRegion c = grind (arith, taken)
 
 pub returns-in-EndRegion : goal.returns-in-EndRegion
-returns-in-EndRegion c =
-    taken _ _ c.args.self.now c.end_region.new.self c.end_region.result (ap shown c.in-EndRegion.is) tt c.end_region.ensures
+returns-in-EndRegion c = grind (arith, taken)
 
 pub returns-in-Select : goal.returns-in-Select
-returns-in-Select c =
-    taken _ _ c.args.self.now c.select.new.self c.select.result (ap shown c.in-Select.is) tt c.select.ensures
+returns-in-Select c = grind (arith, taken)
 
 pub returns-in-Operate : goal.returns-in-Operate
-returns-in-Operate c =
-    taken _ _ c.args.self.now c.operate.new.self c.operate.result (ap shown c.in-Operate.is) tt c.operate.ensures
+returns-in-Operate c = grind (arith, taken)
 
 pub returns-in-End : goal.returns-in-End
-returns-in-End c =
-    taken _ _ c.args.self.now c.end.new.self c.end.result (ap shown c.in-End.is) tt c.end.ensures
+returns-in-End c = grind (arith, taken)
 
 pub returns-in-RefusedFormat : goal.returns-in-RefusedFormat
 returns-in-RefusedFormat c =
@@ -83,8 +66,7 @@ returns-in-Unknown c =
     taken _ _ c.args.self.now c.args.self.now (Err (Fault UnknownCommand)) (ap shown c.in-Unknown.is) tt (λ past none t. refl)
 
 pub returns-in-KeepText : goal.returns-in-KeepText
-returns-in-KeepText c =
-    taken _ _ c.args.self.now c.keep_text.new.self c.keep_text.result (ap shown c.in-KeepText.is) tt c.keep_text.ensures
+returns-in-KeepText c = grind (arith, taken)
 
 pub returns-in-Nothing : goal.returns-in-Nothing
 returns-in-Nothing c =

@@ -1,4 +1,4 @@
-use Rattle.std.proofs.Common.{◌∷◌, sym, ap, subst, ◌∙◌}
+use Rattle.std.proofs.Common.{arith, ◌∷◌, sym, ap, subst, ◌∙◌}
 use Rattle.std.specs.Prelude.{Ok, Err}
 use Rattle.cam_refusals.specs.declared.stop.Stop.TheVariants.{Fault}
 use Rattle.cam_words.specs.Reading.{word_answer}
@@ -21,10 +21,6 @@ returns-in-Err c =
 pub obey-requires-clause-short : goal.obey-requires-clause-short
 obey-requires-clause-short c = subst HasFewDecimals (sym c.command_of-command.ensures) (short_format (found c.in-Ok.word))
 
-pub obey-requires-clause-past : goal.obey-requires-clause-past
-obey-requires-clause-past c =
-    (c.loop-answer.invariant.past, c.loop-answer.invariant.none, c.loop-answer.invariant.tracks, c.loop-answer.invariant.opens)
-
 pub returns-in-Err-Fault : goal.returns-in-Err-Fault
 returns-in-Err-Fault c =
     let told : Obeys (command_of (found c.in-Ok.word)) c.loop-answer.self (Err (Fault c.in-Err-Fault.code)) c.obey.new.self =
@@ -46,11 +42,7 @@ returns-then-ends c =
     (ap is_end_command (sym c.command_of-command.ensures) ∙ sym c.is_end-ends.ensures ∙ c.if-ends.true)
 
 pub loop-answer-preserved : goal.loop-answer-preserved
-loop-answer-preserved c =
-    goes_on c.args.bytes.now c.loop-answer.self c.loop-answer.words c.loop-answer.invariant c.obey.new.self c.next.new.self
-    (found c.in-Ok.word) (c.in-Some.ensures.some ∙ ap (λ answer. word_answer answer ∷ c.next.new.self) c.in-Ok.is)
-    (subst (λ k. Obeys k c.loop-answer.self (Ok tt) c.obey.new.self) c.command_of-command.ensures c.in-Ok-obey.ensures)
-    (ap is_end_command (sym c.command_of-command.ensures) ∙ sym c.is_end-ends.ensures ∙ c.if-ends.false)
+loop-answer-preserved c = grind (arith, goes_on)
 
 pub returns : goal.returns
 returns c =

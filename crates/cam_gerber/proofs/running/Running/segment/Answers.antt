@@ -1,9 +1,6 @@
-use Rattle.std.proofs.Common.{length, refl, ap, subst, ◌∙◌, arith}
+use Rattle.std.proofs.Common.{length, refl, subst, arith}
 use Rattle.std.proofs.lemmas.Bool.{le-leb, lt-leb}
-use Rattle.cam_shapes.specs.Contour.{end_of}
-use Rattle.cam_objects.specs.Soundness.{is_on_board}
-use Rattle.cam_gerber.specs.Machinery.Tracking.{IsOperated, mode_by, moved_point, centre_by}
-use Rattle.cam_gerber.proofs.Operated.{end_same}
+use Rattle.cam_gerber.specs.Machinery.Tracking.{IsOperated}
 use Rattle.cam_gerber.proofs.Contours.{segment_tracks, segment_full, segment_told}
 use Rattle.cam_gerber.proofs.running.Running.segment.Goals as goal
 
@@ -12,16 +9,7 @@ returns-in-Err c = λ past none t inside plots.
     segment_told past c.args.operation.now c.args.self.now.modal _ t.modal c.in-Err.ensures.faults
 
 pub returns-then-len-ge-COUNT_LIMIT : goal.returns-then-len-ge-COUNT_LIMIT
-returns-then-len-ge-COUNT_LIMIT c = λ past none t inside plots.
-    segment_full past c.args.operation.now c.args.self.now t c.in-Ok.ensures.faults
-    (le-leb 1000000 (length c.args.self.now.region.segs.items) (omega arith))
-
-pub operated-requires : goal.operated-requires
-operated-requires c =
-    let m = c.args.self.now.modal in
-    let o = c.args.operation.now in
-    ap is_on_board c.end.ensures.value ∙ ap (λ s. is_on_board (end_of s)) c.in-Ok.ensures.ok
-    ∙ ap is_on_board (end_same (mode_by m o) (moved_point m o) (centre_by m o)) ∙ c.in-Ok.ensures.on_board
+returns-then-len-ge-COUNT_LIMIT c = λ past none t inside plots. grind (arith, segment_full, le-leb)
 
 pub returns : goal.returns
 returns c = λ past none t inside plots.

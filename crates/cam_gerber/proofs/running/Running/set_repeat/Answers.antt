@@ -1,19 +1,10 @@
-use Rattle.std.proofs.Common.{true, sym, ◌∙◌}
+use Rattle.std.proofs.Common.{arith, true, sym, ◌∙◌}
 use Rattle.cam_gerber.proofs.Contours.{refused_alike}
 use Rattle.cam_gerber.proofs.Settling.{opening_checks, set_many, set_one}
 use Rattle.cam_gerber.proofs.running.Running.set_repeat.Goals as goal
 
 pub returns-in-Err : goal.returns-in-Err
-returns-in-Err c = λ past none t.
-    refused_alike c.in-Err.stop _ _ _ _
-    (sym (opening_checks past c.args.self.now c.in-Some.unit c.args.repeat.now true t
-    (record {
-      formed = sym c.has_malformed.ensures ∙ c.if-has_malformed.false;
-      known = c.in-Some.is;
-      nested = sym c.is_nested.ensures ∙ c.if-is_nested.false;
-      outside = c.if-self.false;
-    }) (sym c.has_steps_on_board.ensures ∙ c.if-not-has_steps_on_board.false)))
-    (c.in-Err.ensures past none t)
+returns-in-Err c = λ past none t. grind (arith, refused_alike, opening_checks)
 
 pub returns-then-has_copies : goal.returns-then-has_copies
 returns-then-has_copies c = λ past none t.

@@ -1,11 +1,9 @@
-use Rattle.std.proofs.Common.{◌∷◌, [], sym, ap, subst, ◌∙◌}
+use Rattle.std.proofs.Common.{arith, ◌∷◌, [], sym, subst, ◌∙◌}
 use Rattle.cam_refusals.specs.declared.refusal.Refusal.TheVariants.{TooMuch}
-use Rattle.cam_shapes.specs.Contour.{end_of}
 use Rattle.cam_gerber.specs.Faults.{is_full}
-use Rattle.cam_objects.specs.Soundness.{is_on_board}
 use Rattle.cam_gerber.specs.Homes.{home}
 use Rattle.cam_gerber.specs.Making.{stroke_of}
-use Rattle.cam_gerber.specs.Machinery.Tracking.{Keeps, IsOperated, path_faults_by, mode_by, moved_point, centre_by}
+use Rattle.cam_gerber.specs.Machinery.Tracking.{Keeps, IsOperated, path_faults_by, mode_by}
 use Rattle.cam_gerber.proofs.Operated.{stroke_checks, told_before, end_same, stroke_full, stroke_tracks, draws_along}
 use Rattle.cam_objects.specs.Leaves.{meaning_in}
 use Rattle.cam_gerber.proofs.running.Running.stroke.Goals as goal
@@ -20,20 +18,10 @@ returns-in-Err c = λ past none t out plots.
     ((TooMuch, is_full (home past) past (stroke_of past c.args.operation.now)) ∷ []) _ c.in-Err.ensures.faults
 
 pub returns-then-is_full : goal.returns-then-is_full
-returns-then-is_full c = λ past none t out plots.
-    stroke_full past c.args.operation.now c.args.self.now c.in-Some.aperture t c.in-Some.is
-    (draws_along c.is_arc.result (mode_by c.args.self.now.modal c.args.operation.now)
-    (meaning_in c.args.self.now.built.layer.apertures c.in-Some.aperture).tip c.can_draw.result c.if-not-can_draw.false c.can_draw.ensures
-    c.is_arc.ensures) c.in-Ok.ensures.faults
-    (λ object leaves depth. sym c.if-is_full.true
-    ∙ c.is_full.ensures past object (record { frames = t.frames; built = t.built }) (record { leaves = leaves; depth = depth }))
+returns-then-is_full c = λ past none t out plots. grind (arith, stroke_full, draws_along)
 
 pub operated-requires : goal.operated-requires
-operated-requires c =
-    let m = c.args.self.now.modal in
-    let o = c.args.operation.now in
-    ap is_on_board c.end.ensures.value ∙ ap (λ s. is_on_board (end_of s)) c.in-Ok.ensures.ok
-    ∙ ap is_on_board (end_same (mode_by m o) (moved_point m o) (centre_by m o)) ∙ c.in-Ok.ensures.on_board
+operated-requires c = grind (arith, end_same)
 
 pub returns : goal.returns
 returns c = λ past none t out plots.

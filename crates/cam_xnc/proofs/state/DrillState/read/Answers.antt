@@ -8,14 +8,6 @@ use Rattle.cam_xnc.proofs.state.DrillState.read.Goals as goal
 pub loop-line-init : goal.loop-line-init
 loop-line-init c = ([], c.requires, rw c.new-lines.ensures (reading_goes_on c.args.bytes.now))
 
-pub returns-then-holds_bad_byte-clause-fault : goal.returns-then-holds_bad_byte-clause-fault
-returns-then-holds_bad_byte-clause-fault c =
-    let code = c.code_of-code.result.now in
-    let bad = sym c.holds_bad_byte.ensures ∙ c.if-holds_bad_byte.true in
-    inl (takes c.args.bytes.now c.loop-line.invariant.0 (found c.in-Some.line) _ c.next.new.self code c.leading_skipped.result
-    (statement_of (line_packed code)) c.loop-line.invariant.2 c.in-Some.ensures.some c.code_of-code.ensures.value
-    (sym c.is_blank.ensures ∙ c.if-is_blank.false) c.leading_skipped.ensures.value refl ∙ rw bad refl)
-
 pub returns-in-Err-Fault-clause-fault : goal.returns-in-Err-Fault-clause-fault
 returns-in-Err-Fault-clause-fault c =
     let past = c.loop-line.invariant.0 in
@@ -25,20 +17,6 @@ returns-in-Err-Fault-clause-fault c =
     (inl (takes c.args.bytes.now past (found c.in-Some.line) _ c.next.new.self c.code_of-code.result.now
     c.leading_skipped.result c.in-Ok.statement c.loop-line.invariant.2 c.in-Some.ensures.some c.code_of-code.ensures.value
     (sym c.is_blank.ensures ∙ c.if-is_blank.false) c.leading_skipped.ensures.value c.in-Ok.ensures ∙ rw (good, fault) refl))
-
-pub returns-then-is_last_line-clause-ends : goal.returns-then-is_last_line-clause-ends
-returns-then-is_last_line-clause-ends c =
-    let past = c.loop-line.invariant.0 in
-    let good = sym c.holds_bad_byte.ensures ∙ c.if-holds_bad_byte.false in
-    let obeyed = c.in-Ok-obey.ensures past c.loop-line.invariant.1 in
-    let end = sym c.is_last_line.ensures ∙ c.if-is_last_line.true in (
-      c.in-Ok.statement ∷ past,
-      obeyed.1,
-      takes c.args.bytes.now past (found c.in-Some.line) _ c.next.new.self c.code_of-code.result.now c.leading_skipped.result
-          c.in-Ok.statement c.loop-line.invariant.2 c.in-Some.ensures.some c.code_of-code.ensures.value
-          (sym c.is_blank.ensures ∙ c.if-is_blank.false) c.leading_skipped.ensures.value c.in-Ok.ensures
-          ∙ rw (good, obeyed.0, end) refl,
-    )
 
 pub loop-line-preserved : goal.loop-line-preserved
 loop-line-preserved c =
@@ -53,3 +31,11 @@ loop-line-preserved c =
           (sym c.is_blank.ensures ∙ c.if-is_blank.false) c.leading_skipped.ensures.value c.in-Ok.ensures
           ∙ rw (good, obeyed.0, more) refl,
     )
+
+pub returns-then-holds_bad_byte-clause-fault : goal.returns-then-holds_bad_byte-clause-fault
+returns-then-holds_bad_byte-clause-fault c =
+    let code = c.code_of-code.result.now in
+    let bad = sym c.holds_bad_byte.ensures ∙ c.if-holds_bad_byte.true in
+    inl (takes c.args.bytes.now c.loop-line.invariant.0 (found c.in-Some.line) _ c.next.new.self code c.leading_skipped.result
+    (statement_of (line_packed code)) c.loop-line.invariant.2 c.in-Some.ensures.some c.code_of-code.ensures.value
+    (sym c.is_blank.ensures ∙ c.if-is_blank.false) c.leading_skipped.ensures.value refl ∙ rw bad refl)
