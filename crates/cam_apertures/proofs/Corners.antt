@@ -1,5 +1,5 @@
 -- Corners of boxes.
-use Rattle.std.proofs.Common.{◌≡◌, ℕ, ◌+◌, ◌<◌, ◌≤◌, Bool, true, false, cond, ℤ, arith}
+use Rattle.std.proofs.Common.{◌≡◌, ℕ, ◌+◌, ◌<◌, ◌≤◌, Bool, cond, ℤ, arith}
 use Rattle.std.specs.Int.{int_min, int_max}
 use Rattle.std.specs.Int.RustNames.{unsigned_abs}
 use Rattle.std.proofs.lemmas.Int.{ints, clamps}
@@ -8,7 +8,7 @@ use Rattle.std.specs.Prelude.{List, fold, take, get_or, length}
 use Rattle.cam_units.specs.declared.bounds.Bounds.{Bounds}
 use Rattle.cam_units.specs.declared.bounds.Bounds.TheVariants.{Empty, Closed}
 use Rattle.cam_units.specs.declared.point.Spot.{Spot}
-use Rattle.cam_units.specs.Boxes.{has_no_place, join_of, span_of}
+use Rattle.cam_units.specs.Boxes.{join_of, span_of}
 use Rattle.cam_apertures.specs.Machinery.Boxes.{IsSmallBox}
 
 abbrev pub spot : ℤ → ℤ → Spot
@@ -27,22 +27,14 @@ max_small : (a b : ℤ) → unsigned_abs a ≤ 600000000 → unsigned_abs b ≤ 
 max_small a b h k = omega (arith, ints, clamps)
 
 small_span : (a b : Bounds) → IsSmallBox a → IsSmallBox b → IsSmallBox (span_of a b)
-small_span Empty b h k = k
-small_span (Closed low high) Empty h k = h
-small_span (Closed low high) (Closed low' high') h k = (
-  record { x = min_small low.x low'.x h.0.x k.0.x; y = min_small low.y low'.y h.0.y k.0.y },
-  record { x = max_small high.x high'.x h.1.x k.1.x; y = max_small high.y high'.y h.1.y k.1.y },
-)
+small_span a b h k = grind (arith, min_small, max_small)
 
 either : (b : Bool) (x y : Bounds) → IsSmallBox x → IsSmallBox y → IsSmallBox (cond b x y)
-either true x y h k = h
-either false x y h k = k
+either b x y h k = grind arith
 
 -- the join of small boxes is small
 pub small_join : (a b : Bounds) → IsSmallBox a → IsSmallBox b → IsSmallBox (join_of a b)
-small_join a b h k =
-    either (has_no_place a) b (cond (has_no_place b) a (span_of a b)) k
-    (either (has_no_place b) a (span_of a b) h (small_span a b h k))
+small_join a b h k = grind (arith, either, small_span)
 
 pub small_joined : (a b joined : Bounds) → joined ≡ join_of a b → IsSmallBox a → IsSmallBox b → IsSmallBox joined
 small_joined a b joined e h k = rw e (small_join a b h k)
@@ -51,5 +43,4 @@ small_joined a b joined e h k = rw e (small_join a b h k)
 pub one_more : {X : Type 0} (f : X → Bounds) (xs : List X) (i : ℕ) (d : X) (here box joined : Bounds) → i < length xs
     → here ≡ fold (λ b x. join_of b (f x)) Empty (take i xs) → box ≡ f (get_or xs i d) → joined ≡ join_of here box
     → joined ≡ fold (λ b x. join_of b (f x)) Empty (take (i + 1) xs)
-one_more f xs i d here box joined h e g k =
-    let step = fold_more (λ b x. join_of b (f x)) Empty xs i d h in cc
+one_more f xs i d here box joined h e g k = grind (arith, fold_more)

@@ -4,12 +4,10 @@ use Rattle.std.specs.Prelude.{not, ◌&&◌}
 use Rattle.std.proofs.lemmas.Bool.{and_parts, and_from, cases_Bool, false_from_ne_true, true≢false}
 use Rattle.cam_units.specs.declared.point.Spot.{Spot}
 use Rattle.cam_shapes.proofs.TestLaws.{is_in_bar-meaning, is_in_contour-meaning, is_in_disc-meaning, is_in_hole-meaning, is_in_obround-meaning, is_in_rectangle-meaning}
-use Rattle.cam_shapes.specs.Outline.{outline_of}
 use Rattle.cam_macros.specs.declared.primitive.MacroPrimitive.{MacroPrimitive}
 use Rattle.cam_macros.specs.declared.primitive.PrimShape.{PrimShape}
-use Rattle.cam_macros.specs.declared.primitive.PrimShape.TheVariants.{Disc, Bar, Rect as Rectangular, Outline}
 use Rattle.cam_apertures.specs.declared.aperture.Aperture.TheVariants.{Circle, Rect, Obround, Prims}
-use Rattle.cam_apertures.specs.Cover.{disc, obround, flash_point, rectangle, IsInShape, IsExposed}
+use Rattle.cam_apertures.specs.Cover.{flash_point, IsInShape, IsExposed}
 use Rattle.cam_apertures.specs.Laws.{BoxLaw, HoleLaw}
 use Rattle.cam_apertures.specs.Tests.{is_covered, is_in_shape, ink_exposed, TestLaw}
 use Rattle.cam_apertures.specs.Turned.{turned_height, turned_prim, turned_width}
@@ -22,18 +20,12 @@ box_law (Obround width height hole) t s h = obround_box flash_point s (turned_wi
 box_law (Prims prims) t s h = painted_box (map (turned_prim t) prims) s h
 
 pub hole_law : HoleLaw
-hole_law (Circle diameter hole) t s h covered = covered.1 h
-hole_law (Rect width height hole) t s h covered = covered.1 h
-hole_law (Obround width height hole) t s h covered = covered.1 h
-hole_law (Prims prims) t s h covered = h
+hole_law it t s h covered = grind arith
 
 -- the test of a shape
 pub in_shape : (shape : PrimShape) (s : Spot) → IsTrue (is_in_shape shape s) ↔ IsInShape shape s
 unfolding is_in_shape
-in_shape (Disc centre diameter) s = is_in_disc-meaning s (record { centre = centre; diameter = diameter })
-in_shape (Bar from to width) s = is_in_bar-meaning s (record { from = from; to = to; width = width })
-in_shape (Rectangular centre width height) s = is_in_rectangle-meaning s (record { centre = centre; width = width; height = height })
-in_shape (Outline points) s = is_in_contour-meaning s (outline_of points)
+in_shape shape s = grind (arith, is_in_disc-meaning, is_in_bar-meaning, is_in_rectangle-meaning, is_in_contour-meaning)
 
 abbrev AreFree : List MacroPrimitive → Spot → Type 0
 AreFree ps s = All (λ later. ¬ IsInShape later.shape s) ps
@@ -91,28 +83,21 @@ to_painted ink (p ∷ ps) s h =
     one_more f u (suc k) d below = u k d (omega arith)
 
 pub painted_law : (ps : List MacroPrimitive) (s : Spot) → IsTrue (ink_exposed false ps s) ↔ IsExposed ps s
-painted_law ps s = (
-  (λ h. elim (to_painted false ps s h) [
-    | inl found ↦ found
-    | inr start ↦ absurd (true≢false (sym start.0))
-  ]),
-  (λ h. from_painted false ps s h),
-)
+painted_law ps s = grind (arith, to_painted, true≢false, from_painted)
 
 -- in a shape and not in a hole
 without_hole : {P Q : Type 0} (p q : Bool) → (IsTrue p ↔ P) → (IsTrue q ↔ Q) → IsTrue (p && not q) ↔ (P × ¬ Q)
-without_hole p true f g = (
-  (λ h. absurd (true≢false (sym (and_parts p false h).1))),
-  (λ h. absurd (h.1 (g.0 refl))),
-)
-without_hole p false f g = (
-  (λ h. (f.0 (and_parts p true h).0, (λ q. true≢false (sym (g.1 q))))),
-  (λ h. and_from p true (f.1 h.0) refl),
-)
+without_hole p q f g = grind (arith, true≢false, and_parts, and_from)
 
 pub test_law : TestLaw
 unfolding is_covered
-test_law (Circle diameter hole) t s = without_hole _ _ (is_in_disc-meaning s (disc diameter)) (is_in_hole-meaning s (disc hole))
-test_law (Rect width height hole) t s = without_hole _ _ (is_in_rectangle-meaning s (rectangle t width height)) (is_in_hole-meaning s (disc hole))
-test_law (Obround width height hole) t s = without_hole _ _ (is_in_obround-meaning s (obround t width height)) (is_in_hole-meaning s (disc hole))
-test_law (Prims prims) t s = painted_law (map (turned_prim t) prims) s
+test_law it t s =
+    grind (
+      arith,
+      without_hole,
+      is_in_disc-meaning,
+      is_in_hole-meaning,
+      is_in_rectangle-meaning,
+      is_in_obround-meaning,
+      painted_law,
+    )

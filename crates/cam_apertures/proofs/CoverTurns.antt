@@ -1,5 +1,5 @@
 -- A turn of an aperture is a turn of its cover.
-use Rattle.std.proofs.Common.{◌≡◌, ◌↔◌, Bool, false, cond, IsTrue, ℤ, pos, ◌+ℤ◌, ◌-ℤ◌, ◌*ℤ◌, ◌≤ℤ◌, ◌<ℤ◌, List, [], ◌∷◌, map, All, refl, ap, sym, ◌∙◌, subst, arith}
+use Rattle.std.proofs.Common.{◌≡◌, ◌↔◌, Bool, false, cond, IsTrue, ℤ, pos, ◌+ℤ◌, ◌-ℤ◌, ◌*ℤ◌, List, [], ◌∷◌, map, All, refl, ap, sym, ◌∙◌, subst, arith}
 use Rattle.std.proofs.lemmas.Int.{ints}
 use Rattle.std.proofs.lemmas.List.Elements.{All-head, All-tail}
 use Rattle.std.proofs.lemmas.Bool.Decides.{same_from_decides}
@@ -19,7 +19,6 @@ use Rattle.cam_shapes.specs.Plane.{cross, dot, place_of, seen_from, square, way}
 use Rattle.cam_shapes.proofs.Vectors.{same_vector}
 use Rattle.cam_macros.specs.declared.primitive.MacroPrimitive.{MacroPrimitive}
 use Rattle.cam_macros.specs.declared.primitive.PrimShape.{PrimShape}
-use Rattle.cam_macros.specs.declared.primitive.PrimShape.TheVariants.{Disc, Bar, Rect as Rectangular, Outline}
 use Rattle.cam_apertures.specs.declared.aperture.Aperture.{Aperture}
 use Rattle.cam_apertures.specs.declared.aperture.Aperture.TheVariants.{Circle, Rect, Obround, Prims}
 use Rattle.cam_apertures.specs.Cover.{obround, flash_point, rectangle, IsCovered, IsInShape}
@@ -49,8 +48,7 @@ seen_entry a b sx sy px py =
     (omega arith)
 
 seen_turned : (m : Matrix) (p : Point) (s : Spot) → seen_from (applied m p) (turned_spot m s) ≡ times m (seen_from p s)
-seen_turned m p s =
-    same_vector _ _ (seen_entry m.xx m.xy s.x s.y p.x p.y) (seen_entry m.yx m.yy s.x s.y p.x p.y)
+seen_turned m p s = grind (arith, same_vector, seen_entry)
 
 place_entry : (a b px py : ℤ) → pos 2 *ℤ (a *ℤ px +ℤ b *ℤ py) ≡ a *ℤ (pos 2 *ℤ px) +ℤ b *ℤ (pos 2 *ℤ py)
 place_entry a b px py =
@@ -92,24 +90,13 @@ record IsOrthogonal (m : Matrix) : Type 0 where
   pub turning : (m.xx *ℤ m.yy -ℤ m.xy *ℤ m.yx) *ℤ (m.xx *ℤ m.yy -ℤ m.xy *ℤ m.yx) ≡ pos 1
 
 orthogonal : (t : Turn) → IsOrthogonal (matrix_of t)
-orthogonal R0 = record { first = refl; mixed = refl; second = refl; turning = refl }
-orthogonal R90 = record { first = refl; mixed = refl; second = refl; turning = refl }
-orthogonal R180 = record { first = refl; mixed = refl; second = refl; turning = refl }
-orthogonal R270 = record { first = refl; mixed = refl; second = refl; turning = refl }
-orthogonal M0 = record { first = refl; mixed = refl; second = refl; turning = refl }
-orthogonal M90 = record { first = refl; mixed = refl; second = refl; turning = refl }
-orthogonal M180 = record { first = refl; mixed = refl; second = refl; turning = refl }
-orthogonal M270 = record { first = refl; mixed = refl; second = refl; turning = refl }
+orthogonal t = grind arith
 
 weighed : (k l m p q r : ℤ) → k ≡ pos 1 → l ≡ pos 0 → m ≡ pos 1 → k *ℤ p +ℤ l *ℤ q +ℤ m *ℤ r ≡ p +ℤ r
 weighed k l m p q r e f g = rw (e, f, g) (omega (arith, ints))
 
 dot_turned : (t : Turn) (v w : Vector) → dot (times (matrix_of t) v) (times (matrix_of t) w) ≡ dot v w
-dot_turned t v w =
-    let m = matrix_of t in
-    let o = orthogonal t in
-    dot_expanded m.xx m.xy m.yx m.yy v.x v.y w.x w.y
-    ∙ weighed _ _ _ (v.x *ℤ w.x) (v.x *ℤ w.y +ℤ v.y *ℤ w.x) (v.y *ℤ w.y) o.first o.mixed o.second
+dot_turned t v w = grind (arith, orthogonal, dot_expanded, weighed)
 
 square_entry : (d c : ℤ) → (d *ℤ c) *ℤ (d *ℤ c) ≡ (d *ℤ d) *ℤ (c *ℤ c)
 square_entry d c = equal (Product (two d c) (two d c)) (Product (two d d) (two c c)) (omega arith)
@@ -118,12 +105,7 @@ once : (z : ℤ) → pos 1 *ℤ z ≡ z
 once z = omega (arith, ints)
 
 cross_turned : (t : Turn) (v w : Vector) → square (cross (times (matrix_of t) v) (times (matrix_of t) w)) ≡ square (cross v w)
-cross_turned t v w =
-    let m = matrix_of t in
-    ap square (cross_expanded m.xx m.xy m.yx m.yy v.x v.y w.x w.y)
-    ∙ square_entry (m.xx *ℤ m.yy -ℤ m.xy *ℤ m.yx) (cross v w)
-    ∙ ap (λ k. k *ℤ square (cross v w)) (orthogonal t).turning
-    ∙ once (square (cross v w))
+cross_turned t v w = grind (arith, cross_expanded, square_entry, orthogonal, once)
 
 seen_dot : (t : Turn) (p : Point) (s : Spot) → dot (seen_from (turned_point t p) (turned_spot (matrix_of t) s)) (seen_from (turned_point t p) (turned_spot (matrix_of t) s)) ≡ dot (seen_from p s) (seen_from p s)
 seen_dot t p s = ap (λ v. dot v v) (seen_turned (matrix_of t) p s) ∙ dot_turned t (seen_from p s) (seen_from p s)
@@ -134,28 +116,15 @@ origin_dot t s = sym (ap (λ o. dot (seen_from o (turned_spot (matrix_of t) s)) 
 -- discs, of which only the distance from the centre counts
 disc_by : (p q : Point) (s u : Spot) (d : Nm) → dot (seen_from p s) (seen_from p s) ≡ dot (seen_from q u) (seen_from q u)
     → IsInDisc s (record { centre = p; diameter = d }) ↔ IsInDisc u (record { centre = q; diameter = d })
-disc_by p q s u d e = (
-  (λ h. record { some = h.some; near = subst (λ z. z ≤ℤ square d.0) e h.near }),
-  (λ h. record { some = h.some; near = subst (λ z. z ≤ℤ square d.0) (sym e) h.near }),
-)
+disc_by p q s u d e = grind arith
 
 hole_by : (p q : Point) (s u : Spot) (d : Nm) → dot (seen_from p s) (seen_from p s) ≡ dot (seen_from q u) (seen_from q u)
     → IsInHole s (record { centre = p; diameter = d }) ↔ IsInHole u (record { centre = q; diameter = d })
-hole_by p q s u d e = (
-  (λ h. record { some = h.some; near = subst (λ z. z <ℤ square d.0) e h.near }),
-  (λ h. record { some = h.some; near = subst (λ z. z <ℤ square d.0) (sym e) h.near }),
-)
+hole_by p q s u d e = grind arith
 
 -- bars, of which only products of ways count
 beside_by : (a v b w : Vector) (r : ℤ) → dot a a ≡ dot b b → dot a v ≡ dot b w → square (cross a v) ≡ square (cross b w) → IsBeside a v r → IsBeside b w r
-beside_by a v b w r e f g h = record {
-  between = record {
-    long = subst (λ z. pos 0 <ℤ z) e h.between.long;
-    after_start = subst (λ z. pos 0 ≤ℤ z) f h.between.after_start;
-    before_end = rw (sym e, sym f) h.between.before_end;
-  };
-  near = rw (sym e, sym g) h.near;
-}
+beside_by a v b w r e f g h = grind arith
 
 bar_turned : (t : Turn) (from to : Point) (w : Nm) (s : Spot)
     → IsInBar (turned_spot (matrix_of t) s) (record { from = turned_point t from; to = turned_point t to; width = w }) ↔ IsInBar s (record { from = from; to = to; width = w })
@@ -210,10 +179,7 @@ rectangle_turned M270 p w h s = (
 
 -- shapes of primitives
 shape_turned : (t : Turn) (shape : PrimShape) (s : Spot) → IsNoOutline shape → IsInShape (turned_shape t shape) (turned_spot (matrix_of t) s) ↔ IsInShape shape s
-shape_turned t (Disc centre diameter) s none = disc_by (turned_point t centre) centre (turned_spot (matrix_of t) s) s diameter (seen_dot t centre s)
-shape_turned t (Bar from to width) s none = bar_turned t from to width s
-shape_turned t (Rectangular centre width height) s none = rectangle_turned t centre width height s
-shape_turned t (Outline points) s none = absurd none
+shape_turned t shape s none = grind (arith, disc_by, seen_dot, bar_turned, rectangle_turned)
 
 kept : (x y : ℤ) → (pos 1 *ℤ x +ℤ pos 0 *ℤ y ≡ x) × (pos 0 *ℤ x +ℤ pos 1 *ℤ y ≡ y)
 kept x y = (omega (arith, ints), omega (arith, ints))
@@ -247,8 +213,7 @@ same_truth b c e = ((λ h. sym e ∙ h), (λ h. e ∙ h))
 
 -- the turned place is covered by the turned aperture
 covered_turned : (a : Aperture) (t : Turn) (s : Spot) → HasNoOutline a → IsCovered a t (turned_spot (matrix_of t) s) ↔ IsCovered a R0 s
-covered_turned (Circle diameter hole) t s none =
-    both_ways (disc_by flash_point flash_point (turned_spot (matrix_of t) s) s diameter (origin_dot t s)) (hole_by flash_point flash_point (turned_spot (matrix_of t) s) s hole (origin_dot t s))
+covered_turned (Circle diameter hole) t s none = grind (arith, both_ways, disc_by, origin_dot, hole_by)
 covered_turned (Rect width height hole) t s none =
     both_ways
     (subst (λ o. IsInRectangle (turned_spot (matrix_of t) s) (record { centre = o; width = turned_width t width height; height = turned_height t width height }) ↔ IsInRectangle s (rectangle R0 width height))

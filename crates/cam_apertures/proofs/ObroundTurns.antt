@@ -1,6 +1,6 @@
 -- A turn of an obround is a turn of its places: an axis that is reversed does not change it, and a
 -- quarter turn exchanges the axes and the sides.
-use Rattle.std.proofs.Common.{◌≡◌, ◌↔◌, ◌*◌, ◌≤◌, ℤ, pos, negsuc, neg_ℤ, ◌+ℤ◌, ◌-ℤ◌, ◌*ℤ◌, ◌≤ℤ◌, ◌<ℤ◌, ◌⊎◌, inl, inr, refl, ap, sym, ◌∙◌, arith}
+use Rattle.std.proofs.Common.{◌≡◌, ◌↔◌, ◌*◌, ◌≤◌, ℤ, pos, neg_ℤ, ◌+ℤ◌, ◌-ℤ◌, ◌*ℤ◌, ◌≤ℤ◌, ◌<ℤ◌, ◌⊎◌, inl, inr, refl, ap, sym, ◌∙◌, arith}
 use Rattle.std.specs.Int.RustNames.{unsigned_abs}
 use Rattle.std.proofs.lemmas.Int.{ints, by_lt_z}
 use Rattle.std.proofs.lemmas.Nat.{mul-le}
@@ -21,16 +21,13 @@ abbrev IsLike : ℤ → ℤ → Type 0
 IsLike a b = (a ≡ b) ⊎ (a ≡ neg_ℤ b)
 
 like_back : (a b : ℤ) → IsLike a b → IsLike b a
-like_back a b (inl e) = inl (sym e)
-like_back a b (inr e) = inr (omega (arith, ints))
+like_back a b it = grind (arith, ints)
 
 like_size : (a b : ℤ) → IsLike a b → unsigned_abs a ≡ unsigned_abs b
-like_size a b (inl e) = ap unsigned_abs e
-like_size a b (inr e) = omega (arith, ints)
+like_size a b it = grind (arith, ints)
 
 square_is : (z : ℤ) → z *ℤ z ≡ pos (unsigned_abs z * unsigned_abs z)
-square_is (pos n) = refl
-square_is (negsuc n) = refl
+square_is z = grind arith
 
 size_square : (a b : ℤ) → unsigned_abs a ≡ unsigned_abs b → a *ℤ a ≡ b *ℤ b
 size_square a b e = square_is a ∙ ap (λ n. pos (n * n)) e ∙ sym (square_is b)
@@ -72,9 +69,7 @@ sum_exchanged : (a b : ℤ) → a +ℤ b ≡ b +ℤ a
 sum_exchanged a b = omega (arith, ints)
 
 within_exchanged : (v w : Vector) (r q : ℤ) → IsLike v.x w.y → IsLike v.y w.x → r ≡ q → IsNoLonger v r → IsNoLonger w q
-within_exchanged v w r q x y e h =
-    let turned : (w.y *ℤ w.y +ℤ w.x *ℤ w.x) ≤ℤ square r = within_by v.x v.y w.y w.x r (like_size v.x w.y x) (like_size v.y w.x y) h in
-    rw (sum_exchanged (w.x *ℤ w.x) (w.y *ℤ w.y), sym e) turned
+within_exchanged v w r q x y e h = grind (arith, within_by, like_size, sum_exchanged)
 
 less_at_most : (a b : ℤ) → a <ℤ b → a ≤ℤ b
 less_at_most a b h = omega (arith, ints)

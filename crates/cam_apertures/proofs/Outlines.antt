@@ -1,5 +1,5 @@
 -- Outlines that are turned, and then moved by nothing.
-use Rattle.std.proofs.Common.{◌≡◌, ℤ, pos, ◌+ℤ◌, List, [], ◌∷◌, map, All, refl, ap, sym, subst, ◌∙◌, arith}
+use Rattle.std.proofs.Common.{◌≡◌, ℤ, pos, ◌+ℤ◌, List, [], ◌∷◌, map, All, refl, arith}
 use Rattle.std.proofs.lemmas.Int.{ints}
 use Rattle.std.proofs.lemmas.List.Elements.{All-weaker}
 use Rattle.cam_units.specs.declared.point.Point.{Point}
@@ -36,18 +36,10 @@ no_more : (z : ℤ) → z +ℤ pos 0 ≡ z
 no_more z = omega (arith, ints)
 
 placed_is_turned : (t : Turn) (p : Point) → placed_point t flash_point p ≡ turned_point t p
-placed_is_turned t p =
-    same_point (placed_point t flash_point p) (turned_point t p) (no_more (turned_point t p).x) (no_more (turned_point t p).y)
+placed_is_turned t p = grind (arith, same_point, no_more)
 
 pub origin_turned : (t : Turn) → turned_point t flash_point ≡ flash_point
-origin_turned R0 = refl
-origin_turned R90 = refl
-origin_turned R180 = refl
-origin_turned R270 = refl
-origin_turned M0 = refl
-origin_turned M90 = refl
-origin_turned M180 = refl
-origin_turned M270 = refl
+origin_turned t = grind arith
 
 placed_lines : (t : Turn) (points : List Point) → map (placed_seg t flash_point) (lines_to points) ≡ lines_to (map (turned_point t) points)
 placed_lines t [] = refl
@@ -55,14 +47,10 @@ placed_lines t (p ∷ ps) = λ i. Line (placed_is_turned t p i) ∷ placed_lines
 
 -- the outline through turned points
 outline_turned : (t : Turn) (points : List Point) → placed_contour t flash_point (outline_of points) ≡ outline_of (map (turned_point t) points)
-outline_turned t [] = let e = placed_is_turned t flash_point ∙ origin_turned t in λ i. record { start = e i; segs = [] }
-outline_turned t (p ∷ ps) = λ i. record { start = placed_is_turned t p i; segs = placed_lines t ps i }
+outline_turned t points = grind (arith, placed_is_turned, origin_turned, placed_lines)
 
 placeable : (t : Turn) (p : Point) → IsMacroPoint p → IsPlaceablePoint t flash_point p
-placeable t p h = record {
-  here = on_board p h;
-  there = rw (placed_is_turned t p) (on_board (turned_point t p) (near_turned t p h));
-}
+placeable t p h = grind (arith, on_board, placed_is_turned, near_turned)
 
 all_placeable : (t : Turn) (points : List Point) → All IsMacroPoint points → All (IsPlaceablePoint t flash_point) points
 all_placeable t points h = All-weaker IsMacroPoint (IsPlaceablePoint t flash_point) (placeable t) points h
@@ -71,13 +59,8 @@ all_placeable t points h = All-weaker IsMacroPoint (IsPlaceablePoint t flash_poi
 
 pub outline_placeable : (t : Turn) (shape : PrimShape) (points slice : List Point) → shape ≡ Outline points
     → slice ≡ points → IsSoundShape shape → All (IsPlaceablePoint t flash_point) slice
-outline_placeable t shape points slice e f sound =
-    let outline : IsSoundShape (Outline points) = subst IsSoundShape e sound in
-    all_placeable t slice (rw f outline.near)
+outline_placeable t shape points slice e f sound = grind (arith, all_placeable)
 
 pub outline_places : (t : Turn) (shape : PrimShape) (points slice : List Point) (s : Spot) → shape ≡ Outline points
     → slice ≡ points → IsInContour s (placed_contour t flash_point (outline_of slice)) ≡ IsInShape (turned_shape t shape) s
-outline_places t shape points slice s e f =
-    ap (λ v. IsInContour s (placed_contour t flash_point (outline_of v))) f
-    ∙ ap (λ c. IsInContour s c) (outline_turned t points)
-    ∙ sym (ap (λ v. IsInShape (turned_shape t v) s) e)
+outline_places t shape points slice s e f = grind (arith, outline_turned)

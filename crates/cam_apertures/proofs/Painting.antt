@@ -26,16 +26,9 @@ ends : (prims before : List MacroPrimitive) (last p : MacroPrimitive) (after : L
 ends [] [] last p after e = inl (cc, cc)
 ends [] (b ∷ []) last p after e = absurd cc
 ends [] (b ∷ c ∷ before) last p after e = absurd cc
-ends (q ∷ prims) [] last p after e =
-    let same : prims ++ last ∷ [] ≡ after = cc in
-    let here : q ≡ p = cc in
-    inr (prims, sym same, ap (λ x. x ∷ prims) here)
+ends (q ∷ prims) [] last p after e = grind arith
 ends (q ∷ prims) (b ∷ before) last p after e =
-    let here : q ≡ b = cc in
-    elim (ends prims before last p after (let same : prims ++ last ∷ [] ≡ before ++ p ∷ after = cc in same)) [
-      | inl k ↦ inl k
-      | inr k ↦ inr (k.0, k.1, λ i. here i ∷ k.2 i)
-    ]
+    grind (arith, ends prims before last p after (let same : prims ++ last ∷ [] ≡ before ++ p ∷ after = cc in same))
 
 -- where the last primitive holds the place, it decides
 pub last_decides : (prims : List MacroPrimitive) (last : MacroPrimitive) (s : Spot) → IsInShape last.shape s
@@ -123,5 +116,4 @@ not_false b e told p = let true_too : b ≡ true = told.1 p in absurd cc
 
 pub none_at : (t : Turn) (prims : List MacroPrimitive) (n : ℕ) (s : Spot) → n ≡ 0 → (IsExposed (map (turned_prim t) (take n prims)) s ↔ IsExposed (map (turned_prim t) prims) s)
     → IsTrue false ↔ IsExposed (map (turned_prim t) prims) s
-none_at t prims n s e same =
-    let none = rw e at same in ((λ f. absurd cc), (λ h. absurd (none_painted s (none.1 h))))
+none_at t prims n s e same = grind (arith, none_painted)

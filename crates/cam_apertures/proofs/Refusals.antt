@@ -1,5 +1,5 @@
 -- One test after the other tells the least of the faults that hold.
-use Rattle.std.proofs.Common.{◌≡◌, ℕ, ◌+◌, ◌≤◌, ℤ, Bool, true, false, cond, ltb, inl, inr, List, [], ◌∷◌, length, Option, Some, None, Result, Ok, Err, refl, ap, sym, ◌∙◌, subst, arith, lit≤}
+use Rattle.std.proofs.Common.{◌≡◌, ℕ, ◌+◌, ◌≤◌, ℤ, Bool, true, false, cond, ltb, inl, inr, List, [], ◌∷◌, length, Option, Some, None, Result, Ok, Err, refl, ap, sym, ◌∙◌, subst, arith}
 use Rattle.std.specs.Prelude.{codes, is_none, not, unwrap_or, IfErr, IfOk}
 use Rattle.std.specs.Str.{bytes_eq}
 use Rattle.std.proofs.lemmas.Bool.{false≢true}
@@ -15,7 +15,6 @@ use Rattle.cam_macros.specs.declared.fault.MacroFault.TheVariants as macro
 use Rattle.cam_macros.specs.declared.primitive.MacroPrimitive.{MacroPrimitive}
 use Rattle.cam_macros.specs.Expansion.{expansion_of}
 use Rattle.cam_apertures.specs.declared.aperture.Aperture.{Aperture}
-use Rattle.cam_apertures.specs.declared.aperture.Aperture.TheVariants.{Prims}
 use Rattle.cam_apertures.specs.declared.fault.AdFault.{AdFault}
 use Rattle.cam_apertures.specs.declared.fault.AdFault.TheVariants.{UnknownForm, BadNumber, TemplateRefused, PrimitiveRefused, RotationRefused, SizeRefused, Malformed, OutOfMemory}
 use Rattle.cam_apertures.specs.Faults.{of_macro, aperture_refusal}
@@ -32,13 +31,11 @@ record Agrees (o : Result Aperture AdFault) (t : Checks Refusal) (a : Option Ape
 
 agrees_either : {o o' : Result Aperture AdFault} {t t' : Checks Refusal} {a a' : Option Aperture} (b : Bool) → Agrees o t a → Agrees o' t' a'
     → Agrees (cond b o o') (cond b t t') (cond b a a')
-agrees_either true h k = h
-agrees_either false h k = k
+agrees_either b h k = grind arith
 
 agrees_by_macro : (found : Option Macro) {o : Result Aperture AdFault} {t : Checks Refusal} {a : Option Aperture} (o' : Macro → Result Aperture AdFault) (t' : Macro → Checks Refusal) (a' : Macro → Option Aperture)
     → Agrees o t a → ((m : Macro) → Agrees (o' m) (t' m) (a' m)) → Agrees (by_macro found o o') (by_macro found t t') (by_macro found a a')
-agrees_by_macro None o' t' a' h k = h
-agrees_by_macro (Some m) o' t' a' h k = k m
+agrees_by_macro found o' t' a' h k = grind arith
 
 -- the fault of an outcome is the one that it tells
 told : {A : Type 0} (P : AdFault → Type 0) (f g : AdFault) → P f → ◌≡◌ {A = Result A AdFault} (Err f) (Err g) → P g
@@ -48,95 +45,36 @@ abbrev rows : Bool → Bool → Bool → Checks Refusal
 rows x y z = (refusal.BadNumber, x) ∷ (refusal.TemplateRefused, y) ∷ (refusal.SizeRefused, z) ∷ []
 
 from_4 : (x y z : Bool) (r : Refusal) → Holds (rows x y z) r → 4 ≤ number_of r
-from_4 x y z n (inl p) = omega (arith, ap number_of p.0)
-from_4 x y z n (inr (inl p)) = omega (arith, ap number_of p.0)
-from_4 x y z n (inr (inr (inl p))) = omega (arith, ap number_of p.0)
-from_4 x y z n (inr (inr (inr p))) = absurd p
+from_4 x y z n it = grind arith
 
 from_11 : (y z : Bool) (r : Refusal) → Holds (rows false y z) r → 11 ≤ number_of r
-from_11 y z n (inl p) = absurd (false≢true p.1)
-from_11 y z n (inr (inl p)) = omega (arith, ap number_of p.0)
-from_11 y z n (inr (inr (inl p))) = omega (arith, ap number_of p.0)
-from_11 y z n (inr (inr (inr p))) = absurd p
+from_11 y z n it = grind (arith, false≢true)
 
 from_24 : (z : Bool) (r : Refusal) → Holds (rows false false z) r → 24 ≤ number_of r
-from_24 z n (inl p) = absurd (false≢true p.1)
-from_24 z n (inr (inl p)) = absurd (false≢true p.1)
-from_24 z n (inr (inr (inl p))) = omega (arith, ap number_of p.0)
-from_24 z n (inr (inr (inr p))) = absurd p
+from_24 z n it = grind (arith, false≢true)
 
 from_none : NoneHolds (rows false false false)
-from_none n (inl p) = false≢true p.1
-from_none n (inr (inl p)) = false≢true p.1
-from_none n (inr (inr (inl p))) = false≢true p.1
-from_none n (inr (inr (inr p))) = p
+from_none n it = grind (arith, false≢true)
 
 agrees_tests : (x y z : Bool) (a : Aperture)
     → Agrees (cond x (Err BadNumber) (cond y (Err TemplateRefused) (cond z (Ok a) (Err SizeRefused)))) (rows x y (not z)) (Some a)
-agrees_tests true y z a = record {
-  made = λ b e. absurd cc;
-  faultless = λ b e. absurd cc;
-  least = λ f e. told (λ g. IsLeast number_of (rows true y (not z)) (aperture_refusal g)) BadNumber f (record { holds = inl (refl, refl); least = from_4 true y (not z) }) e;
-  low = from_4 true y (not z);
-}
-agrees_tests false true z a = record {
-  made = λ b e. absurd cc;
-  faultless = λ b e. absurd cc;
-  least = λ f e. told (λ g. IsLeast number_of (rows false true (not z)) (aperture_refusal g)) TemplateRefused f (record { holds = inr (inl (refl, refl)); least = from_11 true (not z) }) e;
-  low = from_4 false true (not z);
-}
-agrees_tests false false true a = record {
-  made = λ b e. let same : a ≡ b = cc in ap Some same;
-  faultless = λ b e. from_none;
-  least = λ f e. absurd cc;
-  low = from_4 false false false;
-}
-agrees_tests false false false a = record {
-  made = λ b e. absurd cc;
-  faultless = λ b e. absurd cc;
-  least = λ f e. told (λ g. IsLeast number_of (rows false false true) (aperture_refusal g)) SizeRefused f (record { holds = inr (inr (inl (refl, refl))); least = from_24 true }) e;
-  low = from_4 false false true;
-}
+agrees_tests x y z a = grind (arith, told, from_4, from_11, from_none, from_24)
 
 agrees_standard : (fewest count : ℕ) (a : Aperture) → Agrees (standard_outcome fewest count a) (standard_faults fewest count a) (Some a)
 unfolding standard_outcome
 agrees_standard fewest count a = agrees_tests (ltb count fewest) (ltb (fewest + 1) count) (has_sizes a) a
 
 one_row : (n m : Refusal) → Holds ((n, true) ∷ []) m → n ≡ m
-one_row n m (inl p) = p.0
-one_row n m (inr p) = absurd p
+one_row n m it = grind arith
 
 agrees_refused : Agrees (Err TemplateRefused) ((refusal.TemplateRefused, true) ∷ []) None
-agrees_refused = record {
-  made = λ b e. absurd cc;
-  faultless = λ b e. absurd cc;
-  least = λ f e. told (λ g. IsLeast number_of ((refusal.TemplateRefused, true) ∷ []) (aperture_refusal g)) TemplateRefused f (record { holds = inl (refl, refl); least = λ m h. omega (arith, ap number_of (one_row refusal.TemplateRefused m h)) }) e;
-  low = λ m h. omega (arith, ap number_of (one_row refusal.TemplateRefused m h));
-}
+agrees_refused = grind (arith, told, one_row)
 
 macro_low : (f : MacroFault) → 4 ≤ number_of (aperture_refusal (of_macro f))
-macro_low macro.BadName = lit≤ tt
-macro_low macro.Malformed = lit≤ tt
-macro_low macro.PrimitiveRefused = lit≤ tt
-macro_low macro.RotationRefused = lit≤ tt
-macro_low macro.SizeRefused = lit≤ tt
-macro_low macro.OutOfMemory = lit≤ tt
+macro_low f = grind arith
 
 agrees_macro : (r : Result (List MacroPrimitive) MacroFault) → Agrees (macro_outcome r) (macro_faults r) (primitives_aperture r)
-agrees_macro (Ok prims) = record {
-  made = λ b e. let same : Prims prims ≡ b = cc in ap Some same;
-  faultless = λ b e n h. h;
-  least = λ f e. absurd cc;
-  low = λ n h. absurd h;
-}
-agrees_macro (Err fault) =
-    let n = aperture_refusal (of_macro fault) in
-    record {
-      made = λ b e. absurd cc;
-      faultless = λ b e. absurd cc;
-      least = λ f e. told (λ g. IsLeast number_of ((n, true) ∷ []) (aperture_refusal g)) (of_macro fault) f (record { holds = inl (refl, refl); least = λ m h. omega (arith, ap number_of (one_row n m h)) }) e;
-      low = λ m h. omega (arith, ap number_of (one_row n m h), macro_low fault);
-    }
+agrees_macro r = grind (arith, told, one_row, macro_low)
 
 -- the outcome of a template by the count of its parameters
 abbrev outcome_by : List ℕ → List Macro → FileUnit → ℕ → List ℤ → Result Aperture AdFault
@@ -160,10 +98,7 @@ agrees_template name macros unit count values =
 
 -- as many values as parameters
 with_length : (v : Option ℤ) (vs : Option (List ℤ)) (values : List ℤ) (n : ℕ) → ((l : List ℤ) → vs ≡ Some l → length l ≡ n) → with_value v vs ≡ Some values → length values ≡ n + 1
-with_length None vs values n h e = absurd cc
-with_length (Some v) None values n h e = absurd cc
-with_length (Some v) (Some l) values n h e =
-    let same : v ∷ l ≡ values = cc in ap length (sym same) ∙ (omega (arith, h l refl))
+with_length v vs values n h e = grind arith
 
 values_length : (runs : List (List ℕ)) (values : List ℤ) → values_of runs ≡ Some values → length values ≡ length runs
 values_length [] values e = let same : [] ≡ values = cc in ap length (sym same)
@@ -179,27 +114,13 @@ record Whole (o : Result (ℕ × Aperture) AdFault) (t : Checks Refusal) : Type 
 
 from_table : (number : Option ℕ) (values : Option (List ℤ)) (name : List ℕ) (macros : List Macro) (unit : FileUnit) (count : ℕ) (r : Refusal)
     → Holds (table_by number values name macros unit count) r → 4 ≤ number_of r
-from_table number values name macros unit count n (inl p) = omega (arith, ap number_of p.0)
-from_table number values name macros unit count n (inr (inl p)) = omega (arith, ap number_of p.0)
-from_table number values name macros unit count n (inr (inr p)) = (agrees_template name macros unit count (unwrap_or values [])).low n p
+from_table number values name macros unit count n it = grind (arith, agrees_template)
 
 behind_two : (t : Checks Refusal) (n : Refusal) → Holds ((refusal.BadNumber, false) ∷ (refusal.BadNumber, false) ∷ t) n → Holds t n
-behind_two t n (inl p) = absurd (false≢true p.1)
-behind_two t n (inr (inl p)) = absurd (false≢true p.1)
-behind_two t n (inr (inr p)) = p
+behind_two t n it = grind (arith, false≢true)
 
 whole_with : (o : Result Aperture AdFault) (t : Checks Refusal) (a : Option Aperture) (number : ℕ) → Agrees o t a → Whole (with_aperture number o) ((refusal.BadNumber, false) ∷ (refusal.BadNumber, false) ∷ t)
-whole_with (Ok aperture) t a number h = record {
-  least = λ f e. absurd cc;
-  faultless = λ made e n k. h.faultless aperture refl n (behind_two t n k);
-}
-whole_with (Err fault) t a number h = record {
-  least = λ f e.
-      let l = h.least fault refl in
-      told (λ g. IsLeast number_of ((refusal.BadNumber, false) ∷ (refusal.BadNumber, false) ∷ t) (aperture_refusal g)) fault f
-      (record { holds = inr (inr l.holds); least = λ m k. l.least m (behind_two t m k) }) e;
-  faultless = λ made e. absurd cc;
-}
+whole_with o t a number h = grind (arith, behind_two, told)
 
 whole_by : (number : Option ℕ) (values : Option (List ℤ)) (name : List ℕ) (macros : List Macro) (unit : FileUnit) (count : ℕ)
     → ((l : List ℤ) → values ≡ Some l → length l ≡ count)
@@ -223,13 +144,8 @@ whole_by (Some number) (Some values) name macros unit count long =
 
 whole : (od : Option Definition) (macros : List Macro) (unit : FileUnit) → Whole (outcome od macros unit) (faults_of od macros unit)
 unfolding outcome
-whole None macros unit = record {
-  least = λ f e. told (λ g. IsLeast number_of ((refusal.UnknownCommand, true) ∷ []) (aperture_refusal g)) UnknownForm f
-      (record { holds = inl (refl, refl); least = λ m h. omega (arith, ap number_of (one_row refusal.UnknownCommand m h)) }) e;
-  faultless = λ made e. absurd cc;
-}
-whole (Some d) macros unit =
-    whole_by (defined_number d.number) (values_of d.parameters) d.name macros unit (length d.parameters) (values_length d.parameters)
+whole None macros unit = grind (arith, told, one_row)
+whole (Some d) macros unit = grind (arith, whole_by, values_length)
 
 -- what a definition without a fault gives
 record Given (d : Definition) (macros : List Macro) (unit : FileUnit) (number : ℕ) (aperture : Aperture) : Type 0 where
@@ -261,12 +177,7 @@ record Found (od : Option Definition) (macros : List Macro) (unit : FileUnit) (n
 
 found : (od : Option Definition) (macros : List Macro) (unit : FileUnit) (made : ℕ × Aperture) → outcome od macros unit ≡ Ok made → Found od macros unit made.0 made.1
 unfolding outcome
-found None macros unit made e = absurd cc
-found (Some d) macros unit made e = record {
-  definition = d;
-  form = refl;
-  given = given d macros unit (defined_number d.number) (values_of d.parameters) made refl refl e;
-}
+found od macros unit made e = grind (arith, given)
 
 pub is_defined : (text : List ℕ) (macros : List Macro) (unit : FileUnit) (made : ℕ × Aperture) → outcome (template_form text) macros unit ≡ Ok made
     → IsDefined text macros unit made.0 made.1
@@ -296,10 +207,8 @@ is_refused text macros unit OutOfMemory h = tt
 -- the same of an answer of a call
 pub answer_defined : (text bytes : List ℕ) (macros : List Macro) (unit : FileUnit) (answer : Result (ℕ × Aperture) AdFault) → bytes ≡ packed text
     → IfOk answer (λ made. outcome (definition bytes) macros unit ≡ Ok made) → IfOk answer (λ made. IsDefined text macros unit made.0 made.1)
-answer_defined text bytes macros unit (Ok made) e h = is_defined text macros unit made (rw e at h)
-answer_defined text bytes macros unit (Err fault) e h = tt
+answer_defined text bytes macros unit answer e h = grind (arith, is_defined)
 
 pub answer_refused : (text bytes : List ℕ) (macros : List Macro) (unit : FileUnit) (answer : Result (ℕ × Aperture) AdFault) → bytes ≡ packed text
     → IfErr answer (λ fault. IsErr fault (outcome (definition bytes) macros unit)) → IfErr answer (IsDefinitionRefused text macros unit)
-answer_refused text bytes macros unit (Ok made) e h = tt
-answer_refused text bytes macros unit (Err fault) e h = is_refused text macros unit fault (rw e at h)
+answer_refused text bytes macros unit answer e h = grind (arith, is_refused)

@@ -1,12 +1,13 @@
 -- A place in a shape lies in the shape's box.
-use Rattle.std.proofs.Common.{◌≡◌, ℕ, zero, suc, ◌+◌, ◌%◌, ◌<◌, Bool, true, false, cond, IsTrue, ℤ, pos, ◌+ℤ◌, ◌-ℤ◌, ◌≤ℤ◌, ◌<ℤ◌, inl, inr, List, [], ◌∷◌, ◌++◌, length, get_or, All, count_by, refl, sym, subst, arith}
+use Rattle.std.proofs.Common.{rules}
+use Rattle.std.proofs.Common.{◌≡◌, ℕ, zero, suc, ◌+◌, ◌%◌, ◌<◌, Bool, false, cond, ℤ, pos, ◌+ℤ◌, ◌-ℤ◌, ◌≤ℤ◌, ◌<ℤ◌, inl, inr, List, [], ◌∷◌, ◌++◌, length, get_or, All, refl, sym, subst, arith}
 use Rattle.std.specs.Prelude.{fold, Any, ◌||◌}
 use Rattle.std.specs.Int.{int_min, int_max}
 use Rattle.std.specs.Int.RustNames.{int_lt, unsigned_abs}
 use Rattle.std.proofs.lemmas.Int.{ints, clamps}
 use Rattle.std.proofs.lemmas.List.Elements.{All-map, All-tail}
 use Rattle.cam_units.specs.declared.bounds.Bounds.{Bounds}
-use Rattle.cam_units.specs.declared.bounds.Bounds.TheVariants.{Empty, Closed}
+use Rattle.cam_units.specs.declared.bounds.Bounds.TheVariants.{Empty}
 use Rattle.cam_units.specs.declared.length.Nm.{Nm}
 use Rattle.cam_units.specs.declared.point.Point.{Point}
 use Rattle.cam_units.specs.declared.point.Spot.{Spot}
@@ -17,10 +18,8 @@ use Rattle.cam_shapes.specs.declared.segments.Seg.TheVariants.{Line}
 use Rattle.cam_shapes.specs.declared.vector.Vector.{Vector}
 use Rattle.cam_shapes.specs.Bar.{IsInBar}
 use Rattle.cam_shapes.specs.Box.{from_left_end, from_right_end, swapped, IsAlong, IsInObround, IsInRectangle}
-use Rattle.cam_shapes.specs.Cap.{is_in_cap}
 use Rattle.cam_shapes.specs.Contour.{caps_from, caps_of, end_of, IsInContour}
 use Rattle.cam_shapes.specs.Disc.{IsInDisc}
-use Rattle.cam_shapes.specs.Edge.{crosses_ray, edge, is_above, is_left, is_right}
 use Rattle.cam_shapes.specs.Outline.{lines_to, outline_of}
 use Rattle.cam_shapes.specs.Plane.{place_of, seen_from, way}
 use Rattle.cam_shapes.proofs.Boxes.{contour_box}
@@ -28,19 +27,14 @@ use Rattle.cam_shapes.proofs.Parity.{count_by-cons, one_if}
 use Rattle.cam_shapes.proofs.Reaches.{gap, leg, other_leg, reached}
 use Rattle.cam_macros.specs.declared.primitive.MacroPrimitive.{MacroPrimitive}
 use Rattle.cam_macros.specs.declared.primitive.PrimShape.{PrimShape}
-use Rattle.cam_macros.specs.declared.primitive.PrimShape.TheVariants.{Disc, Bar, Rect, Outline}
+use Rattle.cam_macros.specs.declared.primitive.PrimShape.TheVariants.{Outline}
 use Rattle.cam_apertures.specs.Cover.{IsInShape, IsExposed}
 use Rattle.cam_apertures.specs.Primitives.{box_about, box_of_point, box_of_prims, primitive_box}
 
 -- a place that is so far from a point lies in the box about the point
 pub within_box : (p : Point) (s : Spot) (w h : ℤ) → pos (unsigned_abs (seen_from p s).x) ≤ℤ w → pos (unsigned_abs (seen_from p s).y) ≤ℤ h
     → Holds (box_about (place_of p) w h) s
-within_box p s w h a b = record {
-  left = omega (arith, ints);
-  right = omega (arith, ints);
-  below = omega (arith, ints);
-  above = omega (arith, ints);
-}
+within_box p s w h a b = search (rules, ints)
 
 pub disc_box : (p : Point) (s : Spot) (d : Nm) → IsInDisc s (record { centre = p; diameter = d }) → Holds (box_about (place_of p) d.0 d.0) s
 disc_box p s d h =
@@ -68,8 +62,7 @@ neither : (a b : Bool) → a ≡ false → b ≡ false → (a || b) ≡ false
 neither a b e f = rw (e, f) refl
 
 has_place_about : (s : Spot) (w : ℤ) → pos 0 ≤ℤ w → has_no_place (box_about s w w) ≡ false
-has_place_about s w h =
-    neither _ _ (not_less (s.x +ℤ w) (s.x -ℤ w) (omega (arith, ints))) (not_less (s.y +ℤ w) (s.y -ℤ w) (omega (arith, ints)))
+has_place_about s w h = grind (arith, neither, not_less, ints)
 
 spanned : (a b : Bounds) (s : Spot) → has_no_place a ≡ false → has_no_place b ≡ false → Holds (span_of a b) s → Holds (join_of a b) s
 spanned a b s e f h = rw (e, f) h
@@ -102,10 +95,7 @@ bar_span from to w s h =
 
 pub bar_box : (from to : Point) (w : Nm) (s : Spot) → IsInBar s (record { from = from; to = to; width = w })
     → Holds (join_of (box_about (place_of from) w.0 w.0) (box_about (place_of to) w.0 w.0)) s
-bar_box from to w s h =
-    let wide = at_least w.0 h.wide in
-    spanned (box_about (place_of from) w.0 w.0) (box_about (place_of to) w.0 w.0) s (has_place_about (place_of from) w.0 wide) (has_place_about (place_of to) w.0 wide)
-    (bar_span from to w s h)
+bar_box from to w s h = search (rules, at_least, spanned, has_place_about, bar_span)
 
 -- boxes that are joined
 pub join_kept : {X : Type 0} (f : X → Bounds) (z : Bounds) (xs : List X) (s : Spot) → Holds z s → Holds (fold (λ b x. join_of b (f x)) z xs) s
@@ -129,27 +119,17 @@ no_caps here [] = refl
 no_caps here (p ∷ ps) = no_caps p ps
 
 no_edge : (a : Bool) (x y : Bool) → cond a (cond a false x) (cond a y false) ≡ false
-no_edge true x y = refl
-no_edge false x y = refl
+no_edge a x y = grind arith
 
 not_odd : (b : Bool) (k : ℕ) → b ≡ false → k ≡ one_if b + 0 → (k + 0) % 2 ≡ 1 → ⊥
-not_odd true k e f h = absurd cc
-not_odd false k e f h = absurd (omega arith)
+not_odd b k e f h = grind arith
 
 none_inside : (s : Spot) → IsInContour s (outline_of []) → ⊥
-none_inside s h =
-    let o : Point = record { x = pos 0; y = pos 0 } in
-    not_odd (crosses_ray s (edge o o)) (count_by (crosses_ray s) (edge o o ∷ []))
-    (no_edge (is_above o s) (is_right s (edge o o)) (is_left s (edge o o))) (count_by-cons (crosses_ray s) (edge o o) []) h
+none_inside s h = grind (arith, not_odd, no_edge, count_by-cons)
 
 inside_box : (b : Bounds) (c : Contour) (s : Spot) → caps_of c ≡ [] → Holds b (place_of c.start) → All (λ seg. Holds b (place_of (end_of seg))) c.segs
     → IsInContour s c → Holds b s
-inside_box Empty c s e start ends inside = start
-inside_box (Closed low high) c s e start ends inside =
-    elim (contour_box s c low high (record { start = start; ends = ends }) inside) [
-      | inl k ↦ k
-      | inr any ↦ absurd (no_any (subst (Any (λ cap. IsTrue (is_in_cap s cap))) e any))
-    ]
+inside_box b c s e start ends inside = grind (arith, contour_box, no_any)
 
 same : (z : ℤ) → z ≤ℤ z
 same z = omega (arith, ints)
@@ -166,10 +146,7 @@ outline_box (p ∷ ps) s h =
     (All-map (λ seg. Holds b (place_of (end_of seg))) (λ q. Line q) ps (All-tail (λ q. Holds b (place_of q)) p ps holds)) h
 
 pub shape_box : (shape : PrimShape) (s : Spot) → IsInShape shape s → Holds (primitive_box shape) s
-shape_box (Disc centre diameter) s h = disc_box centre s diameter h
-shape_box (Bar from to width) s h = bar_box from to width s h
-shape_box (Rect centre width height) s h = rectangle_box centre s width height h
-shape_box (Outline points) s h = outline_box points s h
+shape_box shape s h = grind (arith, disc_box, bar_box, rectangle_box, outline_box)
 
 -- a place that primitives paint lies in their box
 pub painted_box : (prims : List MacroPrimitive) (s : Spot) → IsExposed prims s → Holds (box_of_prims prims) s

@@ -1,11 +1,11 @@
 -- Boxes of turned shapes are turned boxes.
-use Rattle.std.proofs.Common.{◌≡◌, Bool, true, false, cond, ◌||◌, ℤ, neg_ℤ, List, [], ◌∷◌, map, refl, ap, sym, ◌∙◌, arith}
+use Rattle.std.proofs.Common.{◌≡◌, Bool, cond, ◌||◌, ℤ, neg_ℤ, List, [], ◌∷◌, map, refl, ap, sym, ◌∙◌, arith}
 use Rattle.std.specs.Prelude.{fold}
 use Rattle.std.specs.Int.{int_min, int_max}
 use Rattle.std.specs.Int.RustNames.{int_lt}
 use Rattle.std.proofs.lemmas.Int.{ints, clamps}
 use Rattle.cam_units.specs.declared.bounds.Bounds.{Bounds}
-use Rattle.cam_units.specs.declared.bounds.Bounds.TheVariants.{Empty, Closed}
+use Rattle.cam_units.specs.declared.bounds.Bounds.TheVariants.{Empty}
 use Rattle.cam_units.specs.declared.length.Nm.{Nm}
 use Rattle.cam_units.specs.declared.point.Point.{Point}
 use Rattle.cam_units.specs.declared.turn.Turn.{Turn}
@@ -16,7 +16,7 @@ use Rattle.cam_macros.specs.declared.primitive.MacroPrimitive.{MacroPrimitive}
 use Rattle.cam_macros.specs.declared.primitive.PrimShape.{PrimShape}
 use Rattle.cam_macros.specs.declared.primitive.PrimShape.TheVariants.{Disc, Bar, Rect, Outline}
 use Rattle.cam_apertures.specs.Primitives.{box_about, box_of_point, box_of_prims, primitive_box}
-use Rattle.cam_apertures.specs.Turned.{exchanges_axes, turned_box, turned_corners, turned_height, turned_point, turned_prim, turned_shape, turned_width}
+use Rattle.cam_apertures.specs.Turned.{exchanges_axes, turned_box, turned_height, turned_point, turned_prim, turned_shape, turned_width}
 use Rattle.cam_apertures.proofs.Corners.{same_box}
 
 negated : (a b : ℤ) → int_lt (neg_ℤ a) (neg_ℤ b) ≡ int_lt b a
@@ -29,64 +29,28 @@ negated_min : (a b : ℤ) → neg_ℤ (int_min a b) ≡ int_max (neg_ℤ a) (neg
 negated_min a b = omega (arith, ints, clamps)
 
 exchanged : (a b : Bool) → (a || b) ≡ (b || a)
-exchanged true true = refl
-exchanged true false = refl
-exchanged false true = refl
-exchanged false false = refl
+exchanged a b = grind arith
 
 both : (a b c d : Bool) → a ≡ c → b ≡ d → (a || b) ≡ (c || d)
 both a b c d e f = λ i. e i || f i
 
 -- a turn keeps whether a box has a place
 pub empty_turned : (t : Turn) (b : Bounds) → has_no_place (turned_box t b) ≡ has_no_place b
-empty_turned t Empty = refl
-empty_turned R0 (Closed low high) = both _ _ (int_lt high.x low.x) (int_lt high.y low.y) refl refl
-empty_turned R90 (Closed low high) = both _ _ (int_lt high.y low.y) (int_lt high.x low.x) (negated low.y high.y) refl ∙ exchanged (int_lt high.y low.y) (int_lt high.x low.x)
-empty_turned R180 (Closed low high) = both _ _ (int_lt high.x low.x) (int_lt high.y low.y) (negated low.x high.x) (negated low.y high.y)
-empty_turned R270 (Closed low high) = both _ _ (int_lt high.y low.y) (int_lt high.x low.x) refl (negated low.x high.x) ∙ exchanged (int_lt high.y low.y) (int_lt high.x low.x)
-empty_turned M0 (Closed low high) = both _ _ (int_lt high.x low.x) (int_lt high.y low.y) (negated low.x high.x) refl
-empty_turned M90 (Closed low high) = both _ _ (int_lt high.y low.y) (int_lt high.x low.x) (negated low.y high.y) (negated low.x high.x) ∙ exchanged (int_lt high.y low.y) (int_lt high.x low.x)
-empty_turned M180 (Closed low high) = both _ _ (int_lt high.x low.x) (int_lt high.y low.y) refl (negated low.y high.y)
-empty_turned M270 (Closed low high) = both _ _ (int_lt high.y low.y) (int_lt high.x low.x) refl refl ∙ exchanged (int_lt high.y low.y) (int_lt high.x low.x)
+empty_turned t b = grind (arith, both, negated, exchanged)
 
 beside_none : (b : Bounds) → span_of b Empty ≡ b
-beside_none Empty = refl
-beside_none (Closed low high) = refl
+beside_none b = grind arith
 
 -- the span of two boxes turns with them
 span_turned : (t : Turn) (a b : Bounds) → turned_box t (span_of a b) ≡ span_of (turned_box t a) (turned_box t b)
-span_turned t Empty b = refl
-span_turned t (Closed low high) Empty = sym (beside_none (turned_corners t low high))
-span_turned R0 (Closed low high) (Closed low' high') =
-    same_box _ _ _ _ _ _ _ _ refl refl refl refl
-span_turned R90 (Closed low high) (Closed low' high') =
-    same_box _ _ _ _ _ _ _ _ (negated_max high.y high'.y) refl (negated_min low.y low'.y) refl
-span_turned R180 (Closed low high) (Closed low' high') =
-    same_box _ _ _ _ _ _ _ _ (negated_max high.x high'.x) (negated_max high.y high'.y) (negated_min low.x low'.x) (negated_min low.y low'.y)
-span_turned R270 (Closed low high) (Closed low' high') =
-    same_box _ _ _ _ _ _ _ _ refl (negated_max high.x high'.x) refl (negated_min low.x low'.x)
-span_turned M0 (Closed low high) (Closed low' high') =
-    same_box _ _ _ _ _ _ _ _ (negated_max high.x high'.x) refl (negated_min low.x low'.x) refl
-span_turned M90 (Closed low high) (Closed low' high') =
-    same_box _ _ _ _ _ _ _ _ (negated_max high.y high'.y) (negated_max high.x high'.x) (negated_min low.y low'.y) (negated_min low.x low'.x)
-span_turned M180 (Closed low high) (Closed low' high') =
-    same_box _ _ _ _ _ _ _ _ refl (negated_max high.y high'.y) refl (negated_min low.y low'.y)
-span_turned M270 (Closed low high) (Closed low' high') =
-    same_box _ _ _ _ _ _ _ _ refl refl refl refl
+span_turned t a b = grind (arith, beside_none, same_box, negated_max, negated_min)
 
 turned_either : (t : Turn) (v : Bool) (x y : Bounds) → turned_box t (cond v x y) ≡ cond v (turned_box t x) (turned_box t y)
-turned_either t true x y = refl
-turned_either t false x y = refl
+turned_either t v x y = grind arith
 
 -- a join turns with its boxes
 pub join_turned : (t : Turn) (a b : Bounds) → turned_box t (join_of a b) ≡ join_of (turned_box t a) (turned_box t b)
-join_turned t a b =
-    turned_either t (has_no_place a) b (cond (has_no_place b) a (span_of a b))
-    ∙ ap (λ rest. cond (has_no_place a) (turned_box t b) rest)
-    (turned_either t (has_no_place b) a (span_of a b)
-    ∙ ap (λ span. cond (has_no_place b) (turned_box t a) span) (span_turned t a b)
-    ∙ ap (λ v. cond v (turned_box t a) (span_of (turned_box t a) (turned_box t b))) (sym (empty_turned t b)))
-    ∙ ap (λ v. cond v (turned_box t b) (cond (has_no_place (turned_box t b)) (turned_box t a) (span_of (turned_box t a) (turned_box t b)))) (sym (empty_turned t a))
+join_turned t a b = grind (arith, turned_either, span_turned, empty_turned)
 
 -- a join of many boxes turns with them
 pub joins_turned : {X : Type 0} (t : Turn) (f : X → Bounds) (h : X → X) → ((x : X) → f (h x) ≡ turned_box t (f x)) → (z : Bounds) (xs : List X)
@@ -121,8 +85,7 @@ point_turned M180 p = same_box _ _ _ _ _ _ _ _ (omega (arith, ints)) (omega (ari
 point_turned M270 p = same_box _ _ _ _ _ _ _ _ (omega (arith, ints)) (omega (arith, ints)) (omega (arith, ints)) (omega (arith, ints))
 
 either_same : (v : Bool) (w : Nm) → cond v w w ≡ w
-either_same true w = refl
-either_same false w = refl
+either_same v w = grind arith
 
 -- a box of equal sides about a point
 pub square_turned : (t : Turn) (p : Point) (w : Nm) → about (turned_point t p) w w ≡ turned_box t (about p w w)
@@ -132,10 +95,7 @@ square_turned t p w =
 -- the box of a turned shape
 pub shape_turned : (t : Turn) (s : PrimShape) → primitive_box (turned_shape t s) ≡ turned_box t (primitive_box s)
 shape_turned t (Disc centre diameter) = square_turned t centre diameter
-shape_turned t (Bar from to width) =
-    ap (λ b. join_of b (about (turned_point t to) width width)) (square_turned t from width)
-    ∙ ap (λ b. join_of (turned_box t (about from width width)) b) (square_turned t to width)
-    ∙ sym (join_turned t (about from width width) (about to width width))
+shape_turned t (Bar from to width) = grind (arith, square_turned, join_turned)
 shape_turned t (Rect centre width height) = about_turned t centre width height
 shape_turned t (Outline points) = joins_turned t box_of_point (turned_point t) (point_turned t) Empty points
 

@@ -1,5 +1,6 @@
 -- what a draw covers lies near its line, and what that makes of boxes
-use Rattle.std.proofs.Common.{◌≡◌, ℕ, ◌+◌, ◌*◌, ◌<◌, ◌≤◌, ℤ, pos, negsuc, ◌+ℤ◌, ◌-ℤ◌, ◌*ℤ◌, ◌≤ℤ◌, ◌<ℤ◌, inl, inr, Bool, List, [], get_or, slice_get, Option, Some, refl, ap, sym, subst, ◌∙◌, arith}
+use Rattle.std.proofs.Common.{rules}
+use Rattle.std.proofs.Common.{◌≡◌, ℕ, ◌+◌, ◌*◌, ◌<◌, ◌≤◌, ℤ, pos, ◌-ℤ◌, ◌*ℤ◌, ◌≤ℤ◌, ◌<ℤ◌, inl, inr, Bool, List, get_or, slice_get, Some, ap, sym, subst, ◌∙◌, arith}
 use Rattle.std.specs.Int.RustNames.{unsigned_abs}
 use Rattle.std.proofs.lemmas.Int.{ints}
 use Rattle.std.proofs.lemmas.List.Elements.{All-cons, All-nil}
@@ -26,10 +27,9 @@ use Rattle.cam_shapes.proofs.Strokes.{dot_is, natural_or_not, squares_order}
 use Rattle.cam_shapes.proofs.SweptLaws.{at_finish, at_start, cross_from_end}
 use Rattle.cam_shapes.proofs.Widths.{square_is}
 use Rattle.cam_objects.specs.Image.{Covers, IsUncovered, relative}
-use Rattle.cam_objects.specs.Leaves.{Leaf, Shape, draw_leaves, drawn, item_leaves, leaf, meaning_in, object_leaves, origin, placed, polarity_in, turned_tip}
+use Rattle.cam_objects.specs.Leaves.{drawn, item_leaves, meaning_in, object_leaves, origin, placed, turned_tip}
 use Rattle.cam_objects.specs.Machinery.Lines.{IsLeft, crossed, reach_of}
 use Rattle.cam_objects.specs.Machinery.Extents.{IsExtentIn}
-use Rattle.cam_objects.specs.Turning.{after}
 use Rattle.cam_objects.specs.declared.boxes.extent.Extent.{Extent}
 use Rattle.cam_objects.specs.declared.entry.Entry.{Entry}
 use Rattle.cam_objects.specs.declared.item.Item.{Item}
@@ -38,7 +38,7 @@ use Rattle.cam_objects.specs.declared.layer.Layer.{Layer}
 use Rattle.cam_objects.specs.declared.object.Object.{Object}
 use Rattle.cam_objects.specs.declared.object.Object.TheVariants.{Draw}
 use Rattle.cam_objects.specs.declared.tip.Tip.{Tip}
-use Rattle.cam_objects.specs.declared.tip.Tip.TheVariants.{Round, Rectangular}
+use Rattle.cam_objects.specs.declared.tip.Tip.TheVariants.{Round}
 use Rattle.cam_objects.proofs.TurnedTips.{turned_after}
 
 -- ---- round strokes: those of a square as wide cover more
@@ -57,19 +57,10 @@ natural_order : (z : ℤ) (m n : ℕ) → z ≡ pos m → z ≤ℤ pos n → m �
 natural_order z m n e h = omega (arith, ints)
 
 beside_natural : (a v : Vector) (n : ℕ) → IsNearLine a v (pos n) → IsNearWay a v (pos n) (pos n)
-beside_natural a v n near =
-    let x = unsigned_abs a.x in
-    let y = unsigned_abs a.y in
-    let c = unsigned_abs (cross a v) in
-    let told : c * c ≤ n * n * (x * x + y * y) =
-    natural_order (square (cross a v)) (c * c) (n * n * (x * x + y * y)) (square_is (cross a v))
-    (subst (λ (z : ℤ). square (cross a v) ≤ℤ (square (pos n) *ℤ z)) (dot_is a) near) in
-    omega (arith, ints, root_of_both c n x y told)
+beside_natural a v n near = grind (arith, natural_order, square_is, dot_is, ints, root_of_both)
 
 beside_line : (a v : Vector) (w : ℤ) → pos 0 <ℤ w → IsNearLine a v w → IsNearWay a v w w
-beside_line a v w wide near =
-    let size = natural_or_not w wide in
-    rw size.1 (beside_natural a v size.0 (rw size.1 at near))
+beside_line a v w wide near = grind (arith, natural_or_not, beside_natural)
 
 near_segment : (s : Spot) (c : Capsule) → pos 0 <ℤ c.width.0 → IsNearSegment s c
     → IsNearWay (way c.from c.to) (seen_from c.from s) c.width.0 c.width.0
@@ -95,8 +86,7 @@ near_segment s c wide (inr (inl finish)) =
         along = within_side v.y c.width.0 wide (other_leg v c.width.0 finish);
       };
     })).near
-near_segment s c wide (inr (inr beside)) =
-    beside_line (way c.from c.to) (seen_from c.from s) c.width.0 wide beside.near
+near_segment s c wide (inr (inr beside)) = search (rules, beside_line)
 
 pub near_capsule : (s : Spot) (c : Capsule) → IsInCapsule s c
     → IsNearWay (way c.from c.to) (seen_from c.from s) c.width.0 c.width.0
@@ -105,8 +95,7 @@ near_capsule s c inside = near_segment s c inside.wide inside.near
 -- ---- corners of boxes
 
 times_natural : (n : ℕ) (d : ℤ) → pos 0 ≤ℤ d → pos 0 ≤ℤ (pos n *ℤ d)
-times_natural n (pos d) h = omega (arith, ints)
-times_natural n (negsuc d) h = absurd (omega (arith, ints))
+times_natural n d h = grind (arith, ints)
 
 up_times : (a u v : ℤ) → a *ℤ (v -ℤ u) ≡ a *ℤ v -ℤ a *ℤ u
 up_times a u v =
@@ -125,17 +114,14 @@ at_least : (z u v : ℤ) → z ≡ v -ℤ u → pos 0 ≤ℤ z → u ≤ℤ v
 at_least z u v e h = omega (arith, ints)
 
 some_times : (a d : ℤ) → pos 0 ≤ℤ a → pos 0 ≤ℤ d → pos 0 ≤ℤ (a *ℤ d)
-some_times (pos n) d some h = times_natural n d h
-some_times (negsuc n) d some h = absurd (omega (arith, ints))
+some_times a d some h = grind (arith, times_natural, ints)
 
 pub times_up : (a u v : ℤ) → pos 0 ≤ℤ a → u ≤ℤ v → (a *ℤ u) ≤ℤ (a *ℤ v)
 times_up a u v some h =
     at_least (a *ℤ (v -ℤ u)) (a *ℤ u) (a *ℤ v) (up_times a u v) (some_times a (v -ℤ u) some (gap u v h))
 
 pub times_down : (a u v : ℤ) → a ≤ℤ pos 0 → u ≤ℤ v → (a *ℤ v) ≤ℤ (a *ℤ u)
-times_down a u v none h =
-    at_least ((pos 0 -ℤ a) *ℤ (v -ℤ u)) (a *ℤ v) (a *ℤ u) (down_times a u v)
-    (some_times (pos 0 -ℤ a) (v -ℤ u) (omega (arith, ints)) (gap u v h))
+times_down a u v none h = grind (arith, at_least, down_times, some_times, ints, gap)
 
 pub less_apart : (u v p q : ℤ) → u ≤ℤ v → q ≤ℤ p → (u -ℤ p) ≤ℤ (v -ℤ q)
 less_apart u v p q h k = omega (arith, ints)
@@ -156,8 +142,7 @@ twice_near : (x : ℤ) → unsigned_abs x < board_limit → unsigned_abs (pos 2 
 twice_near x h = omega (arith, ints)
 
 pub place_on_board : (p : Point) (s : Spot) → s ≡ place_of p → IsOnBoard p → IsPlace s
-place_on_board p s is board =
-    subst IsPlace (sym is) (record { x = twice_near p.x board.x; y = twice_near p.y board.y })
+place_on_board p s is board = grind (arith, twice_near)
 
 -- ---- beyond a line, on either side
 
@@ -169,8 +154,7 @@ too_far c r far near = omega (arith, ints)
 
 pub left_far : (from to : Point) (w h : ℤ) (s : Spot) → IsLeft from to w h s
     → IsNearWay (way from to) (seen_from from s) w h → ⊥
-left_far from to w h s left near =
-    too_far (cross (way from to) (seen_from from s)) (corner_reach (way from to) w h) left near
+left_far from to w h s left near = grind (arith, too_far)
 
 backwards : (ax ay bx by vx vy : ℤ) → bx ≡ pos 0 -ℤ ax → by ≡ pos 0 -ℤ ay
     → bx *ℤ vy -ℤ by *ℤ vx ≡ pos 0 -ℤ (ax *ℤ vy -ℤ ay *ℤ vx)
@@ -189,9 +173,7 @@ as_long : (p q : ℤ) → unsigned_abs (pos 2 *ℤ p -ℤ pos 2 *ℤ q) ≡ unsi
 as_long p q = omega (arith, ints)
 
 reach_back : (from to : Point) (w h : ℤ) → corner_reach (way to from) w h ≡ corner_reach (way from to) w h
-reach_back from to w h =
-    ap (λ (n : ℕ). w *ℤ pos n +ℤ h *ℤ pos (unsigned_abs (way to from).x)) (as_long from.y to.y)
-    ∙ ap (λ (n : ℕ). w *ℤ pos (unsigned_abs (way from to).y) +ℤ h *ℤ pos n) (as_long from.x to.x)
+reach_back from to w h = grind (arith, as_long)
 
 cross_back : (from to : Point) (s : Spot)
     → cross (way to from) (seen_from to s) ≡ pos 0 -ℤ cross (way from to) (seen_from from s)
@@ -206,10 +188,7 @@ too_far_back c d r t e f far near = omega (arith, ints)
 
 pub right_far : (from to : Point) (w h : ℤ) (s : Spot) → IsLeft to from w h s
     → IsNearWay (way from to) (seen_from from s) w h → ⊥
-right_far from to w h s left near =
-    too_far_back (cross (way from to) (seen_from from s)) (cross (way to from) (seen_from to s))
-    (corner_reach (way from to) w h) (corner_reach (way to from) w h) (cross_back from to s) (reach_back from to w h)
-    left near
+right_far from to w h s left near = search (rules, too_far_back, cross_back, reach_back)
 
 pub left_of : (from to : Point) (w h : ℤ) (s place a nearest right : Spot) (n : ℕ)
     → place ≡ place_of to → a ≡ relative from place → nearest ≡ relative from right → pos n ≡ reach_of a w h
@@ -232,39 +211,21 @@ round_missed tip w from to within low high round box far s held on =
 
 -- where a layer's own draws stand
 unturned : (tip : Tip) → turned_tip R0 tip ≡ tip
-unturned (Round w) = refl
-unturned (Rectangular w h) = refl
+unturned tip = grind arith
 
 unmoved : (p : Point) → placed origin p ≡ p
-unmoved p =
-    let x : (placed origin p).x ≡ p.x = omega (arith, ints) in
-    let y : (placed origin p).y ≡ p.y = omega (arith, ints) in
-    λ i. record { x = x i; y = y i }
+unmoved p = grind (arith, ints)
 
 pub draw_missed : (es : List (ℕ × Entry)) (e : Extent) → IsExtentIn es e → (n : ℕ) → e.number ≡ n → (from to : Point) (t : Turn)
     (dark : Bool) (tip turned : Tip) → e.tip ≡ Some tip → turned ≡ turned_tip t tip → (s : Spot)
     → (Covers (drawn turned from to) s → ⊥)
     → IsUncovered (object_leaves (meaning_in es) origin (Draw n from to t dark)) s
 draw_missed es e extent n number from to t dark tip turned some is s off =
-    let there = placed origin in
-    let d = polarity_in origin.dark dark in
-    let stands : drawn turned from to ≡ drawn (turned_tip (after t R0) tip) (there from) (there to) =
-    λ i. drawn ((is ∙ sym (turned_after t R0 tip ∙ unturned (turned_tip t tip))) i) (sym (unmoved from) i) (sym (unmoved to) i) in
-    subst (λ (o : Option Tip). IsUncovered (draw_leaves o (after t R0) (there from) (there to) d) s)
-    (sym some ∙ extent.tip ∙ ap (λ k. (meaning_in es k).tip) number)
-    (All-cons (λ (l : Leaf). Covers l.shape s → ⊥)
-    (leaf (drawn (turned_tip (after t R0) tip) (there from) (there to)) d) []
-    (subst (λ (shape : Shape). Covers shape s → ⊥) stands off) (All-nil (λ (l : Leaf). Covers l.shape s → ⊥)))
+    grind (arith, turned_after, unturned, unmoved, All-cons, All-nil)
 
 -- the item read is that of the layer shown
 pub item_missed : (layer shown : Layer) (place : ℕ) (x item : Item) (o : Object) (s : Spot) → layer ≡ shown
     → x ≡ get_or layer.items.items place x → slice_get shown.items.items place ≡ Some item → x ≡ One o
     → IsUncovered (object_leaves (meaning_in layer.apertures) origin o) s
     → IsUncovered (item_leaves (meaning_in shown.apertures) item) s
-item_missed layer shown place x item o s is here at one off =
-    subst (λ (z : Item). IsUncovered (item_leaves (meaning_in shown.apertures) z) s)
-    (sym one
-    ∙ here
-    ∙ ap (λ (l : Layer). get_or l.items.items place x) is
-    ∙ get_or_from_slice_get shown.items.items place item x at)
-    (subst (λ (l : Layer). IsUncovered (object_leaves (meaning_in l.apertures) origin o) s) is off)
+item_missed layer shown place x item o s is here at one off = grind (arith, get_or_from_slice_get)

@@ -47,11 +47,7 @@ greatest_near a c h k = omega (arith, ints, clamps)
 -- ---- two boxes
 
 pub ordered_join : (a b : Bounds) → IsOrdered a → IsOrdered b → IsOrdered (join_of a b)
-ordered_join Empty b h k = k
-ordered_join (Closed low high) Empty h k = rw (ordered_some low high h) h
-ordered_join (Closed low high) (Closed low' high') h k =
-    rw (ordered_some low high h, ordered_some low' high' k)
-    (least_high low.x high.x low'.x high'.x h.0 k.0, least_high low.y high.y low'.y high'.y h.1 k.1)
+ordered_join a b h k = grind (arith, ordered_some, least_high)
 
 pub board_join : (a b : Bounds) → IsOrdered a → IsOrdered b → IsBoxOnBoard (join_of a b) ↔ (IsBoxOnBoard a × IsBoxOnBoard b)
 board_join Empty b h k = ((λ x. (tt, x)), (λ x. x.1))
@@ -93,10 +89,7 @@ module _ {X : Type 0} (f : X → Bounds) (ok : (x : X) → IsOrdered (f x)) wher
 -- what holds of each where what it says holds
 pub All_same : {X : Type 0} (P Q : X → Type 0) → ((x : X) → P x ↔ Q x) → (xs : List X) → All P xs ↔ All Q xs
 All_same P Q e [] = ((λ h. All-nil Q), (λ h. All-nil P))
-All_same P Q e (x ∷ xs) = (
-  (λ h. All-cons Q x xs ((e x).0 (All-head P x xs h)) ((All_same P Q e xs).0 (All-tail P x xs h))),
-  (λ h. All-cons P x xs ((e x).1 (All-head Q x xs h)) ((All_same P Q e xs).1 (All-tail Q x xs h))),
-)
+All_same P Q e (x ∷ xs) = grind (arith, All-cons, All-head, All-tail, All_same P Q e xs)
 
 pub through : {A B C : Type 0} → (A ↔ B) → (B ↔ C) → A ↔ C
 through f g = ((λ a. g.0 (f.0 a)), (λ c. f.1 (g.1 c)))
@@ -116,10 +109,7 @@ near_twice : (a : ℤ) → unsigned_abs a < 1000000000 → unsigned_abs (pos 2 *
 near_twice a h = omega (arith, ints)
 
 pub board_point : (p : Point) → IsBoxOnBoard (box_of_point p) ↔ IsOnBoard p
-board_point p = (
-  (λ h. record { x = twice_near p.x h.0.x; y = twice_near p.y h.0.y }),
-  (λ h. (record { x = near_twice p.x h.x; y = near_twice p.y h.y }, record { x = near_twice p.x h.x; y = near_twice p.y h.y })),
-)
+board_point p = grind (arith, twice_near, near_twice)
 
 pub board_points : (ps : List Point) → IsBoxOnBoard (box_of_all box_of_point ps) ↔ All IsOnBoard ps
 board_points ps =
@@ -142,8 +132,4 @@ near_board : (a : ℤ) → unsigned_abs a < 2000000000 → unsigned_abs a < 2 ^ 
 near_board a h = omega arith
 
 pub near_from_board : (b : Bounds) → IsBoxOnBoard b → IsNearBox b
-near_from_board Empty h = tt
-near_from_board (Closed low high) h = (
-  record { x = near_board low.x h.0.x; y = near_board low.y h.0.y },
-  record { x = near_board high.x h.1.x; y = near_board high.y h.1.y },
-)
+near_from_board b h = grind (arith, near_board)

@@ -37,7 +37,6 @@ use Rattle.cam_units.specs.declared.bounds.Bounds.TheVariants.{Empty, Closed}
 use Rattle.cam_units.specs.declared.point.Point.{Point}
 use Rattle.cam_units.specs.declared.point.Spot.{Spot}
 use Rattle.cam_units.specs.declared.turn.Turn.{Turn}
-use Rattle.cam_units.specs.declared.turn.Turn.TheVariants.{R0, R90, R180, R270, M0, M90, M180, M270}
 use Rattle.cam_units.specs.Boxes.{has_no_place, join_of}
 use Rattle.cam_shapes.specs.Plane.{place_of}
 use Rattle.cam_apertures.specs.Primitives.{box_about, box_of_point}
@@ -63,33 +62,19 @@ pub has_place : (n : ℕ) (low high : Spot) → IsBoxWithin n (Closed low high) 
 has_place n low high h = λ i. not_less high.x low.x h.0.order i || not_less high.y low.y h.1.order i
 
 pub within_uncrossed : (n : ℕ) (b : Bounds) → IsBoxWithin n b → IsUncrossed b
-within_uncrossed n Empty h none = refl
-within_uncrossed n (Closed low high) h none = let bad : false ≡ true = sym (has_place n low high h) ∙ none in cc
+within_uncrossed n b h none = grind (arith, has_place)
 
 span_near : (n : ℕ) (low high : ℤ) → n < 2 ^ 33 → IsSpan n low high → (unsigned_abs low < 2 ^ 33) × (unsigned_abs high < 2 ^ 33)
 span_near n low high few h = (omega (arith, ints, h.order, h.least, h.most), omega (arith, ints, h.order, h.least, h.most))
 
 pub within_near : (n : ℕ) (b : Bounds) → n < 2 ^ 33 → IsBoxWithin n b → IsNearBox b
-within_near n Empty few h = tt
-within_near n (Closed low high) few h =
-    let x = span_near n low.x high.x few h.0 in
-    let y = span_near n low.y high.y few h.1 in
-    (record { x = x.0; y = y.0 }, record { x = x.1; y = y.1 })
+within_near n b few h = grind (arith, span_near)
 
 span_both : (n : ℕ) (a b c d : ℤ) → IsSpan n a b → IsSpan n c d → IsSpan n (int_min a c) (int_max b d)
-span_both n a b c d h k = record {
-  order = omega (arith, ints, clamps, h.order, k.order);
-  least = omega (arith, ints, clamps, h.least, k.least);
-  most = omega (arith, ints, clamps, h.most, k.most);
-}
+span_both n a b c d h k = grind (arith, ints, clamps)
 
 pub within_join : (n : ℕ) (a b : Bounds) → IsBoxWithin n a → IsBoxWithin n b → IsBoxWithin n (join_of a b)
-within_join n Empty b h k = k
-within_join n (Closed p q) Empty h k =
-    subst (IsBoxWithin n) (sym (λ i. joined (has_place n p q h i) true (Closed p q) Empty)) h
-within_join n (Closed p q) (Closed p' q') h k =
-    subst (IsBoxWithin n) (sym (λ i. joined (has_place n p q h i) (has_place n p' q' k i) (Closed p q) (Closed p' q')))
-    (span_both n p.x q.x p'.x q'.x h.0 k.0, span_both n p.y q.y p'.y q'.y h.1 k.1)
+within_join n a b h k = grind (arith, joined, has_place, span_both)
 
 pub within_from : {X : Type 0} (n : ℕ) (f : X → Bounds) (z : Bounds) (xs : List X) → IsBoxWithin n z → All (λ x. IsBoxWithin n (f x)) xs
     → IsBoxWithin n (fold (λ all x. join_of all (f x)) z xs)
@@ -105,57 +90,32 @@ span_less : (m n : ℕ) (low high : ℤ) → m ≤ n → IsSpan m low high → I
 span_less m n low high few h = record { order = h.order; least = omega (arith, ints, h.least); most = omega (arith, ints, h.most) }
 
 pub within_less : (m n : ℕ) (b : Bounds) → m ≤ n → IsBoxWithin m b → IsBoxWithin n b
-within_less m n Empty few h = tt
-within_less m n (Closed low high) few h = (span_less m n low.x high.x few h.0, span_less m n low.y high.y few h.1)
+within_less m n b few h = grind (arith, span_less)
 
 span_minus : (n : ℕ) (low high : ℤ) → IsSpan n low high → IsSpan n (neg_ℤ high) (neg_ℤ low)
-span_minus n low high h =
-    record { order = omega (arith, ints, h.order); least = omega (arith, ints, h.most); most = omega (arith, ints, h.least) }
+span_minus n low high h = grind (arith, ints)
 
 pub within_turned : (n : ℕ) (t : Turn) (b : Bounds) → IsBoxWithin n b → IsBoxWithin n (turned_box t b)
-within_turned n t Empty h = tt
-within_turned n R0 (Closed low high) h = h
-within_turned n R90 (Closed low high) h = (span_minus n low.y high.y h.1, h.0)
-within_turned n R180 (Closed low high) h = (span_minus n low.x high.x h.0, span_minus n low.y high.y h.1)
-within_turned n R270 (Closed low high) h = (h.1, span_minus n low.x high.x h.0)
-within_turned n M0 (Closed low high) h = (span_minus n low.x high.x h.0, h.1)
-within_turned n M90 (Closed low high) h = (span_minus n low.y high.y h.1, span_minus n low.x high.x h.0)
-within_turned n M180 (Closed low high) h = (h.0, span_minus n low.y high.y h.1)
-within_turned n M270 (Closed low high) h = (h.1, h.0)
+within_turned n t b h = grind (arith, span_minus)
 
 span_moved : (m n : ℕ) (low high by : ℤ) → unsigned_abs by ≤ m → IsSpan n low high
     → IsSpan (n + 2 * m) (low +ℤ pos 2 *ℤ by) (high +ℤ pos 2 *ℤ by)
-span_moved m n low high by far h = record {
-  order = omega (arith, ints, h.order);
-  least = omega (arith, ints, h.least, far);
-  most = omega (arith, ints, h.most, far);
-}
+span_moved m n low high by far h = grind (arith, ints)
 
 pub within_moved : (m n : ℕ) (by : Point) (b : Bounds) → unsigned_abs by.x ≤ m → unsigned_abs by.y ≤ m → IsBoxWithin n b
     → IsBoxWithin (n + 2 * m) (moved by b)
-within_moved m n by Empty x y h = tt
-within_moved m n by (Closed low high) x y h = (span_moved m n low.x high.x by.x x h.0, span_moved m n low.y high.y by.y y h.1)
+within_moved m n by b x y h = grind (arith, span_moved)
 
 span_widened : (m n : ℕ) (low high by : ℤ) → pos 0 ≤ℤ by → by ≤ℤ pos m → IsSpan n low high → IsSpan (n + m) (low -ℤ by) (high +ℤ by)
-span_widened m n low high by some few h = record {
-  order = omega (arith, ints, h.order);
-  least = omega (arith, ints, h.least);
-  most = omega (arith, ints, h.most);
-}
+span_widened m n low high by some few h = grind (arith, ints)
 
 pub within_widened : (m n : ℕ) (by : ℤ) (b : Bounds) → pos 0 ≤ℤ by → by ≤ℤ pos m → IsBoxWithin n b → IsBoxWithin (n + m) (widened by b)
-within_widened m n by Empty some few h = tt
-within_widened m n by (Closed low high) some few h =
-    (span_widened m n low.x high.x by some few h.0, span_widened m n low.y high.y by some few h.1)
+within_widened m n by b some few h = grind (arith, span_widened)
 
 -- boxes about a point that is at most k nm from the origin along each axis
 span_about : (k m : ℕ) (p by : ℤ) → unsigned_abs p ≤ k → pos 0 ≤ℤ by → by ≤ℤ pos m
     → IsSpan (2 * k + m) (pos 2 *ℤ p -ℤ by) (pos 2 *ℤ p +ℤ by)
-span_about k m p by far some few = record {
-  order = omega (arith, ints);
-  least = omega (arith, ints);
-  most = omega (arith, ints);
-}
+span_about k m p by far some few = grind (arith, ints)
 
 pub within_about : (k m : ℕ) (p : Point) (w h : ℤ) → unsigned_abs p.x ≤ k → unsigned_abs p.y ≤ k
     → pos 0 ≤ℤ w → w ≤ℤ pos m → pos 0 ≤ℤ h → h ≤ℤ pos m → IsBoxWithin (2 * k + m) (box_about (place_of p) w h)

@@ -1,5 +1,5 @@
 -- leaves that are painted on canvases, one list beneath another
-use Rattle.std.proofs.Common.{◌≡◌, ◌↔◌, ℕ, ◌+◌, ◌<◌, Bool, List, [], ◌∷◌, ◌++◌, length, drop, get_or, slice_get, Option, Some, inl, inr, refl, sym, ap, subst, ◌∙◌, arith}
+use Rattle.std.proofs.Common.{◌≡◌, ◌↔◌, ℕ, ◌+◌, ◌<◌, Bool, List, [], ◌∷◌, ◌++◌, length, drop, get_or, slice_get, Option, Some, inl, inr, sym, ap, subst, ◌∙◌, arith}
 use Rattle.std.specs.List.{flat_map}
 use Rattle.std.specs.Option.{option_or}
 use Rattle.std.proofs.lemmas.List.{drop_more, drop_all}
@@ -20,8 +20,7 @@ use Rattle.cam_objects.proofs.LastInks.{covered_by, decided_or, last_ink-append,
 
 -- a print whose box is that of its shape
 pub sound_print : (p : Print) → IsSoundFigure p.figure → p.bounds ≡ box_of_shape (shape_of p.figure) → IsSoundPrint p
-sound_print p figure box =
-    record { figure = figure; held = λ s on. subst (λ b. Holds b s) (sym box) (covered_box (shape_of p.figure) s on) }
+sound_print p figure box = grind (arith, covered_box)
 
 -- a fact holds just where it holds
 same : (P : Type 0) → P ↔ P
@@ -32,11 +31,7 @@ module _ {V : Type 0} (has : V → ℕ → ℕ → Type 0) (place : V → ℕ �
   paints_idly : (v : V) (leaves : List Leaf)
       → ((column row : ℕ) → has v column row → option_or (ink v column row) (last_ink leaves (place v column row)) ≡ ink v column row)
       → Paints has place ink v leaves v
-  paints_idly v leaves idle = record {
-    pixels = λ column row. same (has v column row);
-    places = refl;
-    inks = λ column row h. sym (idle column row h);
-  }
+  paints_idly v leaves idle = grind (arith, same)
 
   pub paints_nothing : (v : V) → Paints has place ink v [] v
   paints_nothing v = paints_idly v [] (λ column row h. or_none (ink v column row))
@@ -44,8 +39,7 @@ module _ {V : Type 0} (has : V → ℕ → ℕ → Type 0) (place : V → ℕ �
   -- as those that cover no pixel's place
   pub paints_off : (v : V) (leaves : List Leaf)
       → ((column row : ℕ) → has v column row → IsUncovered leaves (place v column row)) → Paints has place ink v leaves v
-  paints_off v leaves off =
-      paints_idly v leaves (λ column row h. or_uncovered (ink v column row) leaves (place v column row) (off column row h))
+  paints_off v leaves off = grind (arith, paints_idly, or_uncovered)
 
   -- and those that cover decided ones alone
   pub paints_decided : (v : V) (leaves : List Leaf) (b : Bounds) → ((s : Spot) → IsCoveredBy leaves s → Holds b s)
@@ -71,26 +65,11 @@ module _ {V : Type 0} (has : V → ℕ → ℕ → Type 0) (place : V → ℕ �
 
   pub paints_beneath : (u v w : V) (a b : List Leaf) → Paints has place ink u b v → Paints has place ink v a w
       → Paints has place ink u (a ++ b) w
-  paints_beneath u v w a b first next = record {
-    pixels = λ column row. (
-      (λ h. (first.pixels column row).0 ((next.pixels column row).0 h)),
-      (λ h. (next.pixels column row).1 ((first.pixels column row).1 h)),
-    );
-    places = next.places ∙ first.places;
-    inks = λ column row h.
-        let there : has v column row = (first.pixels column row).1 h in
-        let s = place u column row in
-        next.inks column row there
-        ∙ ap (λ (f : ℕ → ℕ → Spot). option_or (ink v column row) (last_ink a (f column row))) first.places
-        ∙ ap (λ i. option_or i (last_ink a s)) (first.inks column row h)
-        ∙ or_again (ink u column row) (last_ink b s) (last_ink a s)
-        ∙ ap (option_or (ink u column row)) (sym (last_ink-append a b s));
-  }
+  paints_beneath u v w a b first next = grind (arith, or_again, last_ink-append)
 
   -- the leaves of elements, from the last one on: none yet
   pub paints_last : {X : Type 0} (f : X → List Leaf) (xs : List X) (v : V) → Paints has place ink v (flat_map f (drop (length xs) xs)) v
-  paints_last f xs v =
-      subst (λ ys. Paints has place ink v (flat_map f ys) v) (sym (drop_all (length xs) xs (omega arith))) (paints_nothing v)
+  paints_last f xs v = grind (arith, drop_all, paints_nothing)
 
   -- and the next one
   pub paints_next : {X : Type 0} (f : X → List Leaf) (xs : List X) (i j : ℕ) (x : X) (u v w : V) → i + 1 ≡ j → i < length xs

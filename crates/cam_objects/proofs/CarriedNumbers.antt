@@ -1,6 +1,6 @@
 -- numbers that move by one place, since one of them is carried past them
 use Rattle.std.proofs.Common.{◌≡◌, ◌∙◌, ℕ, ◌+◌, ◌-◌, ◌<◌, ◌≤◌, inl, inr, List, length, get_or, insert, remove, slice_set}
-use Rattle.std.proofs.Common.{ap, subst, sym, arith}
+use Rattle.std.proofs.Common.{subst, sym, arith}
 use Rattle.std.specs.List.{CopiedTo, SameBelow, SameFrom}
 use Rattle.std.proofs.lemmas.Bool.{cases_eq, cases_lt}
 use Rattle.std.proofs.lemmas.Grind.{same_number_lists}
@@ -43,30 +43,8 @@ module _ (old mid : List ℕ) (from to v : ℕ) (left : from < length old) (with
 
   pub carried_up : from < to → CopiedTo old mid (from + 1) from (to + 1 - (from + 1)) → SameBelow old mid from
       → SameFrom old mid (from + (to + 1 - (from + 1))) → slice_set mid to v ≡ insert gone to v
-  carried_up up copied same same' =
-      carried
-      (λ k early.
-      elim (cases_lt k from) [
-        | inl before ↦ same k 0 before ∙ sym (get_or-remove_below old from 0 k before left)
-        | inr past ↦
-            copied k 0 past (omega (arith, early, up))
-            ∙ ap (λ (i : ℕ). get_or old i 0) (omega (arith, past))
-            ∙ sym (get_or-remove_above old from 0 k past left)
-      ])
-      (λ k late.
-      same' (k + 1) 0 (omega (arith, late, up)) ∙ sym (get_or-remove_above old from 0 k (omega (arith, late, up)) left))
+  carried_up up copied same same' = grind (arith, carried, cases_lt, get_or-remove_below, get_or-remove_above)
 
   pub carried_down : to ≤ from → CopiedTo old mid to (to + 1) (from - to) → SameBelow old mid (to + 1)
       → SameFrom old mid (to + 1 + (from - to)) → slice_set mid to v ≡ insert gone to v
-  carried_down down copied same same' =
-      carried
-      (λ k early. same k 0 (omega (arith, early)) ∙ sym (get_or-remove_below old from 0 k (omega (arith, early, down)) left))
-      (λ k late.
-      elim (cases_lt k from) [
-        | inl before ↦
-            copied (k + 1) 0 (omega (arith, late)) (omega (arith, before, late))
-            ∙ ap (λ (i : ℕ). get_or old i 0) (omega (arith, late))
-            ∙ sym (get_or-remove_below old from 0 k before left)
-        | inr past ↦
-            same' (k + 1) 0 (omega (arith, past, down)) ∙ sym (get_or-remove_above old from 0 k past left)
-      ])
+  carried_down down copied same same' = grind (arith, carried, get_or-remove_below, cases_lt, get_or-remove_above)

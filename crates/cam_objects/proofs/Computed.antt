@@ -12,9 +12,7 @@ kept a h = to_z-of_z w64 a (fits_signed_from_abs w64 a h)
 -- ---- twice a coordinate of the board
 
 pub twice_fits : (a : ℤ) → unsigned_abs a < 1000000000 → FitsSigned w64 (pos 2 *ℤ to_z w64 (of_z w64 a))
-twice_fits a h =
-    subst (λ (z : ℤ). FitsSigned w64 (pos 2 *ℤ z)) (sym (kept a (omega arith)))
-    (fits_signed_from_abs w64 (pos 2 *ℤ a) (omega (arith, ints)))
+twice_fits a h = grind (arith, kept, fits_signed_from_abs, ints)
 
 pub twice : (a : ℤ) → unsigned_abs a < 1000000000 → to_z w64 (of_z w64 (pos 2 *ℤ to_z w64 (of_z w64 a))) ≡ pos 2 *ℤ a
 twice a h = ap (λ (z : ℤ). to_z w64 (of_z w64 (pos 2 *ℤ z))) (kept a (omega arith)) ∙ kept (pos 2 *ℤ a) (omega (arith, ints))
@@ -70,7 +68,8 @@ module _ (a b m : ℤ) (h : unsigned_abs a < 1000000000) (k : unsigned_abs b < 1
 
 module _ (n : ℕ) (s : ℤ) (few : n < 2 ^ 32) (short : unsigned_abs s < 1000000000) where
   pub steps_reach : unsigned_abs (pos n *ℤ s) < 4400000000000000000
-  steps_reach = omega (arith, unsigned_abs-mul (pos n) s, mul-le n (unsigned_abs s) 4294967296 1000000000 (omega arith) (omega arith))
+  steps_reach =
+      omega (arith, unsigned_abs-mul (pos n) s, mul-le n (unsigned_abs s) 4294967296 1000000000 (omega arith) (omega arith))
 
   module _ (k : ℤ) (e : k ≡ pos n) where
     steps_kept : to_z w64 (of_z w64 k) *ℤ to_z w64 (of_z w64 s) ≡ pos n *ℤ s

@@ -85,33 +85,21 @@ steps k v = record { x = pos k *ℤ v.x; y = pos k *ℤ v.y }
 
 -- one step more leads farther the same way
 step_more : (k : ℕ) (v : ℤ) → pos (suc k) *ℤ v ≡ pos k *ℤ v +ℤ v
-step_more k (pos n) = omega (arith, ints)
-step_more k (negsuc n) = omega (arith, ints)
+step_more k v = grind (arith, ints)
 
 same_way : (k : ℕ) (v : ℤ) → ((pos 0 ≤ℤ v) × (pos 0 ≤ℤ (pos k *ℤ v))) ⊎ ((v ≤ℤ pos 0) × ((pos k *ℤ v) ≤ℤ pos 0))
-same_way k (pos n) = inl (omega (arith, ints), omega (arith, ints))
-same_way k (negsuc n) = inr (omega (arith, ints), omega (arith, ints))
+same_way k v = grind (arith, ints)
 
 least_between : (l a v b : ℤ) → b ≡ a +ℤ v → ((pos 0 ≤ℤ v) × (pos 0 ≤ℤ a)) ⊎ ((v ≤ℤ pos 0) × (a ≤ℤ pos 0))
     → int_min (int_min l (l +ℤ pos 2 *ℤ a)) (l +ℤ pos 2 *ℤ b) ≡ int_min l (l +ℤ pos 2 *ℤ b)
-least_between l a v b e (inl h) = omega (arith, ints, clamps, h.0, h.1)
-least_between l a v b e (inr h) = omega (arith, ints, clamps, h.0, h.1)
+least_between l a v b e it = grind (arith, ints, clamps)
 
 greatest_between : (l a v b : ℤ) → b ≡ a +ℤ v → ((pos 0 ≤ℤ v) × (pos 0 ≤ℤ a)) ⊎ ((v ≤ℤ pos 0) × (a ≤ℤ pos 0))
     → int_max (int_max l (l +ℤ pos 2 *ℤ a)) (l +ℤ pos 2 *ℤ b) ≡ int_max l (l +ℤ pos 2 *ℤ b)
-greatest_between l a v b e (inl h) = omega (arith, ints, clamps, h.0, h.1)
-greatest_between l a v b e (inr h) = omega (arith, ints, clamps, h.0, h.1)
+greatest_between l a v b e it = grind (arith, ints, clamps)
 
 pub join_self : (b : Bounds) → join_of b b ≡ b
-join_self Empty = refl
-join_self (Closed low high) = by (has_no_place (Closed low high)) refl
-  where
-    by : (v : Bool) → has_no_place (Closed low high) ≡ v → join_of (Closed low high) (Closed low high) ≡ Closed low high
-    by true e = λ i. joined (e i) (e i) (Closed low high) (Closed low high)
-    by false e =
-        (λ i. joined (e i) (e i) (Closed low high) (Closed low high))
-        ∙ same_box _ _ _ _ low.x low.y high.x high.y (omega (arith, ints, clamps)) (omega (arith, ints, clamps))
-        (omega (arith, ints, clamps)) (omega (arith, ints, clamps))
+join_self b = grind (arith, joined, same_box, ints, clamps)
 
 -- a copy that lies between two others adds nothing to their box
 step_within : (k : ℕ) (v : Point) (b : Bounds)
@@ -164,9 +152,7 @@ no_steps v = λ i. record { x = none v.x i; y = none v.y i }
 -- the box of a row of copies is that of the first joined with the last
 row_box : (v : Point) (b : Bounds) (n : ℕ) → box_of_all (λ k. moved (steps k v) b) (range_with_len 0 (suc n))
     ≡ join_of b (moved (steps n v) b)
-row_box v b zero =
-    let same = ap (λ o. moved o b) (no_steps v) ∙ moved_nowhere b in
-    same ∙ sym (join_self b) ∙ ap (join_of b) (sym same)
+row_box v b zero = grind (arith, no_steps, moved_nowhere, join_self)
 row_box v b (suc n) =
     let copy : ℕ → Bounds = λ k. moved (steps k v) b in
     ap (box_of_all copy) (range_more 0 (suc n))
@@ -219,8 +205,7 @@ grid_box x y (Closed low high) = by (has_no_place (Closed low high)) refl
 
 pub unmapped : {X Y : Type 0} (Q : Y → Type 0) (f : X → Y) (xs : List X) → All Q (map f xs) → All (λ x. Q (f x)) xs
 unmapped Q f [] h = All-nil (λ x. Q (f x))
-unmapped Q f (x ∷ xs) h =
-    All-cons (λ x. Q (f x)) x xs (All-head Q (f x) (map f xs) h) (unmapped Q f xs (All-tail Q (f x) (map f xs) h))
+unmapped Q f (x ∷ xs) h = grind (arith, All-cons, All-head, All-tail, unmapped Q f xs (All-tail Q (f x) (map f xs) h))
 
 pub all_flat_map : {X Y : Type 0} (Q : Y → Type 0) (f : X → List Y) → ((x : X) → All Q (f x)) → (xs : List X) → All Q (flat_map f xs)
 all_flat_map Q f h [] = All-nil Q
@@ -230,8 +215,7 @@ times_none : (n : ℕ) → pos n *ℤ pos 0 ≡ pos 0
 times_none n = omega (arith, ints)
 
 pub unturned : (b : Bounds) → turned_box R0 b ≡ b
-unturned Empty = refl
-unturned (Closed low high) = refl
+unturned b = grind arith
 
 module _ (m : Shape → Bounds) (law : IsPlacedSo m) (es : List (ℕ × Entry)) where
   abbrev P : Leaf → Type 0

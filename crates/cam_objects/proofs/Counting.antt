@@ -1,5 +1,5 @@
 -- what lists of objects and of items count
-use Rattle.std.proofs.Common.{ℕ, zero, suc, ◌*◌, ◌<◌, ◌≤◌, List, [], ◌∷◌, length, arith}
+use Rattle.std.proofs.Common.{ℕ, ◌*◌, ◌<◌, ◌≤◌, List, [], ◌∷◌, length, arith}
 use Rattle.std.proofs.Math.Nat.{mul-le-mul_left, mul_comm}
 use Rattle.std.proofs.lemmas.List.Sums.{sum_by-cons}
 use Rattle.cam_objects.specs.declared.object.Object.{Object}
@@ -12,11 +12,7 @@ many_counted w [] = omega arith
 many_counted w (o ∷ objects) = omega (arith, many_counted w objects, count_some w o, sum_by-cons (object_count w) o objects)
 
 at_least : (a b : ℕ) → 0 < a → b ≤ a * b
-at_least zero b h = absurd (omega arith)
-at_least (suc a) b h = omega (arith, mul_comm (suc a) b, mul-le-mul_left b (the_one a))
-  where
-    the_one : (a : ℕ) → 1 ≤ suc a
-    the_one a = omega arith
+at_least a b h = grind (arith, mul_comm, mul-le-mul_left)
 
 pub past_room : (w : ℕ → Weight) (objects : List Object) (copies room : ℕ) → 0 < copies → room ≤ 4000000 → 4000000 < length objects
     → room < copies * block_count w objects

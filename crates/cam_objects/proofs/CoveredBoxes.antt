@@ -63,13 +63,7 @@ use Rattle.cam_objects.proofs.DrillBoxes.{widened_join}
 use Rattle.cam_objects.proofs.Roots.{root_square}
 
 holds_moved : (o : Point) (b : Bounds) (s : Spot) → Holds b (relative o s) → Holds (moved o b) s
-holds_moved o Empty s h = h
-holds_moved o (Closed low high) s h = record {
-  left = omega (arith, ints, h.left);
-  right = omega (arith, ints, h.right);
-  below = omega (arith, ints, h.below);
-  above = omega (arith, ints, h.above);
-}
+holds_moved o b s h = grind (arith, ints)
 
 -- how far points lie from the origin
 abbrev far : Point → ℕ
@@ -86,12 +80,7 @@ at_most w h = omega (arith, ints)
 
 -- the middle of a box lies in it
 about_itself : (p : Point) (w h : ℤ) → pos 0 <ℤ w → pos 0 <ℤ h → Holds (box_about (place_of p) w h) (place_of p)
-about_itself p w h wide high = record {
-  left = omega (arith, ints);
-  right = omega (arith, ints);
-  below = omega (arith, ints);
-  above = omega (arith, ints);
-}
+about_itself p w h wide high = grind (arith, ints)
 
 -- the box of both ends, widened, holds the boxes about them
 ends_widened : (from to : Point) (w : ℤ) → pos 0 <ℤ w
@@ -149,12 +138,7 @@ up_to_root z = omega (arith, ints, (root_square (unsigned_abs z)).1)
 
 wider : (p : Point) (s : Spot) (m w : ℤ) → Holds (box_about (place_of p) (m +ℤ w) (m +ℤ w)) s
     → Holds (widened w (box_about (place_of p) m m)) s
-wider p s m w h = record {
-  left = omega (arith, ints, h.left);
-  right = omega (arith, ints, h.right);
-  below = omega (arith, ints, h.below);
-  above = omega (arith, ints, h.above);
-}
+wider p s m w h = grind (arith, ints)
 
 sweep_widened : (a : Arc) → pos 0 <ℤ a.width.0
     → box_of_shape (Sweep a) ≡ join_of (widened a.width.0 (circle_square a.centre a.from))
@@ -202,8 +186,7 @@ in_cap c s h =
 in_points : (b : Bounds) (c : Contour) (s : Spot) → Holds b (place_of c.start) → All (λ seg. Holds b (place_of (end_of seg))) c.segs
     → IsInContour s c
     → Holds b s ⊎ Any (λ cap. IsTrue (is_in_cap s cap)) (caps_of c)
-in_points Empty c s start ends inside = absurd start
-in_points (Closed low high) c s start ends inside = contour_box s c low high (record { start = start; ends = ends }) inside
+in_points b c s start ends inside = grind (arith, contour_box)
 
 same : (z : ℤ) → z ≤ℤ z
 same z = omega (arith, ints)

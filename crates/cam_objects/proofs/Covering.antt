@@ -5,30 +5,32 @@ use Rattle.std.proofs.lemmas.List.{get_or_default}
 use Rattle.cam_units.specs.declared.point.Spot.{Spot}
 use Rattle.cam_shapes.proofs.TestLaws.{is_in_arc-meaning, is_in_capsule-meaning, is_in_contour-meaning, is_in_disc-meaning, is_in_swept-meaning}
 use Rattle.cam_apertures.proofs.CoverLaws.{test_law}
-use Rattle.cam_objects.specs.Image.{Covers, IsUncovered, relative}
-use Rattle.cam_objects.specs.Leaves.{Leaf, Stamp, Stroke, Swept, Sweep, Filled, Drilled}
+use Rattle.cam_objects.specs.Image.{Covers, IsUncovered}
+use Rattle.cam_objects.specs.Leaves.{Leaf}
 use Rattle.cam_objects.specs.Tests.{CoverTestLaw, covers}
 use Rattle.cam_objects.specs.Topmost.{IsCoveredBy}
 
 pub cover_law : CoverTestLaw
 unfolding covers
-cover_law (Stamp aperture turn at) s = test_law aperture turn (relative at s)
-cover_law (Stroke capsule) s = is_in_capsule-meaning s capsule
-cover_law (Swept swept) s = is_in_swept-meaning s swept
-cover_law (Sweep arc) s = is_in_arc-meaning s arc
-cover_law (Filled contour) s = is_in_contour-meaning s contour
-cover_law (Drilled disc) s = is_in_disc-meaning s disc
+cover_law it s =
+    grind (
+      arith,
+      test_law,
+      is_in_capsule-meaning,
+      is_in_swept-meaning,
+      is_in_arc-meaning,
+      is_in_contour-meaning,
+      is_in_disc-meaning,
+    )
 
 pub bare_from_uncovered : (ls : List Leaf) (s : Spot) → IsUncovered ls s → IsCoveredBy ls s → ⊥
 bare_from_uncovered ls s off any = off any.0 any.1 any.2 (subst (λ (l : Leaf). Covers l.shape s) (sym any.3) any.4)
 
 pub uncovered_from_bare : (ls : List Leaf) (s : Spot) → (IsCoveredBy ls s → ⊥) → IsUncovered ls s
-uncovered_from_bare ls s bare =
-    λ k d below on. bare (k, get_or ls k d, below, get_or_default ls k (get_or ls k d) d below, on)
+uncovered_from_bare ls s bare = λ k d below on. grind (arith, get_or_default)
 
 one_at : (l x : Leaf) (k : ℕ) (s : Spot) → k < 1 → get_or (l ∷ []) k x ≡ x → Covers x.shape s → Covers l.shape s
-one_at l x zero s within is on = subst (λ (y : Leaf). Covers y.shape s) (sym is) on
-one_at l x (suc k) s within is on = absurd (omega arith)
+one_at l x k s within is on = grind arith
 
 pub one_covers : (l : Leaf) (s : Spot) → IsCoveredBy (l ∷ []) s → Covers l.shape s
 one_covers l s any = one_at l any.1 any.0 s any.2 any.3 any.4

@@ -1,5 +1,5 @@
 -- what a number stands for, step by step
-use Rattle.std.proofs.Common.{◌≡◌, ℕ, zero, suc, ◌+◌, ◌<◌, ◌≤◌, Bool, true, false, cond, List, [], ◌∷◌, length, take, reverse, get_or, slice_get, Option, None, Some, refl, sym, ap, ◌∙◌, arith, nat_eq, inl, inr}
+use Rattle.std.proofs.Common.{◌≡◌, ℕ, zero, suc, ◌+◌, ◌<◌, ◌≤◌, Bool, false, cond, List, [], ◌∷◌, length, take, reverse, get_or, slice_get, Option, None, Some, refl, sym, ap, ◌∙◌, arith, nat_eq, inl, inr}
 use Rattle.std.specs.List.{IsDistinct}
 use Rattle.std.specs.Map.{keys_of, lookup}
 use Rattle.std.proofs.lemmas.List.{take_all, take_more, reverse-append, get_or-map, length-map}
@@ -34,8 +34,7 @@ keys_apart es i j d distinct below h =
     rw (key_at es i d hi, key_at es j d h) at apart
 
 cond_none : {T : Type 0} (b : Bool) (x : T) (o : Option T) → cond b (Some x) o ≡ None → (b ≡ false) × (o ≡ None)
-cond_none true x o h = (cc)
-cond_none false x o h = (refl, h)
+cond_none b x o h = grind arith
 
 pub absent_at : (es : Pairs) (n j : ℕ) (d : ℕ × Entry) → lookup (nat_eq n) es ≡ None → j < length es → nat_eq (get_or es j d).0 n ≡ false
 absent_at [] n j d h b = absurd (omega arith)
@@ -48,9 +47,7 @@ module _ {M : Type 0} (nothing : M) (means : (ℕ → M) → Entry → M) where
 
   -- one entry more, of another number
   other : (es : Pairs) (k n : ℕ) (d : ℕ × Entry) → k < length es → nat_eq (get_or es k d).0 n ≡ false → meant (k + 1) es n ≡ meant k es n
-  other es k n d h ne =
-      ap (λ ds. stands_for nothing means ds n) (front_more es k d h)
-      ∙ ap (λ b. cond b (means (meant k es) (get_or es k d).1) (meant k es n)) ne
+  other es k n d h ne = grind (arith, front_more)
 
   -- one entry more, of this number
   here : (es : Pairs) (k n : ℕ) (e : Entry) → slice_get es k ≡ Some (n, e) → meant (k + 1) es n ≡ means (meant k es) e

@@ -1,6 +1,6 @@
 -- the attributes of a layer stay sound as they are edited
-use Rattle.std.proofs.Common.{◌≡◌, ℕ, suc, ◌+◌, ◌<◌, ◌≤◌, Bool, true, false, cond, ltb, not, List, [], ◌∷◌, ◌++◌, length, set}
-use Rattle.std.proofs.Common.{◌⊎◌, inl, inr, None, Some, refl, sym, ap, subst, ◌∙◌, arith, lit≤}
+use Rattle.std.proofs.Common.{◌≡◌, ℕ, suc, ◌+◌, ◌<◌, Bool, true, false, cond, ltb, List, [], ◌∷◌, ◌++◌, length, set}
+use Rattle.std.proofs.Common.{◌⊎◌, inr, None, Some, refl, sym, ap, subst, ◌∙◌, arith}
 use Rattle.std.specs.List.{All, IsDistinct, position_or_len}
 use Rattle.std.specs.Str.{bytes_eq}
 use Rattle.std.proofs.lemmas.Bool.{false_from_ne_true, false≢true, le-ltb, lt-ltb, ltb-false, ltb-true}
@@ -25,38 +25,18 @@ Lacks name xs = All (λ b. has_name name b ≡ false) xs
 inside : (b : Attribute) (n : ℕ) (xs rest : List Attribute) (a : Attribute)
     → b ∷ cond (ltb n (length xs)) (set xs n a) rest
     ≡ cond (ltb (1 + n) (suc (length xs))) (set (b ∷ xs) (1 + n) a) (b ∷ rest)
-inside b n xs rest a = by (ltb n (length xs)) refl where
-  by : (t : Bool) → ltb n (length xs) ≡ t
-      → b ∷ cond t (set xs n a) rest ≡ cond (ltb (1 + n) (suc (length xs))) (set (b ∷ xs) (1 + n) a) (b ∷ rest)
-  by true e =
-      let low = ltb-true n (length xs) e in
-      rw (lt-ltb (1 + n) (suc (length xs)) (omega arith)) (ap (λ k. set (b ∷ xs) k a) {x = suc n} (omega arith))
-  by false e =
-      let high = ltb-false n (length xs) e in
-      rw (le-ltb (1 + n) (suc (length xs)) (omega arith)) refl
+inside b n xs rest a = grind (arith, ltb-true, lt-ltb, ltb-false, le-ltb)
 
 set_or_add : (a : Attribute) (xs : List Attribute) (k : ℕ) → position_or_len (has_name a.name) xs ≡ k
     → with_attribute a xs ≡ cond (ltb k (length xs)) (set xs k a) (xs ++ a ∷ [])
 set_or_add a [] k e = subst (λ n. a ∷ [] ≡ cond (ltb n 0) (set [] n a) (a ∷ [])) e refl
-set_or_add a (b ∷ xs) k e = by (has_name a.name b) k e (set_or_add a xs (position_or_len (has_name a.name) xs) refl) where
-  by : (t : Bool) (k : ℕ) → cond (not t) (1 + position_or_len (has_name a.name) xs) 0 ≡ k
-      → with_attribute a xs
-      ≡ cond (ltb (position_or_len (has_name a.name) xs) (length xs)) (set xs (position_or_len (has_name a.name) xs) a) (xs ++ a ∷ [])
-      → cond t (a ∷ xs) (b ∷ with_attribute a xs) ≡ cond (ltb k (suc (length xs))) (set (b ∷ xs) k a) (b ∷ (xs ++ a ∷ []))
-  by true k e rest =
-      subst (λ n. a ∷ xs ≡ cond (ltb n (suc (length xs))) (set (b ∷ xs) n a) (b ∷ (xs ++ a ∷ []))) e
-      (ap (λ t. cond t (a ∷ xs) (b ∷ (xs ++ a ∷ []))) (sym (lt-ltb 0 (suc (length xs)) (omega arith))))
-  by false k e rest =
-      subst (λ n. b ∷ with_attribute a xs ≡ cond (ltb n (suc (length xs))) (set (b ∷ xs) n a) (b ∷ (xs ++ a ∷ []))) e
-      (ap (λ l. b ∷ l) rest ∙ inside b (position_or_len (has_name a.name) xs) xs (xs ++ a ∷ []) a)
+set_or_add a (b ∷ xs) k e = grind (arith, lt-ltb, inside, set_or_add a xs (position_or_len (has_name a.name) xs) refl)
 
 place_some : (t : Bool) (n k : ℕ) → cond t (Some n) None ≡ Some k → (t ≡ true) × (n ≡ k)
-place_some true n k e = (refl, (cc))
-place_some false n k e = absurd (cc)
+place_some t n k e = grind arith
 
 place_none : (t : Bool) (n : ℕ) → cond t (Some n) None ≡ None → t ≡ false
-place_none true n e = absurd (cc)
-place_none false n e = refl
+place_none t n e = grind arith
 
 pub kept_place : (a : Attribute) (xs : List Attribute) (k : ℕ) → attribute_place a.name xs ≡ Some k → with_attribute a xs ≡ set xs k a
 kept_place a xs k e =
@@ -80,17 +60,12 @@ pub setting_law : SettingLaw
 setting_law = record { keep = λ xs a k e. kept_place a xs k e; add = λ xs a e. added_last a xs e }
 
 pub lacks : (name : List ℕ) (xs : List Attribute) → attribute_place name xs ≡ None → Lacks name xs
-lacks name xs e =
-    let n = position_or_len (has_name name) xs in
-    let all : length xs ≤ n = ltb-false n (length xs) (place_none (ltb n (length xs)) n e) in
-    λ k d within. fails_before_first (has_name name) xs k d (omega arith)
+lacks name xs e = grind (arith, ltb-false, place_none, fails_before_first)
 
 -- ---- names
 
 flipped : (x y : List ℕ) → bytes_eq x y ≡ false → bytes_eq y x ≡ false
-flipped x y e =
-    false_from_ne_true (bytes_eq y x)
-    (λ t. false≢true (sym e ∙ (bytes_eq-Decides x y).1 (sym ((bytes_eq-Decides y x).0 t))))
+flipped x y e = grind (arith, false_from_ne_true, false≢true, bytes_eq-Decides)
 
 distinct_without : (xs ys : List (List ℕ)) (y : List ℕ) → IsDistinct bytes_eq (xs ++ y ∷ ys) → IsDistinct bytes_eq (xs ++ ys)
 distinct_without [] ys y h = IsDistinct-tail bytes_eq y ys h
@@ -103,10 +78,7 @@ distinct_without (x ∷ xs) ys y h =
 
 distinct_with : (xs ys : List (List ℕ)) (y : List ℕ) → All (λ z. bytes_eq z y ≡ false) (xs ++ ys)
     → IsDistinct bytes_eq (xs ++ ys) → IsDistinct bytes_eq (xs ++ y ∷ ys)
-distinct_with [] ys y apart h =
-    let Apart : List ℕ → Type 0 = λ z. bytes_eq y z ≡ false in
-    IsDistinct-cons bytes_eq y ys
-    (recursion_from_All Apart ys (All-weaker (λ z. bytes_eq z y ≡ false) Apart (λ z e. flipped z y e) ys apart)) h
+distinct_with [] ys y apart h = grind (arith, IsDistinct-cons, recursion_from_All, All-weaker, flipped)
 distinct_with (x ∷ xs) ys y apart h =
     let Apart : List ℕ → Type 0 = λ z. bytes_eq x z ≡ false in
     let Beside : List ℕ → Type 0 = λ z. bytes_eq z y ≡ false in
@@ -173,35 +145,15 @@ all_set a (b ∷ xs) sound h = by (all_set a xs sound (All-tail IsAttribute b xs
 names_set : (a : Attribute) (xs : List Attribute)
     → (names_of (with_attribute a xs) ≡ names_of xs) ⊎ (Lacks a.name xs × (with_attribute a xs ≡ xs ++ a ∷ []))
 names_set a [] = inr (All-nil (λ b. has_name a.name b ≡ false), refl)
-names_set a (b ∷ xs) = by (has_name a.name b) refl (names_set a xs) where
-  by : (t : Bool) → has_name a.name b ≡ t
-      → (names_of (with_attribute a xs) ≡ names_of xs) ⊎ (Lacks a.name xs × (with_attribute a xs ≡ xs ++ a ∷ []))
-      → (names_of (cond t (a ∷ xs) (b ∷ with_attribute a xs)) ≡ b.name ∷ names_of xs)
-      ⊎ (Lacks a.name (b ∷ xs) × (cond t (a ∷ xs) (b ∷ with_attribute a xs) ≡ b ∷ (xs ++ a ∷ [])))
-  by true e rest = inl (ap (λ n. n ∷ names_of xs) (sym ((bytes_eq-Decides b.name a.name).0 e)))
-  by false e (inl same) = inl (ap (λ ns. b.name ∷ ns) same)
-  by false e (inr last) = inr (All-cons (λ c. has_name a.name c ≡ false) b xs e last.0, ap (λ l. b ∷ l) last.1)
+names_set a (b ∷ xs) = grind (arith, bytes_eq-Decides, All-cons, names_set a xs)
 
 set_sound : (a : Attribute) (xs : List Attribute) → AreAttributes xs → MaySet xs a
     → (names_of (with_attribute a xs) ≡ names_of xs) ⊎ (Lacks a.name xs × (with_attribute a xs ≡ xs ++ a ∷ []))
     → AreAttributes (with_attribute a xs)
-set_sound a xs h may (inl same) = record {
-  each = all_set a xs may.sound h.each;
-  few = may.room;
-  distinct = subst (IsDistinct bytes_eq) (sym same) h.distinct;
-}
-set_sound a xs h may (inr last) =
-    let few : length (xs ++ a ∷ []) ≤ 1000 = subst (λ l. length l ≤ 1000) last.1 may.room in
-    subst AreAttributes (sym last.1)
-    (inserted xs [] a (subst AreAttributes (sym (append-nil xs)) h) may.sound (subst (Lacks a.name) (sym (append-nil xs)) last.0)
-    (omega (arith, length-append xs (a ∷ []), length-append xs [])))
+set_sound a xs h may it = grind (arith, all_set, inserted, append-nil, length-append)
 
 pub none_set : AreAttributes []
-none_set = record {
-  each = All-nil IsAttribute;
-  few = lit≤ tt;
-  distinct = IsDistinct-from_apart bytes_eq [] (λ i j d low high. absurd (omega arith));
-}
+none_set = grind (arith, All-nil, IsDistinct-from_apart)
 
 pub attribute_edits : AttributeEditLaw
 attribute_edits = record {

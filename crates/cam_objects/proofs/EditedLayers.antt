@@ -41,7 +41,7 @@ use Rattle.cam_shapes.specs.Shifting.{shifted_point}
 use Rattle.cam_objects.specs.declared.drill_item.DrillItem.{DrillItem}
 use Rattle.cam_objects.specs.declared.drill_item.DrillItem.TheVariants.{Hit, Rout}
 use Rattle.cam_objects.specs.Drilling.{diameter_of}
-use Rattle.cam_objects.specs.DrillSoundness.{IsSoundDrillItem, IsSoundTool, drill_count_from, drill_count_of, drill_points_of, tool_of}
+use Rattle.cam_objects.specs.DrillSoundness.{IsSoundDrillItem, IsSoundTool, drill_count_from, drill_count_of, drill_points_of}
 use Rattle.cam_objects.specs.LayerLaws.{DrillEditLaw, LayerEditLaw}
 use Rattle.cam_objects.specs.Shifting.{shifted_drill_item, shifted_item}
 use Rattle.cam_objects.specs.Soundness.{IsSoundItem}
@@ -166,13 +166,10 @@ layer_edits = record {
 -- ---- drill layers
 
 segments_kept : (by : Point) (points : List Point) → drill_count_from (map (shifted_point by) points) ≡ drill_count_from points
-segments_kept by [] = refl
-segments_kept by (p ∷ []) = refl
-segments_kept by (p ∷ q ∷ ps) = length-map (q ∷ ps) (shifted_point by)
+segments_kept by points = grind (arith, length-map)
 
 drill_count_kept : (by : Point) (item : DrillItem) → drill_count_of (shifted_drill_item by item) ≡ drill_count_of item
-drill_count_kept by (Hit tool at) = refl
-drill_count_kept by (Rout tool points) = segments_kept by points
+drill_count_kept by item = grind (arith, segments_kept)
 
 drill_kept : (ts : List (ℕ × Nm)) (by : Point) (item : DrillItem) → IsSoundDrillItem ts item
     → All IsOnBoard (drill_points_of (shifted_drill_item by item))
@@ -205,10 +202,7 @@ known_kept ts t n d there known =
 
 item_kept : (ts : List (ℕ × Nm)) (t : ℕ) (d : Nm) (item : DrillItem) → IsSome (diameter_of ts t) → IsSoundDrillItem ts item
     → IsSoundDrillItem (set_value (nat_eq t) ts d) item
-item_kept ts t d item there h =
-    let m = meets_drill ts item h in
-    sound_drill (set_value (nat_eq t) ts d) item
-    (record { some = m.some; known = known_kept ts t (tool_of item) d there m.known; inside = m.inside; few = m.few })
+item_kept ts t d item there h = grind (arith, meets_drill, sound_drill, known_kept)
 
 abbrev IsTool : ℕ × Nm → Type 0
 IsTool e = IsSoundTool e.0 e.1

@@ -13,42 +13,17 @@ use Rattle.cam_objects.specs.Enclosed.{IsEnclosed}
 use Rattle.cam_objects.proofs.TestLaws.{both, like}
 
 pub between : (low high s : Spot) → IsTrue (((le_z low.x s.x && le_z s.x high.x) && le_z low.y s.y) && le_z s.y high.y) ↔ IsInBox low high s
-between low high s =
-    like (λ h. record { left = h.0.0.0; right = h.0.0.1; below = h.0.1; above = h.1 }) (λ h. (((h.left, h.right), h.below), h.above))
-    (both (both (both (at_most_is low.x s.x) (at_most_is s.x high.x)) (at_most_is low.y s.y)) (at_most_is s.y high.y))
+between low high s = grind (arith, like, both, at_most_is)
 
 -- a box of which no corner is crossed lies in another where its corners do
 corners : (low high least greatest : Spot)
     → (((IsInBox low high low × IsInBox least greatest low) × IsInBox least greatest high)
     → IsEnclosed (Closed low high) (Closed least greatest))
-corners low high least greatest h = record {
-  place = (low, h.0.0);
-  within = λ s k. record {
-    left = omega (arith, ints, h.0.1.left, k.left);
-    right = omega (arith, ints, h.1.right, k.right);
-    below = omega (arith, ints, h.0.1.below, k.below);
-    above = omega (arith, ints, h.1.above, k.above);
-  };
-}
+corners low high least greatest h = grind (arith, ints)
 
 back : (low high least greatest : Spot) → IsEnclosed (Closed low high) (Closed least greatest)
     → (IsInBox low high low × IsInBox least greatest low) × IsInBox least greatest high
-back low high least greatest h =
-    let s = h.place.0 in
-    let k : IsInBox low high s = h.place.1 in
-    let first : IsInBox low high low = record {
-      left = omega (arith, ints);
-      right = omega (arith, ints, k.left, k.right);
-      below = omega (arith, ints);
-      above = omega (arith, ints, k.below, k.above);
-    } in
-    let last : IsInBox low high high = record {
-      left = omega (arith, ints, k.left, k.right);
-      right = omega (arith, ints);
-      below = omega (arith, ints, k.below, k.above);
-      above = omega (arith, ints);
-    } in
-    ((first, h.within low first), h.within high last)
+back low high least greatest h = grind (arith, ints)
 
 pub enclosed : (low high least greatest : Spot) (a b c : Bool) → (IsTrue a ↔ IsInBox low high low)
     → (IsTrue b ↔ IsInBox least greatest low) → (IsTrue c ↔ IsInBox least greatest high)

@@ -145,11 +145,7 @@ module _ (es : List (ℕ × Entry)) (e : Extent) (extent : IsExtentIn es e) (n :
   pub bounded_flash : (at : Point) (t : Turn) (dark : Bool) (b : Bounds)
       → b ≡ placed_bounds (record { turn = t; offset = at; dark = true }) e.bounds
       → b ≡ bounds_of (object_leaves (meaning_in es) origin (Flash n at t dark))
-  bounded_flash at t dark b box =
-      box
-      ∙ ap (λ (x : Bounds). moved at (turned_box t x))
-      (extent.bounds ∙ ap (λ k. bounds_of ((meaning_in es k).flash origin)) is)
-      ∙ flash_box es n at t dark
+  bounded_flash at t dark b box = grind (arith, flash_box)
 
   -- what its strokes are drawn with
   tip_in : e.tip ≡ (meaning_in es n).tip

@@ -1,4 +1,5 @@
 -- an entry more changes the meaning of no number that is there
+use Rattle.std.proofs.Common.{arith, rules}
 use Rattle.std.proofs.Common.{
   ◌≡◌,
   ℕ,
@@ -29,17 +30,14 @@ use Rattle.std.proofs.Common.{
 }
 use Rattle.std.specs.List.{All, flat_map, range_with_len}
 use Rattle.std.specs.Map.{lookup}
-use Rattle.std.specs.Option.{IsSome}
 use Rattle.std.proofs.lemmas.Bool.{eqb-true, false≢true}
 use Rattle.std.proofs.lemmas.List.{reverse-append}
 use Rattle.std.proofs.lemmas.List.Elements.{All-head, All-tail, All-weaker}
 use Rattle.std.proofs.lemmas.List.Sums.{sum_by-cons}
-use Rattle.cam_shapes.specs.Placing.{placed_direction}
 use Rattle.cam_objects.specs.declared.entry.Entry.{Entry}
 use Rattle.cam_objects.specs.declared.item.Item.{Item}
 use Rattle.cam_objects.specs.declared.item.Item.TheVariants.{One, Repeat}
 use Rattle.cam_objects.specs.declared.object.Object.{Object}
-use Rattle.cam_objects.specs.declared.object.Object.TheVariants.{Flash, Draw, Arc, Region}
 use Rattle.cam_objects.specs.declared.placing.place.Place.{Place}
 use Rattle.cam_objects.specs.Leaves.{
   Meaning,
@@ -61,31 +59,19 @@ use Rattle.cam_objects.specs.Leaves.{
   round_width,
 }
 use Rattle.cam_objects.specs.Soundness.{AreOnBoard, IsSoundContent, IsSoundItem, MayAddEntry, objects_of}
-use Rattle.cam_objects.specs.Weights.{Weight, block_count, entry_weight, item_count, no_weight, object_count, weight_in}
+use Rattle.cam_objects.specs.Weights.{block_count, entry_weight, item_count, no_weight, object_count, weight_in}
 use Rattle.cam_objects.proofs.KeptFacts.{sound_grows}
 use Rattle.cam_objects.proofs.SoundItems.{HasNumber, IsDrawable, IsKnown, meets, sound}
-use Rattle.cam_objects.specs.Turning.{after}
 
 abbrev Pairs : Type 0
 Pairs = List (ℕ × Entry)
 
 apart : (es : Pairs) (n m : ℕ) → lookup (nat_eq n) es ≡ None → HasNumber es m → nat_eq n m ≡ false
-apart es n m absent known = by (nat_eq n m) refl
-  where
-    by : (b : Bool) → nat_eq n m ≡ b → b ≡ false
-    by true e =
-        let same : n ≡ m = eqb-true n m e in
-        absurd (false≢true (subst IsSome (ap (λ k. lookup (nat_eq k) es) (sym same) ∙ absent) known))
-    by false e = refl
+apart es n m absent known = grind (arith, eqb-true, false≢true)
 
 pub known_more : (es more : Pairs) (n : ℕ) → HasNumber es n → HasNumber (es ++ more) n
 known_more [] more n h = absurd (false≢true h)
-known_more (e ∷ es) more n h = by (nat_eq n e.0) (known_more es more n) h
-  where
-    by : (b : Bool) → (HasNumber es n → HasNumber (es ++ more) n)
-        → IsSome (cond b (Some e.1) (lookup (nat_eq n) es)) → IsSome (cond b (Some e.1) (lookup (nat_eq n) (es ++ more)))
-    by true rest h = refl
-    by false rest h = rest h
+known_more (e ∷ es) more n h = grind (arith, HasNumber, known_more es more n)
 
 module _ (es : Pairs) (n : ℕ) (e : Entry) (absent : lookup (nat_eq n) es ≡ None) where
   abbrev grown : Pairs
@@ -93,10 +79,7 @@ module _ (es : Pairs) (n : ℕ) (e : Entry) (absent : lookup (nat_eq n) es ≡ N
 
   stands_same : {M : Type 0} (nothing : M) (means : (ℕ → M) → Entry → M) (m : ℕ) → HasNumber es m
       → stands_for nothing means (reverse grown) m ≡ stands_for nothing means (reverse es) m
-  stands_same nothing means m known =
-      ap (λ ds. stands_for nothing means ds m) (reverse-append es ((n, e) ∷ []))
-      ∙ ap (λ b. cond b (means (stands_for nothing means (reverse es)) e) (stands_for nothing means (reverse es) m))
-      (apart es n m absent known)
+  stands_same nothing means m known = grind (arith, reverse-append, apart)
 
   means_same : (m : ℕ) → HasNumber es m → meaning_in grown m ≡ meaning_in es m
   means_same = stands_same no_meaning entry_meaning
@@ -107,31 +90,16 @@ module _ (es : Pairs) (n : ℕ) (e : Entry) (absent : lookup (nat_eq n) es ≡ N
   -- ---- objects
 
   object_same : (p : Place) (o : Object) → IsKnown es o → object_leaves (meaning_in grown) p o ≡ object_leaves (meaning_in es) p o
-  object_same p (Flash m at t dark) h = ap (λ (x : Meaning). x.flash (flashed p at t dark)) (means_same m h)
-  object_same p (Draw m from to t dark) h =
-      ap (λ (x : Meaning). draw_leaves x.tip (after t p.turn) (placed p from) (placed p to) (polarity_in p.dark dark)) (means_same m h)
-  object_same p (Arc ccw dark m from to centre) h =
-      ap (λ (x : Meaning). arc_leaves (round_width x.tip) (placed p from) (placed p to) (placed p centre) (placed_direction p.turn ccw)
-      (polarity_in p.dark dark)) (means_same m h)
-  object_same p (Region c dark) h = refl
+  object_same p o h = grind (arith, means_same)
 
   count_same : (o : Object) → IsKnown es o → object_count (weight_in grown) o ≡ object_count (weight_in es) o
-  count_same (Flash m at t dark) h = ap (λ (w : Weight). 1 + w.leaves) (weighs_same m h)
-  count_same (Draw m from to t dark) h = refl
-  count_same (Arc ccw dark m from to centre) h = refl
-  count_same (Region c dark) h = refl
+  count_same o h = grind (arith, weighs_same)
 
   pub drawable_same : (o : Object) → IsKnown es o → IsDrawable (meaning_in es) o → IsDrawable (meaning_in grown) o
-  drawable_same (Flash m at t dark) h k = refl
-  drawable_same (Draw m from to t dark) h k = subst (λ (x : Meaning). IsSome x.tip) (sym (means_same m h)) k
-  drawable_same (Arc ccw dark m from to centre) h k = subst (λ (x : Meaning). IsSome (round_width x.tip)) (sym (means_same m h)) k
-  drawable_same (Region c dark) h k = refl
+  drawable_same o h k = grind (arith, means_same)
 
   pub known_same : (o : Object) → IsKnown es o → IsKnown grown o
-  known_same (Flash m at t dark) h = known_more es ((n, e) ∷ []) m h
-  known_same (Draw m from to t dark) h = known_more es ((n, e) ∷ []) m h
-  known_same (Arc ccw dark m from to centre) h = known_more es ((n, e) ∷ []) m h
-  known_same (Region c dark) h = refl
+  known_same o h = grind (arith, known_more)
 
   -- ---- lists of them, and items
 
@@ -164,8 +132,7 @@ module _ (es : Pairs) (n : ℕ) (e : Entry) (absent : lookup (nat_eq n) es ≡ N
       (range_with_len 0 columns)
 
   item_count_same : (item : Item) → IsKnownItem item → item_count (weight_in grown) item ≡ item_count (weight_in es) item
-  item_count_same (One o) h = count_same o (All-head (IsKnown es) o [] h)
-  item_count_same (Repeat columns rows x y objects) h = ap (λ k. columns * rows * k) (block_count_same objects h)
+  item_count_same item h = grind (arith, count_same, All-head, IsKnown, block_count_same)
 
   pub sound_same : (item : Item) → IsSoundItem es item → IsSoundItem grown item
   sound_same item h =
@@ -207,9 +174,4 @@ module _ (es : Pairs) (n : ℕ) (e : Entry) (absent : lookup (nat_eq n) es ≡ N
   keep_leaves items h = leaves_same items (known_items items h.items)
 
   pub grow : (items : List Item) → IsSoundContent es items → MayAddEntry es n e → IsSoundContent grown items
-  grow items h may = record {
-    entries = sound_grows es n e h.entries may;
-    items = All-weaker (IsSoundItem es) (IsSoundItem grown) sound_same items h.items;
-    limits =
-        record { few = h.limits.few; leaves = subst (λ k. k ≤ 4000000) (sym (sum_same items (known_items items h.items))) h.limits.leaves };
-  }
+  grow items h may = search (rules, sound_grows, All-weaker, sound_same, sum_same, known_items)

@@ -6,7 +6,6 @@ use Rattle.std.proofs.lemmas.List.Elements.{All-weaker}
 use Rattle.cam_units.specs.Boxes.{join_of}
 use Rattle.std.specs.Map.{keys_of}
 use Rattle.cam_units.specs.declared.bounds.Bounds.{Bounds}
-use Rattle.cam_units.specs.declared.point.Point.{Point}
 use Rattle.cam_objects.specs.declared.object.Object.{Object}
 use Rattle.cam_objects.specs.declared.entry.Entry.{Entry}
 use Rattle.cam_objects.specs.declared.checks.facts.Facts.{Facts}
@@ -44,9 +43,7 @@ pub near_leaves : (ls : List Leaf) → AreSized ls → AreOnBoard ls → IsNearB
 near_leaves ls h k = within_near reach (bounds_of ls) (omega arith) (bounds_within ls h k)
 
 pub clear_leaves : (ls : List Leaf) → AreSized ls → AreOnBoard ls → All (λ l. IsUncrossed (box_of_shape l.shape)) ls
-clear_leaves ls h k =
-    All-weaker (λ l. IsBoxWithin reach (box_of_shape l.shape)) (λ l. IsUncrossed (box_of_shape l.shape))
-    (λ l. within_uncrossed reach (box_of_shape l.shape)) ls (leaves_within ls h k)
+clear_leaves ls h k = grind (arith, All-weaker, IsBoxWithin, reach, within_uncrossed, leaves_within)
 
 module _ (es : List (ℕ × Entry)) (sound : IsSoundDictionary es) (objects : List Object)
     (board : AreOnBoard (block_leaves (meaning_in es) origin objects)) where
@@ -78,9 +75,7 @@ module _ (es : List (ℕ × Entry)) (sound : IsSoundDictionary es) (objects : Li
   pub bounded_repeat : (columns rows : ℕ) (i j : ℤ) (first b : Bounds) → 0 < columns * rows → first ≡ bounds_of leaves
       → b ≡ join_of first (moved (last_copy columns rows i j) first)
       → b ≡ bounds_of (repeat_leaves (meaning_in es) columns rows i j objects)
-  bounded_repeat columns rows i j first b some is box =
-      let last : Point = last_copy columns rows i j in
-      box ∙ (λ k. join_of (is k) (moved last (is k))) ∙ sym (repeat_bounds columns rows i j some)
+  bounded_repeat columns rows i j first b some is box = grind (arith, repeat_bounds)
 
 -- the first copy lies on the board with the others
 pub first_on_board : (means : ℕ → Meaning) (columns rows : ℕ) (i j : ℤ) (objects : List Object) → 0 < columns * rows

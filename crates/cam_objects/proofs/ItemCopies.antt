@@ -1,5 +1,5 @@
 -- a repeat and its copies
-use Rattle.std.proofs.Common.{◌≡◌, ℕ, ℤ, List, sym, ap, subst, ◌∙◌}
+use Rattle.std.proofs.Common.{arith, ◌≡◌, ℕ, ℤ, List}
 use Rattle.cam_objects.specs.declared.item.Item.{Item}
 use Rattle.cam_objects.specs.declared.item.Item.TheVariants.{Repeat}
 use Rattle.cam_objects.specs.declared.entry.Entry.{Entry}
@@ -15,10 +15,7 @@ repeat_of copies objects = Repeat copies.columns copies.rows copies.i copies.j o
 -- a repeat is that of its copies and its objects
 pub repeat_again : (item : Item) (copies : Copies) (columns rows : ℕ) (i j : ℤ) (objects again : List Object)
     → item ≡ Repeat columns rows i j objects → copies ≡ copies_of item → again ≡ objects → item ≡ repeat_of copies again
-repeat_again item copies columns rows i j objects again is same e =
-    let k : copies ≡ record { columns = columns; rows = rows; i = i; j = j } = same ∙ ap copies_of is in
-    is ∙ subst (λ (k : Copies). Repeat columns rows i j objects ≡ repeat_of k again) (sym k)
-    (ap (λ (os : List Object). Repeat columns rows i j os) (sym e))
+repeat_again item copies columns rows i j objects again is same e = grind arith
 
 -- a sound one lies on the board with all its copies
 pub boxed_repeat : (es : List (ℕ × Entry)) (copies : Copies) (objects : List Object)

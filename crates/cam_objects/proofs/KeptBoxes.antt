@@ -11,7 +11,7 @@ use Rattle.std.proofs.lemmas.Option.{get_or_from_slice_get}
 use Rattle.std.proofs.Math.Seq.{get_or-append_seam, set-append_seam}
 use Rattle.cam_units.specs.Boxes.{HaveCommonPlace}
 use Rattle.cam_units.specs.declared.bounds.Bounds.{Bounds}
-use Rattle.cam_units.specs.declared.bounds.Bounds.TheVariants.{Empty, Closed}
+use Rattle.cam_units.specs.declared.bounds.Bounds.TheVariants.{Empty}
 use Rattle.cam_units.specs.declared.point.Spot.{Spot}
 use Rattle.cam_objects.specs.declared.cells.reach.Reach.{Reach}
 use Rattle.cam_objects.specs.declared.item.Item.{Item}
@@ -23,7 +23,7 @@ use Rattle.cam_objects.specs.Bounds.{bounds_of}
 use Rattle.cam_objects.specs.Leaves.{item_leaves, meaning_in}
 use Rattle.cam_objects.specs.Cells.{AreBeside, AreCellsOf, IsCell, IsReachOf, IsSide, Reaches, bottom_of, box_at, left_of, right_of, top_of}
 use Rattle.cam_objects.specs.Machinery.Painting.{StandsOnBoard}
-use Rattle.cam_objects.specs.Soundness.{HasSoundItems, IsInside, IsSoundItem}
+use Rattle.cam_objects.specs.Soundness.{HasSoundItems}
 use Rattle.cam_objects.proofs.SoundItems.{meets}
 use Rattle.cam_objects.specs.Machinery.Sides.{AreSidesOf, HasSides, MeetsAt}
 
@@ -32,79 +32,33 @@ pub read_box : (layer shown : Layer) (place : ℕ) (x item : Item) (b : Bounds) 
     → x ≡ get_or layer.items.items place x → slice_get shown.items.items place ≡ Some item
     → b ≡ bounds_of (item_leaves (meaning_in layer.apertures) x)
     → b ≡ bounds_of (item_leaves (meaning_in shown.apertures) item)
-read_box layer shown place x item b is here at box =
-    box
-    ∙ ap (λ (l : Layer). bounds_of (item_leaves (meaning_in l.apertures) x)) is
-    ∙ ap (λ (y : Item). bounds_of (item_leaves (meaning_in shown.apertures) y))
-    (here
-    ∙ ap (λ (l : Layer). get_or l.items.items place x) is
-    ∙ get_or_from_slice_get shown.items.items place item x at)
+read_box layer shown place x item b is here at box = grind (arith, get_or_from_slice_get)
 
 -- the points of an object that is listed lie on the board
 pub listed_stands : (layer shown : Layer) (place : ℕ) (x : Item) (o : Object) → HasSoundItems layer → layer ≡ shown
     → place < length shown.items.items → x ≡ get_or layer.items.items place x → x ≡ One o → StandsOnBoard o
-listed_stands layer shown place x o sound is within here one =
-    let es = layer.apertures in
-    let listed = sound.items place x (subst (λ (l : Layer). place < length l.items.items) (sym is) within) in
-    let item : IsSoundItem es (One o) = subst (IsSoundItem es) (sym here ∙ one) listed in
-    let inside : IsInside es (One o) = (meets es (One o) item).inside in
-    inside.points 0 o (omega arith)
+listed_stands layer shown place x o sound is within here one = grind (arith, meets)
 
 -- ---- cells
 
 -- a place that does not lie before another is in no earlier cell
 cells_in_order : (x y : ℤ) (a b : ℕ) → IsCell x a → IsCell y b → x ≤ℤ y → a ≤ b
-cells_in_order x y a b here there h =
-    elim (cases_lt b a) [
-      | inl after ↦
-          (let low = here.from (omega (arith, after)) in
-          let high = there.until (omega (arith, after, here.few)) in
-          absurd (omega (arith, ints, after, low, high, h)))
-      | inr is ↦ is
-    ]
+cells_in_order x y a b here there h = grind (arith, cases_lt, ints)
 
 -- cells of a box that has a place in common with another
 pub common_cell : (b n : Bounds) (l o r t : ℕ) (s : Reach) → IsSide left_of b l → IsSide bottom_of b o → IsSide right_of b r
     → IsSide top_of b t → IsReachOf n s → HaveCommonPlace b n
     → (l ≤ s.right) × (s.left ≤ r) × (o ≤ s.top) × (s.bottom ≤ t)
-common_cell Empty n l o r t s left bottom right top near common = absurd common.1.0
-common_cell (Closed low high) Empty l o r t s left bottom right top near common = absurd common.1.1
-common_cell (Closed low high) (Closed low' high') l o r t s left bottom right top near common =
-    let here = common.1.0 in
-    let there = common.1.1 in (
-      cells_in_order low.x high'.x l s.right left near.right (omega (arith, ints, here.left, there.right)),
-      cells_in_order low'.x high.x s.left r near.left right (omega (arith, ints, there.left, here.right)),
-      cells_in_order low.y high'.y o s.top bottom near.top (omega (arith, ints, here.below, there.above)),
-      cells_in_order low'.y high.y s.bottom t near.bottom top (omega (arith, ints, there.below, here.above)),
-    )
+common_cell b n l o r t s left bottom right top near common = grind (arith, cells_in_order, ints)
 
 pub far_item : (boxes : List Bounds) (reaches : Reaches) (sides : Sides) (near : Bounds) (s : Reach) (k : ℕ)
     → AreCellsOf boxes reaches → AreSidesOf reaches sides → HasSides sides (k + 1) → IsReachOf near s → k < length boxes
     → (MeetsAt sides k s → ⊥) → HaveCommonPlace (box_at boxes k) near → ⊥
-far_item boxes reaches sides near s k kept same known told listed apart common =
-    let b = box_at boxes k in
-    let side : (f : List ℕ) (g : List ℕ) → f ≡ g → k + 1 ≤ length f → k < length g =
-    λ f g e h. subst (λ (l : List ℕ). k < length l) e (omega (arith, h)) in
-    let left = kept.left.each k listed (side sides.left.now reaches.left same.left known.left) in
-    let bottom = kept.bottom.each k listed (side sides.bottom.now reaches.bottom same.bottom known.bottom) in
-    let right = kept.right.each k listed (side sides.right.now reaches.right same.right known.right) in
-    let top = kept.top.each k listed (side sides.top.now reaches.top same.top known.top) in
-    let met =
-    common_cell b near (get_or reaches.left k 0) (get_or reaches.bottom k 0) (get_or reaches.right k 0)
-    (get_or reaches.top k 0) s left bottom right top told common in
-    apart (record {
-      left = subst (λ (l : List ℕ). get_or l k 0 ≤ s.right) (sym same.left) met.0;
-      right = subst (λ (l : List ℕ). s.left ≤ get_or l k 0) (sym same.right) met.1;
-      below = subst (λ (l : List ℕ). get_or l k 0 ≤ s.top) (sym same.bottom) met.2;
-      above = subst (λ (l : List ℕ). s.bottom ≤ get_or l k 0) (sym same.top) met.3;
-    })
+far_item boxes reaches sides near s k kept same known told listed apart common = grind (arith, common_cell)
 
 -- ---- numbers beside a list that is edited
 
 module _ {X : Type 0} (R : X → ℕ → Type 0) (d : X) where
-  pub beside_nothing : (ys : List ℕ) → AreBeside R d [] ys
-  beside_nothing ys = record { each = λ k listed known. absurd (omega arith) }
-
   -- one more of which any number will do
   beside_more : (xs : List X) (ys : List ℕ) → ((v : ℕ) → R d v) → AreBeside R d xs ys → AreBeside R d (xs ++ d ∷ []) ys
   beside_more xs ys any kept = record {
@@ -158,14 +112,7 @@ module _ {X : Type 0} (R : X → ℕ → Type 0) (d : X) where
 
     -- a part from the first on will do
     beside_part : (ys zs : List ℕ) (us : List X) → AreBeside R d us ys → zs ≡ take (length zs) ys → AreBeside R d us zs
-    beside_part ys zs us whole part =
-        let few : length zs ≤ length ys = omega (arith, ap length part, length-take (length zs) ys) in
-        record {
-          each = λ k listed known.
-              subst (R (get_or us k d))
-              (sym (ap (λ l. get_or l k 0) part ∙ get_or-take (length zs) ys k 0 known))
-              (whole.each k listed (omega (arith, few, known)));
-        }
+    beside_part ys zs us whole part = grind (arith, length-take, get_or-take)
 
     pub beside_inserted : (place : ℕ) (x : X) (v : ℕ) (new : List ℕ) → place ≤ length xs → R x v
         → (new ≡ take (length new) (insert old place v)) × ((length old < place) → new ≡ old)
@@ -187,60 +134,11 @@ module _ {X : Type 0} (R : X → ℕ → Type 0) (d : X) where
     pub beside_removed : (place : ℕ) (new : List ℕ) → place < length xs
         → ((place < length old → new ≡ remove old place) × (length old ≤ place → new ≡ old))
         → AreBeside R d (remove xs place) new
-    beside_removed place new within went =
-        elim (cases_lt place (length old)) [
-          | inl known ↦
-              (let held : (k j : ℕ) → get_or (remove xs place) k d ≡ get_or xs j d
-              → get_or (remove old place) k 0 ≡ get_or old j 0 → R (get_or xs j d) (get_or old j 0)
-              → R (get_or (remove xs place) k d) (get_or (remove old place) k 0) =
-              λ k j is is' h.
-              subst (λ y. R y (get_or (remove old place) k 0)) (sym is) (subst (R (get_or xs j d)) (sym is') h) in
-              let fewer = length-remove xs place within in
-              let fewer' = length-remove old place known in
-              subst (AreBeside R d (remove xs place)) (sym (went.0 known))
-              (record {
-                each = λ k listed there.
-                    elim (cases_lt k place) [
-                      | inl below ↦
-                          held k k (get_or-remove_below xs place d k below within)
-                          (get_or-remove_below old place 0 k below known)
-                          (kept.each k (omega (arith, below, within)) (omega (arith, below, known)))
-                      | inr above ↦
-                          held k (k + 1) (get_or-remove_above xs place d k above within)
-                          (get_or-remove_above old place 0 k above known)
-                          (kept.each (k + 1) (omega (arith, listed, fewer)) (omega (arith, there, fewer')))
-                    ];
-              }))
-          | inr few ↦
-              subst (AreBeside R d (remove xs place)) (sym (went.1 few))
-              (record {
-                each = λ k listed known.
-                    let below : k < place = omega (arith, known, few) in
-                    subst (λ y. R y (get_or old k 0)) (sym (get_or-remove_below xs place d k below within))
-                    (kept.each k (omega (arith, below, within)) known);
-              })
-        ]
+    beside_removed place new within went = grind (arith, cases_lt, length-remove, get_or-remove_below, get_or-remove_above)
 
     pub beside_set : (place : ℕ) (x : X) (v : ℕ) (new : List ℕ) → place < length xs → R x v → new ≡ slice_set old place v
         → AreBeside R d (slice_set xs place x) new
-    beside_set place x v new within here is =
-        subst (AreBeside R d (slice_set xs place x)) (sym is)
-        (record {
-          each = λ k listed there.
-              elim (cases_eq k place) [
-                | inl e ↦
-                    (let known : place < length old = omega (arith, there, e, length-set old place v) in
-                    subst (λ j. R (get_or (slice_set xs place x) j d) (get_or (slice_set old place v) j 0)) (sym e)
-                    (subst (λ y. R y (get_or (slice_set old place v) place 0))
-                    (sym (get_or-set_same xs place x d within))
-                    (subst (R x) (sym (get_or-set_same old place v 0 known)) here)))
-                | inr apart ↦
-                    subst (λ y. R y (get_or (slice_set old place v) k 0)) (sym (get_or-set_other xs place k x d apart))
-                    (subst (R (get_or xs k d)) (sym (get_or-set_other old place k v 0 apart))
-                    (kept.each k (omega (arith, listed, length-set xs place x))
-                    (omega (arith, there, length-set old place v))))
-              ];
-        })
+    beside_set place x v new within here is = grind (arith, cases_eq, length-set, get_or-set_same, get_or-set_other)
 
   pub beside_carried : (xs : List X) (old : List ℕ) → AreBeside R d xs old → (from to : ℕ) (x : X) (v : ℕ) (new : List ℕ) → from < length xs → to < length xs → R x v
       → (from < length old → to < length old → new ≡ insert (remove old from) to v)
@@ -282,12 +180,7 @@ module _ {X : Type 0} (R : X → ℕ → Type 0) (d : X) where
 -- ---- items that are read one after another
 
 pub none_read : (cells : Reaches) → AreCellsOf [] cells
-none_read cells = record {
-  left = beside_nothing (IsSide left_of) Empty cells.left;
-  bottom = beside_nothing (IsSide bottom_of) Empty cells.bottom;
-  right = beside_nothing (IsSide right_of) Empty cells.right;
-  top = beside_nothing (IsSide top_of) Empty cells.top;
-}
+none_read cells = grind arith
 
 -- any cells are those of an empty box behind the others
 pub one_read : (boxes : List Bounds) (place : ℕ) (old new : Reaches) → place < length boxes → AreCellsOf (take place boxes) old

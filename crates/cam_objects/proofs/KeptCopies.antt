@@ -1,6 +1,6 @@
 -- what is known of repeats stays so as items come to the list, leave it and change
 use Rattle.std.proofs.Common.{◌≡◌, ℕ, ◌+◌, ◌-◌, ◌^◌, ◌<◌, ◌≤◌, nat_eq, nat_le, nat_lt, if◌then◌else◌, min, not, Equal, List, length}
-use Rattle.std.proofs.Common.{filter, get_or, insert, map, remove, slice_get, slice_set, Some, sym, ap, subst, ◌∙◌, arith, inl, inr}
+use Rattle.std.proofs.Common.{filter, get_or, insert, map, remove, slice_get, slice_set, Some, ap, subst, ◌∙◌, arith, inl, inr}
 use Rattle.std.specs.Ordering.{nat_cmp}
 use Rattle.std.proofs.lemmas.Bool.{cases_eq, cases_lt, cond_both, eqb-false, leb-false, leb-true, ltb-false, ltb-true, not-true}
 use Rattle.std.proofs.lemmas.Cmp.{ranked}
@@ -11,7 +11,6 @@ use Rattle.std.proofs.lemmas.List.Elements.{All-filter, All-map, All-weaker, fil
 use Rattle.std.proofs.lemmas.Option.{get_or_from_slice_get, slice_get-get_or, slice_get_within}
 use Rattle.cam_objects.specs.declared.entry.Entry.{Entry}
 use Rattle.cam_objects.specs.declared.item.Item.{Item}
-use Rattle.cam_objects.specs.declared.item.Item.TheVariants.{One, Repeat}
 use Rattle.cam_objects.specs.Cells.{AreFirstCopiesOf, FirstCopied, IsFirstCopyOf}
 use Rattle.cam_objects.specs.Machinery.FirstCopies.{once_come, once_gone}
 
@@ -21,8 +20,7 @@ module _ {X : Type 0} (xs : List X) (place p : ℕ) (item : X) where
   -- what another list has at a place is at this one in the list, where both have the same there
   same : (ys : List X) (k : ℕ) → p < length xs → get_or ys k item ≡ get_or xs p item → slice_get ys k ≡ Some item
       → slice_get xs p ≡ Some item
-  same ys k within is at =
-      slice_get-get_or xs p item within ∙ ap Some (sym is ∙ get_or_from_slice_get ys k item item at)
+  same ys k within is at = grind (arith, slice_get-get_or, get_or_from_slice_get)
 
   got_inserted : (x : X) → place ≤ length xs → length xs + 1 < 2 ^ 64
       → slice_get (insert xs place x) (if nat_le place p then min (p + 1) (2 ^ 64 - 1) else p) ≡ Some item
@@ -68,16 +66,13 @@ module _ (entries : List (ℕ × Entry)) where
   -- it is so wherever the repeat stands
   elsewhere : (item : Item) (first : FirstCopied) (k : ℕ) → IsFirstCopyOf entries item first
       → IsFirstCopyOf entries item (record { place = k; bounds = first.bounds; reaches = first.reaches })
-  elsewhere (One object) first k known = known
-  elsewhere (Repeat columns rows i j objects) first k known = known
+  elsewhere item first k known = grind arith
 
   -- the one whose place is asked is that of the item there
   pub found_at : (items : List Item) (copies : List FirstCopied) (at place : ℕ) (first : FirstCopied) (item : Item)
       → AreFirstCopiesOf entries items copies → at < length copies → first ≡ get_or copies at first
       → nat_cmp (get_or copies at first).place place ≡ Equal → slice_get items place ≡ Some item → IsFirstCopyOf entries item first
-  found_at items copies at place first item known within here equal listed =
-      subst (IsFirstCopyOf entries item) (sym here)
-      (known at first within item (ap (slice_get items) (ranked _ place _ (sym equal)) ∙ listed))
+  found_at items copies at place first item known within here equal listed = grind (arith, ranked)
 
   module _ (before : List Item) (copies : List FirstCopied) (known : AreFirstCopiesOf entries before copies) (place : ℕ) where
     pub item_came : (x : Item) → place ≤ length before → length before + 1 < 2 ^ 64
@@ -135,38 +130,10 @@ module _ (entries : List (ℕ × Entry)) (before items : List Item) where
         → (((get_or copies n d).place ≡ place → ⊥) → new ≡ get_or copies n d) → new.place ≡ (get_or copies n d).place
         → AreRenewedUntil (n + 1) (slice_set copies n new)
     one_renewed x within is listed there elsewhere kept =
-        let first = get_or copies n d in
-        let known : Known entries items new =
-        λ item at.
-        let at' = ap (slice_get items) (sym kept) ∙ at in
-        elim (cases_eq first.place place) [
-          | inl e ↦ there item e (ap (slice_get items) (sym e) ∙ at')
-          | inr other ↦
-              subst (IsFirstCopyOf entries item) (sym (elsewhere other))
-              (was.from n d (omega arith) listed item (item_beside place first.place x item within is other at'))
-        ] in
-        let many = length-set copies n new in
-        record {
-          until = λ k d' below held.
-              elim (cases_eq k n) [
-                | inl e ↦
-                    subst (λ j. Known entries items (get_or (slice_set copies n new) j d')) (sym e)
-                    (subst (Known entries items) (sym (get_or-set_same copies n new d' listed)) known)
-                | inr apart ↦
-                    subst (Known entries items) (sym (get_or-set_other copies n k new d' apart))
-                    (was.until k d' (omega (arith, below, apart)) (omega (arith, held, many)))
-              ];
-          from = λ k d' past held.
-              let apart : k ≡ n → ⊥ = λ e. omega (arith, past, e) in
-              subst (Known entries before) (sym (get_or-set_other copies n k new d' apart))
-              (was.from k d' (omega (arith, past)) (omega (arith, held, many)));
-        }
+        grind (arith, cases_eq, elsewhere, item_beside, length-set, get_or-set_same, get_or-set_other)
 
   pub none_renewed : (copies : List FirstCopied) → AreFirstCopiesOf entries before copies → AreRenewedUntil 0 copies
-  none_renewed copies known = record {
-    until = λ k d below. absurd (omega (arith, below));
-    from = λ k d past held. known k d held;
-  }
+  none_renewed copies known = grind arith
 
   pub all_renewed : (copies : List FirstCopied) (n : ℕ) → length copies ≤ n → AreRenewedUntil n copies
       → AreFirstCopiesOf entries items copies

@@ -1,4 +1,5 @@
 -- what is kept beside the entries of a dictionary is what their numbers paint and weigh
+use Rattle.std.proofs.Common.{rules}
 use Rattle.std.proofs.Common.{
   ◌≡◌,
   ℕ,
@@ -102,8 +103,7 @@ abbrev IsLight : Facts → Type 0
 IsLight f = (f.leaves ≤ 4000000) × (f.depth ≤ 8) × IsBoxOnBoard f.points
 
 light : (es : Pairs) (e : Entry) → IsSoundEntry es e → IsLight (facts_of es e)
-light es (Aperture a) h =
-    (omega arith, omega arith, (record { x = omega arith; y = omega arith }, record { x = omega arith; y = omega arith }))
+light es (Aperture a) h = grind arith
 light es (Block objects) h =
     let b : IsSoundBlock es objects = h in
     let means = meaning_in es in
@@ -181,12 +181,7 @@ facts_grow es fs n e f are is = record {
 
 pub kept_grows : (es : Pairs) (fs : List Facts) (n : ℕ) (e : Entry) (f : Facts) → IsKept es fs → MayAddEntry es n e → f ≡ facts_of es e
     → IsKept (es ++ (n, e) ∷ []) (fs ++ f ∷ [])
-kept_grows es fs n e f kept may is =
-    let sound = sound_grows es n e kept.sound may in record {
-      distinct = keys_distinct (es ++ (n, e) ∷ []) sound;
-      sound = sound;
-      facts = facts_grow es fs n e f kept.facts is;
-    }
+kept_grows es fs n e f kept may is = search (rules, sound_grows, keys_distinct, facts_grow)
 
 -- ---- a block by its parts
 
@@ -194,7 +189,4 @@ pub block_facts : (es : Pairs) (entry : Entry) (objects slice : List Object) (le
     → entry ≡ Block objects → slice ≡ objects → leaves ≡ block_count (weight_in es) slice → depth ≡ block_depth (weight_in es) slice
     → points ≡ points_bounds_of (block_leaves (meaning_in es) origin slice) → bounds ≡ bounds_of (block_leaves (meaning_in es) origin slice)
     → record { leaves = leaves; depth = depth; points = points; bounds = bounds } ≡ facts_of es entry
-block_facts es entry objects slice leaves depth points bounds is same e f g h =
-    (λ i. record { leaves = e i; depth = f i; points = g i; bounds = h i })
-    ∙ ap (λ os. facts_of es (Block os)) same
-    ∙ ap (facts_of es) (sym is)
+block_facts es entry objects slice leaves depth points bounds is same e f g h = grind arith

@@ -1,5 +1,5 @@
 -- the last leaf that covers a place, in lists that are joined
-use Rattle.std.proofs.Common.{◌≡◌, ◌↔◌, Bool, true, false, cond, IsTrue, ◌⊎◌, inl, inr, List, [], ◌∷◌, ◌++◌, length, Option, None, Some, IsSome, is_some, refl, ap, sym, subst, ◌∙◌, arith}
+use Rattle.std.proofs.Common.{◌≡◌, ◌↔◌, Bool, false, cond, IsTrue, ◌⊎◌, inl, inr, List, [], ◌∷◌, ◌++◌, length, Option, None, Some, IsSome, is_some, refl, ap, sym, subst, ◌∙◌, arith}
 use Rattle.std.specs.Option.{option_or, unwrap_or}
 use Rattle.std.proofs.lemmas.Bool.{cases_Bool, false_from_ne_true, false≢true, true≢false}
 use Rattle.std.proofs.Math.Seq.{get_or-append_seam}
@@ -17,16 +17,13 @@ use Rattle.cam_objects.proofs.Inking.{painted_after}
 -- ---- inks of which the first one counts
 
 pub or_none : (o : Option Bool) → option_or o None ≡ o
-or_none None = refl
-or_none (Some dark) = refl
+or_none o = grind arith
 
 pub or_again : (a b c : Option Bool) → option_or (option_or a b) c ≡ option_or a (option_or b c)
-or_again None b c = refl
-or_again (Some dark) b c = refl
+or_again a b c = grind arith
 
 pub or_decided : (a b : Option Bool) → IsSome a → option_or a b ≡ a
-or_decided None b some = absurd (false≢true some)
-or_decided (Some dark) b some = refl
+or_decided a b some = grind (arith, false≢true)
 
 -- ---- the last leaf
 
@@ -36,8 +33,7 @@ ink_of l s = cond (covers l.shape s) (Some l.dark) None
 
 pub last_ink-append : (a b : List Leaf) (s : Spot) → last_ink (a ++ b) s ≡ option_or (last_ink b s) (last_ink a s)
 last_ink-append [] b s = sym (or_none (last_ink b s))
-last_ink-append (l ∷ a) b s =
-    ap (λ o. option_or o (ink_of l s)) (last_ink-append a b s) ∙ or_again (last_ink b s) (last_ink a s) (ink_of l s)
+last_ink-append (l ∷ a) b s = grind (arith, or_again, last_ink-append a b s)
 
 abbrev IsOff : Spot → Leaf → Type 0
 IsOff s l = Covers l.shape s → ⊥
@@ -45,10 +41,7 @@ IsOff s l = Covers l.shape s → ⊥
 pub none_from_uncovered : (ls : List Leaf) (s : Spot) → IsUncovered ls s → last_ink ls s ≡ None
 none_from_uncovered [] s off = refl
 none_from_uncovered (l ∷ ls) s off =
-    let here : covers l.shape s ≡ false =
-    false_from_ne_true (covers l.shape s) (λ t. All-head (IsOff s) l ls off ((cover_law l.shape s).0 t)) in
-    ap (λ o. option_or o (ink_of l s)) (none_from_uncovered ls s (All-tail (IsOff s) l ls off))
-    ∙ ap (λ b. cond b (Some l.dark) None) here
+    grind (arith, false_from_ne_true, All-head, cover_law, All-tail, none_from_uncovered ls s (All-tail (IsOff s) l ls off))
 
 pub or_uncovered : (o : Option Bool) (ls : List Leaf) (s : Spot) → IsUncovered ls s → option_or o (last_ink ls s) ≡ o
 or_uncovered o ls s off = ap (option_or o) (none_from_uncovered ls s off) ∙ or_none o
@@ -123,8 +116,7 @@ some_covers ls s = elim (decided_or ls s) [
 -- ---- lists that are joined
 
 later_or : (a b : Option Bool) (d : Bool) → option_or a b ≡ Some d → (a ≡ Some d) ⊎ ((IsSome a → ⊥) × (b ≡ Some d))
-later_or None b d e = inr (λ some. false≢true some, e)
-later_or (Some x) b d e = inl e
+later_or a b d e = grind (arith, false≢true)
 
 -- the leaf that decides stands in the second list, or in the first and none of the second covers the place
 pub painted_split : (s : Spot) (a b : List Leaf) (d : Bool) → IsPainted (a ++ b) s d
@@ -155,9 +147,7 @@ last_without s a u b off =
 
 one_more : (o : Option Bool) (on dark ink : Bool)
     → unwrap_or o (cond on dark ink) ≡ unwrap_or (option_or o (cond on (Some dark) None)) ink
-one_more None true dark ink = refl
-one_more None false dark ink = refl
-one_more (Some d) on dark ink = refl
+one_more o on dark ink = grind arith
 
 painted_last : (ink : Bool) (ls : List Leaf) (s : Spot) → painted ink ls s ≡ unwrap_or (last_ink ls s) ink
 painted_last ink [] s = refl

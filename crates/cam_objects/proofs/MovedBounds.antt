@@ -1,4 +1,5 @@
 -- the box of an item that is moved is its own box, moved
+use Rattle.std.proofs.Common.{rules}
 use Rattle.std.proofs.Common.{
   ◌≡◌,
   ℕ,
@@ -48,7 +49,7 @@ use Rattle.cam_objects.specs.Bounds.{bounds_of, box_of_all, box_of_shape, moved,
 use Rattle.cam_objects.specs.Drilling.{diameter_of, drill_item_leaves, leaves_with, rout_leaves, slots_from}
 use Rattle.cam_objects.specs.DrillSoundness.{IsSoundDrillItem, IsSoundTool, drill_points_of, tool_of}
 use Rattle.cam_objects.specs.Leaves.{Leaf, Meaning, block_leaves, column_leaves, item_leaves, meaning_in, object_leaves, origin, shifted}
-use Rattle.cam_objects.specs.Machinery.Boxes.{AreSized, IsNearBox, IsSizedShape, placed_bounds}
+use Rattle.cam_objects.specs.Machinery.Boxes.{AreSized, IsNearBox, placed_bounds}
 use Rattle.cam_objects.specs.Shifting.{shifted_drill_item, shifted_item, shifted_object}
 use Rattle.cam_objects.specs.Soundness.{IsInside, IsSoundDictionary, IsSoundItem}
 use Rattle.cam_objects.proofs.BoxLimits.{within_near, within_widened}
@@ -95,13 +96,7 @@ pieces_moved by f g so (x ∷ xs) =
 
 -- two moves, in either order
 moved_either : (o by : Point) (b : Bounds) → moved o (moved by b) ≡ moved by (moved o b)
-moved_either o by b =
-    moved_twice o by b
-    ∙ (λ i. moved (record { x = sum by.x o.x i; y = sum by.y o.y i }) b)
-    ∙ sym (moved_twice by o b)
-  where
-    sum : (a b : ℤ) → a +ℤ b ≡ b +ℤ a
-    sum a b = omega (arith, ints)
+moved_either o by b = grind (arith, moved_twice, ints)
 
 -- a place that is not turned
 unturned_all : (o : Point) (bs : List Bounds) → map (placed_bounds (shifted o.x o.y)) bs ≡ map (moved o) bs
@@ -125,23 +120,12 @@ module _ (es : List (ℕ × Entry)) where
   module _ (by : Point) where
     object_moved : (o : Object)
         → HaveMovedBoxes by (object_leaves means origin (shifted_object by o)) (object_leaves means origin o)
-    object_moved o =
-        ap leaf_boxes (object_there by means o)
-        ∙ object_placed box_of_shape shapes_so means placed_so o (shifted by.x by.y)
-        ∙ unturned_all by (leaf_boxes (object_leaves means origin o))
+    object_moved o = grind (arith, object_there, object_placed, shapes_so, placed_so, unturned_all)
 
     copy_moved : (objects : List Object) (o : Point)
         → let copy = block_leaves means (shifted o.x o.y) in
         HaveMovedBoxes by (copy (map (shifted_object by) objects)) (copy objects)
-    copy_moved objects o =
-        let boxes = leaf_boxes (block_leaves means origin objects) in
-        block_at (map (shifted_object by) objects) o
-        ∙ ap (λ leaves. map (moved o) (leaf_boxes leaves)) (block_there by means objects)
-        ∙ ap (map (moved o)) (block_at objects by)
-        ∙ map-map (moved o) (moved by) boxes
-        ∙ (λ i. map (λ b. moved_either o by b i) boxes)
-        ∙ sym (map-map (moved by) (moved o) boxes)
-        ∙ ap (map (moved by)) (sym (block_at objects o))
+    copy_moved objects o = search (rules, block_at, block_there, map-map, moved_either)
 
     item_moved : (item : Item) → HaveMovedBoxes by (item_leaves means (shifted_item by item)) (item_leaves means item)
     item_moved (One object) = object_moved object
@@ -155,18 +139,12 @@ module _ (es : List (ℕ × Entry)) where
 
     pub item_bounds_moved : (item : Item)
         → bounds_of (item_leaves means (shifted_item by item)) ≡ moved by (bounds_of (item_leaves means item))
-    item_bounds_moved item =
-        all_moved by (item_leaves means (shifted_item by item)) (item_leaves means item) (item_moved item)
+    item_bounds_moved item = grind (arith, all_moved, item_moved)
 
   -- what a move asks of a box
   pub item_sized : ((n : ℕ) → IsSizedMeaning (means n)) → (item : Item) → AreSized (item_leaves means item)
   item_sized so (One object) = object_sized means so origin object
-  item_sized so (Repeat columns rows i j objects) =
-      let P : Leaf → Type 0 = λ l. IsSizedShape l.shape in
-      all_flat_map P (λ c. column_leaves means (pos c *ℤ i) rows j objects)
-      (λ c. all_flat_map P (λ r. block_leaves means (shifted (pos c *ℤ i) (pos r *ℤ j)) objects)
-      (λ r. block_sized means so (shifted (pos c *ℤ i) (pos r *ℤ j)) objects) (range_with_len 0 rows))
-      (range_with_len 0 columns)
+  item_sized so (Repeat columns rows i j objects) = search (rules, all_flat_map, block_sized)
 
   pub near_item : (item : Item) → IsSoundDictionary es → IsSoundItem es item
       → IsNearBox (bounds_of (item_leaves means item))
@@ -206,8 +184,7 @@ module _ (by : Point) where
 -- the leaves of an item are those with the diameter of its tool
 pub tool_leaves : (tools : List (ℕ × Nm)) (item : DrillItem)
     → drill_item_leaves tools item ≡ leaves_with (diameter_of tools (tool_of item)) item
-tool_leaves tools (Hit tool at) = refl
-tool_leaves tools (Rout tool points) = refl
+tool_leaves tools item = grind arith
 
 pub drill_bounds_moved : (tools : List (ℕ × Nm)) (by : Point) (item : DrillItem)
     → bounds_of (drill_item_leaves tools (shifted_drill_item by item)) ≡ moved by (bounds_of (drill_item_leaves tools item))
@@ -231,10 +208,4 @@ near_with (Some d) (Rout tool points) size board = near_rout d points size board
 
 pub near_drill_item : (tools : List (ℕ × Nm)) (item : DrillItem) → All (λ (t : ℕ × Nm). IsSoundTool t.0 t.1) tools
     → IsSoundDrillItem tools item → IsNearBox (bounds_of (drill_item_leaves tools item))
-near_drill_item tools item sound good =
-    subst (λ leaves. IsNearBox (bounds_of leaves)) (sym (tool_leaves tools item))
-    (near_with (diameter_of tools (tool_of item)) item (sized (diameter_of tools (tool_of item)) refl) (meets_drill tools item good).inside)
-  where
-    sized : (d : Option Nm) → diameter_of tools (tool_of item) ≡ d → IfSome d (λ d. IsSize d.0)
-    sized None e = tt
-    sized (Some d) e = tool_size tools (tool_of item) d sound e
+near_drill_item tools item sound good = grind (arith, tool_leaves, near_with, meets_drill, tool_size)

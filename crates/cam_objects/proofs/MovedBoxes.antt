@@ -34,7 +34,7 @@ use Rattle.std.proofs.lemmas.List.Elements.{All-cons, All-head, All-nil, All-tai
 use Rattle.cam_units.specs.Board.{IsOnBoard}
 use Rattle.cam_units.specs.Boxes.{join_of}
 use Rattle.cam_units.specs.declared.bounds.Bounds.{Bounds}
-use Rattle.cam_units.specs.declared.bounds.Bounds.TheVariants.{Empty, Closed}
+use Rattle.cam_units.specs.declared.bounds.Bounds.TheVariants.{Empty}
 use Rattle.cam_units.specs.declared.point.Point.{Point}
 use Rattle.cam_units.specs.declared.turn.Turn.TheVariants.{R0}
 use Rattle.cam_shapes.specs.Placing.{placed_direction, placed_seg}
@@ -105,8 +105,7 @@ fold_over_map g h z [] = refl
 fold_over_map g h z (x ∷ xs) = fold_over_map g h (g z (h x)) xs
 
 pub unturned : (b : Bounds) → turned_box R0 b ≡ b
-unturned Empty = refl
-unturned (Closed low high) = refl
+unturned b = grind arith
 
 mapped : {X Y : Type 0} (P : Y → Type 0) (h : X → Y) (xs : List X) → All (λ x. P (h x)) xs ↔ All P (map h xs)
 mapped P h [] = ((λ k. All-nil P), (λ k. All-nil (λ x. P (h x))))
@@ -245,10 +244,7 @@ pub near_leaves : (leaves : List Leaf) (box : Bounds) → box ≡ points_bounds_
 near_leaves leaves box is h = near_from_board box (subst IsBoxOnBoard (sym is) ((board_leaves leaves).1 h))
 
 pub near_standing : (objects : List Object) (box : Bounds) → box ≡ box_of_all standing objects → All StandsOnBoard objects → IsNearBox box
-near_standing objects box is h =
-    let ordered = λ (o : Object). ordered_from box_of_point ordered_point Empty (points_of o) tt in
-    let each = (All_same (λ o. IsBoxOnBoard (standing o)) StandsOnBoard (λ o. board_points (points_of o)) objects).1 h in
-    near_from_board box (subst IsBoxOnBoard (sym is) ((board_of_all standing ordered objects).1 each))
+near_standing objects box is h = grind (arith, ordered_from, ordered_point, All_same, board_points, near_from_board, board_of_all)
 
 pub near_first : (es : List (ℕ × Entry)) (columns rows : ℕ) (i j : ℤ) (objects : List Object) (one : Bounds) → 1 < columns * rows
     → one ≡ points_bounds_of (block_leaves (meaning_in es) origin objects) → IsInside es (Repeat columns rows i j objects) → IsNearBox one

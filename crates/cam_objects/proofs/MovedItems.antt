@@ -1,5 +1,5 @@
 -- an item that is moved keeps its form, its numbers, its radii and its counts
-use Rattle.std.proofs.Common.{◌≡◌, ℕ, ◌+◌, ◌*◌, ◌<◌, ◌≤◌, ℤ, ◌+ℤ◌, int_eq, nat_lt, true, ◌&&◌, List, [], ◌∷◌, length, map, refl, sym, ap, subst, ◌∙◌, arith}
+use Rattle.std.proofs.Common.{◌≡◌, ℕ, ◌+◌, ◌*◌, ◌≤◌, ℤ, ◌+ℤ◌, int_eq, ◌&&◌, List, [], ◌∷◌, length, map, refl, sym, ap, subst, ◌∙◌, arith}
 use Rattle.std.specs.List.{All}
 use Rattle.std.proofs.lemmas.Int.{ints}
 use Rattle.std.proofs.lemmas.List.{length-map}
@@ -13,7 +13,6 @@ use Rattle.cam_objects.specs.declared.entry.Entry.{Entry}
 use Rattle.cam_objects.specs.declared.item.Item.{Item}
 use Rattle.cam_objects.specs.declared.item.Item.TheVariants.{One, Repeat}
 use Rattle.cam_objects.specs.declared.object.Object.{Object}
-use Rattle.cam_objects.specs.declared.object.Object.TheVariants.{Flash, Draw, Arc, Region}
 use Rattle.cam_objects.specs.Leaves.{Meaning, meaning_in}
 use Rattle.cam_objects.specs.Shifting.{shifted_item, shifted_object}
 use Rattle.cam_objects.specs.Soundness.{IsInside, IsSoundItem, have_radii, is_apart, objects_of, segs_of}
@@ -37,40 +36,22 @@ module _ (by : Point) where
   same_radii here (Curve to centre ccw ∷ segs) = λ i. points_apart here centre i && same_radii to segs i
 
   radius_kept : (o : Object) → HasRadius o → HasRadius (moves o)
-  radius_kept (Flash n at t dark) h = refl
-  radius_kept (Draw n from to t dark) h = refl
-  radius_kept (Arc ccw dark n from to centre) h = points_apart from centre ∙ h
-  radius_kept (Region c dark) h = same_radii c.start c.segs ∙ h
+  radius_kept o h = grind (arith, points_apart, same_radii)
 
   formed_kept : (o : Object) → IsFormed o → IsFormed (moves o)
-  formed_kept (Flash n at t dark) h = refl
-  formed_kept (Draw n from to t dark) h = refl
-  formed_kept (Arc ccw dark n from to centre) h = refl
-  formed_kept (Region c dark) h = subst (λ k. nat_lt 0 k ≡ true) (sym (length-map c.segs (shifted_seg by))) h
+  formed_kept o h = grind (arith, length-map)
 
   known_kept : (es : List (ℕ × Entry)) (o : Object) → IsKnown es o → IsKnown es (moves o)
-  known_kept es (Flash n at t dark) h = h
-  known_kept es (Draw n from to t dark) h = h
-  known_kept es (Arc ccw dark n from to centre) h = h
-  known_kept es (Region c dark) h = h
+  known_kept es o h = grind arith
 
   drawable_kept : (means : ℕ → Meaning) (o : Object) → IsDrawable means o → IsDrawable means (moves o)
-  drawable_kept means (Flash n at t dark) h = h
-  drawable_kept means (Draw n from to t dark) h = h
-  drawable_kept means (Arc ccw dark n from to centre) h = h
-  drawable_kept means (Region c dark) h = h
+  drawable_kept means o h = grind arith
 
   few_segs_kept : (o : Object) → length (segs_of o) ≤ 1000000 → length (segs_of (moves o)) ≤ 1000000
-  few_segs_kept (Flash n at t dark) h = h
-  few_segs_kept (Draw n from to t dark) h = h
-  few_segs_kept (Arc ccw dark n from to centre) h = h
-  few_segs_kept (Region c dark) h = subst (λ k. k ≤ 1000000) (sym (length-map c.segs (shifted_seg by))) h
+  few_segs_kept o h = grind (arith, length-map)
 
   count_kept : (w : ℕ → Weight) (o : Object) → object_count w (moves o) ≡ object_count w o
-  count_kept w (Flash n at t dark) = refl
-  count_kept w (Draw n from to t dark) = refl
-  count_kept w (Arc ccw dark n from to centre) = refl
-  count_kept w (Region c dark) = refl
+  count_kept w o = grind arith
 
   block_kept : (w : ℕ → Weight) (objects : List Object) → block_count w (map moves objects) ≡ block_count w objects
   block_kept w [] = refl
@@ -90,12 +71,10 @@ module _ (by : Point) where
   each_kept P kept (Repeat columns rows i j objects) h = All-map P moves objects (All-weaker P (λ o. P (moves o)) kept objects h)
 
   repeated_kept : (item : Item) → IsRepeated item → IsRepeated (shifted_item by item)
-  repeated_kept (One o) h = tt
-  repeated_kept (Repeat columns rows i j objects) h = (h.0, subst (λ k. 0 < k) (sym (length-map objects moves)) h.1)
+  repeated_kept item h = grind (arith, length-map)
 
   few_kept : (item : Item) → length (objects_of item) ≤ 1000000 → length (objects_of (shifted_item by item)) ≤ 1000000
-  few_kept (One o) h = h
-  few_kept (Repeat columns rows i j objects) h = subst (λ k. k ≤ 1000000) (sym (length-map objects moves)) h
+  few_kept item h = grind (arith, length-map)
 
   -- an item that stays on the board stays sound
   pub sound_kept : (es : List (ℕ × Entry)) (item : Item) → IsSoundItem es item → IsInside es (shifted_item by item)

@@ -103,9 +103,7 @@ measurable es columns rows i j objects sound item =
 -- those of a sound item that is one
 pub measured : (es : List (ℕ × Entry)) (item : Item) (columns rows : ℕ) (i j : ℤ) (objects slice : List Object)
     → IsSoundDictionary es → IsSoundItem es item → item ≡ Repeat columns rows i j objects → slice ≡ objects → AreMeasurable es slice
-measured es item columns rows i j objects slice sound is_sound is same =
-    subst (λ (os : List Object). AreMeasurable es os) (sym same)
-    (measurable es columns rows i j objects sound (subst (IsSoundItem es) is is_sound))
+measured es item columns rows i j objects slice sound is_sound is same = grind (arith, measurable)
 
 -- and of one at a place of a sound layer
 pub listed_measurable : (layer : Layer) (place : ℕ) (x : Item) (columns rows : ℕ) (i j : ℤ) (objects slice : List Object)
@@ -145,8 +143,7 @@ pub unseen_between : {V R : Type 0} (has : V → ℕ → ℕ → Type 0) (place 
     → ((boxes : List Bounds) → IfSome cells (λ r. AreCellsOf boxes (kept r)) → (k : ℕ) → first ≤ k → k < end → k < length boxes
     → HaveCommonPlace (box_at boxes k) near → ⊥)
     → (k : ℕ) (o : Object) → first ≤ k → k < end → IsUnseen has place v (object_leaves (meaning_in es) p (get_or objects k o))
-unseen_between has place v es objects None kept first end p whole near listed known held back none apart k o from below =
-    absurd (omega (arith, none, from, below))
+unseen_between has place v es objects None kept first end p whole near listed known held back none apart k o from below = grind arith
 unseen_between has place v es objects (Some r) kept first end p whole near listed known held back none apart k o from below =
     let box = λ (y : Object). bounds_of (object_leaves (meaning_in es) origin y) in
     object_unseen has place v es objects k o p whole near (omega (arith, listed, below)) known.near held back

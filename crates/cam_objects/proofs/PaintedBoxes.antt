@@ -39,7 +39,6 @@ use Rattle.std.proofs.lemmas.Int.{ints}
 use Rattle.std.proofs.lemmas.List.Elements.{All-cons, All-nil}
 use Rattle.cam_units.specs.Boxes.{join_of}
 use Rattle.cam_units.specs.declared.bounds.Bounds.{Bounds}
-use Rattle.cam_units.specs.declared.bounds.Bounds.TheVariants.{Empty, Closed}
 use Rattle.cam_units.specs.declared.length.Nm.{Nm}
 use Rattle.cam_units.specs.declared.point.Point.{Point}
 use Rattle.cam_units.specs.declared.turn.Turn.{Turn}
@@ -53,7 +52,6 @@ use Rattle.cam_objects.specs.declared.object.Object.{Object}
 use Rattle.cam_objects.specs.declared.object.Object.TheVariants.{Flash, Draw, Arc, Region}
 use Rattle.cam_objects.specs.declared.placing.place.Place.{Place}
 use Rattle.cam_objects.specs.declared.tip.Tip.{Tip}
-use Rattle.cam_objects.specs.declared.tip.Tip.TheVariants.{Round, Rectangular}
 use Rattle.cam_objects.specs.Bounds.{box_of_all, moved}
 use Rattle.cam_objects.specs.Leaves.{
   Filled,
@@ -98,8 +96,7 @@ painted_flash es n at t dark p f b place facts box =
     ∙ sym (flash_placed box_of_points points_so (reverse es) n (flashed origin at t dark))
 
 drawn_points : (tip : Tip) (from to : Point) → box_of_points (drawn tip from to) ≡ box_of_all box_of_point (from ∷ to ∷ [])
-drawn_points (Round w) from to = refl
-drawn_points (Rectangular w h) from to = refl
+drawn_points tip from to = grind arith
 
 standing : (tip : Option Tip) (t : Turn) (from to : Point) (dark : Bool) → IsSome tip
     → points_bounds_of (draw_leaves tip (after t R0) (placed origin from) (placed origin to) dark)
@@ -128,22 +125,12 @@ painted_standing means (Region contour dark) other h = points_so.filled origin c
 
 pub inside_one : (es : List (ℕ × Entry)) (o : Object) (box : Bounds) (b : Bool) → StandsOnBoard o
     → box ≡ points_bounds_of (object_leaves (meaning_in es) origin o) → IsTrue b ↔ IsBoxOnBoard box → IsTrue b ↔ IsInside es (One o)
-inside_one es o box b stands is told =
-    let leaves = board_leaves (object_leaves (meaning_in es) origin o) in (
-      (λ h. record {
-        points = All-cons StandsOnBoard o [] stands (All-nil StandsOnBoard);
-        steps = tt;
-        leaves =
-            leaves.0 (subst IsBoxOnBoard is (told.0 h));
-      }),
-      (λ h. told.1 (subst IsBoxOnBoard (sym is) (leaves.1 h.leaves))),
-    )
+inside_one es o box b stands is told = grind (arith, board_leaves, All-cons, All-nil)
 
 -- ---- blocks and repeats
 
 uncrossed_ordered : (b : Bounds) → IsOrdered b → IsUncrossed b
-uncrossed_ordered Empty h e = refl
-uncrossed_ordered (Closed low high) h e = absurd (false≢true (sym (ordered_some low high h) ∙ e))
+uncrossed_ordered b h e = grind (arith, false≢true, ordered_some)
 
 clear : (leaves : List Leaf) → All (λ l. IsUncrossed (points_box l)) leaves
 clear [] = All-nil (λ l. IsUncrossed (points_box l))
@@ -154,11 +141,7 @@ pub painted_all : (means : ℕ → Meaning) (objects : List Object)
 painted_all means objects = all_flat points_box (object_leaves means origin) objects (clear (block_leaves means origin objects))
 
 pub ordered_moved : (o : Point) (b : Bounds) → IsOrdered b → IsOrdered (moved o b)
-ordered_moved o Empty h = tt
-ordered_moved o (Closed low high) h = (both low.x high.x o.x h.0, both low.y high.y o.y h.1)
-  where
-    both : (a b c : ℤ) → a ≤ℤ b → (a +ℤ pos 2 *ℤ c) ≤ℤ (b +ℤ pos 2 *ℤ c)
-    both a b c h = omega (arith, ints)
+ordered_moved o b h = grind (arith, ints)
 
 one_less : (n : ℕ) → n ≡ suc n - 1
 one_less n = omega arith

@@ -5,7 +5,6 @@ use Rattle.std.proofs.lemmas.Int.{ints}
 use Rattle.std.proofs.lemmas.List.Elements.{All-append, All-nil}
 use Rattle.cam_units.specs.Boxes.{Holds}
 use Rattle.cam_units.specs.declared.bounds.Bounds.{Bounds}
-use Rattle.cam_units.specs.declared.bounds.Bounds.TheVariants.{Empty, Closed}
 use Rattle.cam_units.specs.declared.point.Point.{Point}
 use Rattle.cam_units.specs.declared.point.Spot.{Spot}
 use Rattle.cam_objects.specs.declared.placing.copies.Copies.{Copies}
@@ -14,7 +13,7 @@ use Rattle.cam_objects.specs.declared.object.Object.{Object}
 use Rattle.cam_objects.specs.declared.paint.run.Run.{Run}
 use Rattle.cam_objects.specs.Bounds.{bounds_of, box_of_shape, moved}
 use Rattle.cam_objects.specs.Canvases.{Paints}
-use Rattle.cam_objects.specs.Image.{Covers, IsUncovered}
+use Rattle.cam_objects.specs.Image.{Covers}
 use Rattle.cam_objects.specs.Leaves.{Leaf, block_leaves, column_leaves, meaning_in, origin, shifted}
 use Rattle.cam_objects.specs.Machinery.Painting.{IsUnseen}
 use Rattle.cam_objects.specs.Machinery.Runs.{IsInRun, MeetsAcross, MeetsUpright}
@@ -28,24 +27,15 @@ use Rattle.cam_objects.proofs.PlacedShapes.{shapes_so}
 -- ---- boxes with a common place
 
 pub meets_across : (a b : Bounds) (s : Spot) → Holds a s → Holds b s → MeetsAcross a b
-meets_across Empty b s h k = h
-meets_across (Closed low high) Empty s h k = k
-meets_across (Closed low high) (Closed low' high') s h k =
-    (omega (arith, ints, h.left, k.right), omega (arith, ints, h.right, k.left))
+meets_across a b s h k = grind (arith, ints)
 
 pub meets_upright : (a b : Bounds) (s : Spot) → Holds a s → Holds b s → MeetsUpright a b
-meets_upright Empty b s h k = h
-meets_upright (Closed low high) Empty s h k = k
-meets_upright (Closed low high) (Closed low' high') s h k =
-    (omega (arith, ints, h.below, k.above), omega (arith, ints, h.above, k.below))
+meets_upright a b s h k = grind (arith, ints)
 
 -- ---- lists of which a part is seen
 
 drop-range : (k d a b n : ℕ) → k + d ≡ n → a + k ≡ b → drop k (range_with_len a n) ≡ range_with_len b d
-drop-range zero d a b n all at =
-    let first : a ≡ b = omega arith in
-    let many : n ≡ d = omega arith in
-    λ i. range_with_len (first i) (many i)
+drop-range zero d a b n all at = grind arith
 drop-range (suc k) d a b zero all at = absurd (omega arith)
 drop-range (suc k) d a b (suc n) all at = drop-range k d (a + 1) b n (omega arith) (omega arith)
 
@@ -64,9 +54,7 @@ module _ {V : Type 0} (has : V → ℕ → ℕ → Type 0) (place : V → ℕ �
   -- painting moves no pixel
   pub still_unseen : (u v : V) (done leaves : List Leaf) → Paints has place ink u done v → IsUnseen has place u leaves
       → IsUnseen has place v leaves
-  still_unseen u v done leaves painted off = λ column row h.
-      subst (λ (f : ℕ → ℕ → Spot). IsUncovered leaves (f column row)) (sym painted.places)
-      (off column row ((painted.pixels column row).0 h))
+  still_unseen u v done leaves painted off = λ column row h. grind arith
 
   -- none from the k-th piece on is seen
   pub paints_end : (v : V) (f : ℕ → List Leaf) (k n : ℕ) → k ≤ n → ((i : ℕ) → k ≤ i → i < n → IsUnseen has place v (f i))

@@ -37,7 +37,6 @@ use Rattle.std.proofs.Common.{
 use Rattle.std.specs.List.{All, IsDistinct, flat_map, range_with_len}
 use Rattle.std.specs.Map.{keys_of, lookup}
 use Rattle.std.specs.Option.{IfSome}
-use Rattle.std.specs.Ordering.{int_eq}
 use Rattle.std.specs.Int.RustNames.{unsigned_abs}
 use Rattle.std.proofs.lemmas.Option.{get_or_from_slice_get, slice_get_within}
 use Rattle.std.proofs.lemmas.List.Elements.{All-cons, All-head, All-nil, All-tail, All-weaker}
@@ -51,7 +50,6 @@ use Rattle.cam_shapes.specs.Shifting.{IsShiftable}
 use Rattle.cam_shapes.specs.declared.contour.Contour.{Contour}
 use Rattle.cam_apertures.specs.Soundness.{IsSoundAperture, IsSideLength}
 use Rattle.cam_apertures.specs.declared.aperture.Aperture.{Aperture as Template}
-use Rattle.cam_apertures.specs.declared.aperture.Aperture.TheVariants.{Circle, Rect, Obround, Prims}
 use Rattle.cam_objects.specs.declared.object.Object.{Object}
 use Rattle.cam_objects.specs.declared.object.Object.TheVariants.{Draw, Arc, Region}
 use Rattle.cam_objects.specs.declared.entry.Entry.{Entry}
@@ -85,7 +83,6 @@ use Rattle.cam_objects.specs.Soundness.{AreOnBoard, IsInside, IsSoundBlock, IsSo
 use Rattle.cam_objects.proofs.Dictionaries.{meant-at, meant-later, meant-absent, whole}
 use Rattle.cam_objects.proofs.Placed.{placeable, reach_less, reach_shifted}
 use Rattle.cam_objects.specs.declared.tip.Tip.{Tip}
-use Rattle.cam_objects.specs.declared.tip.Tip.TheVariants.{Round, Rectangular}
 use Rattle.cam_objects.specs.Machinery.Boxes.{IsSizedTip}
 use Rattle.cam_objects.specs.Turning.{after}
 use Rattle.std.proofs.lemmas.Int.{ints}
@@ -134,30 +131,14 @@ pub side_size : (n : ℤ) → IsSideLength n → IsSize n
 side_size n h = (omega (arith, ints, h.0), h.1)
 
 pub solid_size : (a : Template) → IsSoundAperture a → IfSome (solid_tip a) IsSizedTip
-solid_size (Circle diameter hole) h = by (int_eq hole.0 (pos 0))
-  where
-    by : (b : Bool) → IfSome (cond b (Some (Round diameter)) None) IsSizedTip
-    by true = h.0
-    by false = tt
-solid_size (Rect width height hole) h = by (int_eq hole.0 (pos 0))
-  where
-    by : (b : Bool) → IfSome (cond b (Some (Rectangular width height)) None) IsSizedTip
-    by true = (side_size width.0 h.0, side_size height.0 h.1)
-    by false = tt
-solid_size (Obround width height hole) h = tt
-solid_size (Prims prims) h = tt
+solid_size a h = grind (arith, side_size)
 
 -- ---- what is asked of a place
 
 pub paintable_block : (es : List (ℕ × Entry)) (upto i n : ℕ) (objects : List Object) (p : Place) → IsDistinct nat_eq (keys_of es)
     → slice_get es i ≡ Some (n, Block objects) → i < upto
     → IsPrintable es upto upto p (flash_leaves upto es n p) → IsPrintable es i (i + 1) p (block_leaves (meaning_before i es) p objects)
-paintable_block es upto i n objects p distinct at below h = record {
-  within = omega (arith, h.within);
-  sound = h.sound;
-  board = subst AreOnBoard (ap (λ (m : Meaning). m.flash p) (meaning-at es i upto n (Block objects) distinct at below h.within)) h.board;
-  reach = reach_less (i + 1) upto p (omega arith) h.reach;
-}
+paintable_block es upto i n objects p distinct at below h = grind (arith, meaning-at, reach_less)
 
 pub paintable_stamp : (es : List (ℕ × Entry)) (upto i n : ℕ) (a : Template) (p : Place) → IsDistinct nat_eq (keys_of es)
     → slice_get es i ≡ Some (n, Aperture a) → i < upto
@@ -205,8 +186,7 @@ stands_at objects i x h e all = subst StandsOnBoard (sym e) (all i x h)
 -- ---- what comes to lie on the board
 
 drawn_ends : (tip : Tip) (from to : Point) → All IsOnBoard (points_of_shape (drawn tip from to)) → IsOnBoard from × IsOnBoard to
-drawn_ends (Round w) from to h = (h 0 from (omega arith), h 1 from (omega arith))
-drawn_ends (Rectangular w h) from to k = (k 0 from (omega arith), k 1 from (omega arith))
+drawn_ends tip from to h = grind arith
 
 pub drawn_points : (means : ℕ → Meaning) (p : Place) (n : ℕ) (from to : Point) (t : Turn) (dark : Bool) (tip : Tip) → Some tip ≡ (means n).tip
     → StandsOnBoard (Draw n from to t dark) → AreOnBoard (object_leaves means p (Draw n from to t dark))
@@ -272,12 +252,7 @@ ready_copy es f n i h ready =
 
 paintable_copy : (es : List (ℕ × Entry)) (k : ℕ) (dx dy : ℤ) (leaves : List Leaf) → k ≡ length es → unsigned_abs dx < 2 ^ 53
     → unsigned_abs dy < 2 ^ 53 → IsReadyToPrint es leaves → IsPrintable es k (k + 1) (shifted dx dy) leaves
-paintable_copy es k dx dy leaves e x y ready = record {
-  within = omega arith;
-  sound = ready.sound;
-  board = ready.board;
-  reach = reach_shifted k dx dy (omega (arith, ready.few)) x y;
-}
+paintable_copy es k dx dy leaves e x y ready = grind (arith, reach_shifted)
 
 -- at the layer's own level every entry counts
 pub meaning_whole : (es : List (ℕ × Entry)) (k : ℕ) → k ≡ length es → meaning_before k es ≡ meaning_in es

@@ -1,5 +1,5 @@
 -- places and points that are moved and turned
-use Rattle.std.proofs.Common.{◌≡◌, ℕ, ◌+◌, ◌*◌, ◌^◌, ◌<◌, ◌≤◌, Bool, ℤ, pos, ◌+ℤ◌, List, [], ◌∷◌, map, arith, lit<}
+use Rattle.std.proofs.Common.{rules, ◌≡◌, ℕ, ◌+◌, ◌*◌, ◌^◌, ◌<◌, ◌≤◌, Bool, ℤ, ◌+ℤ◌, List, [], ◌∷◌, map, arith}
 use Rattle.std.specs.List.{All, flat_map}
 use Rattle.std.specs.Int.RustNames.{unsigned_abs}
 use Rattle.std.proofs.lemmas.Int.{ints}
@@ -9,7 +9,6 @@ use Rattle.cam_units.specs.Turns.{applied, matrix_of}
 use Rattle.cam_units.specs.declared.point.Point.{Point}
 use Rattle.cam_units.specs.declared.point.Spot.{Spot}
 use Rattle.cam_units.specs.declared.turn.Turn.{Turn}
-use Rattle.cam_units.specs.declared.turn.Turn.TheVariants.{R0, R90, R180, R270, M0, M90, M180, M270}
 use Rattle.cam_shapes.specs.declared.contour.Contour.{Contour}
 use Rattle.cam_shapes.specs.declared.segments.Seg.{Seg}
 use Rattle.cam_shapes.specs.declared.segments.Seg.TheVariants.{Line, Curve}
@@ -26,14 +25,7 @@ same_spot s t e f = λ i. record { x = e i; y = f i }
 
 -- a turn keeps the board
 pub turned_on_board : (t : Turn) (p : Point) → IsOnBoard p → IsOnBoard (applied (matrix_of t) p)
-turned_on_board R0 p h = record { x = omega (arith, ints); y = omega (arith, ints) }
-turned_on_board R90 p h = record { x = omega (arith, ints); y = omega (arith, ints) }
-turned_on_board R180 p h = record { x = omega (arith, ints); y = omega (arith, ints) }
-turned_on_board R270 p h = record { x = omega (arith, ints); y = omega (arith, ints) }
-turned_on_board M0 p h = record { x = omega (arith, ints); y = omega (arith, ints) }
-turned_on_board M90 p h = record { x = omega (arith, ints); y = omega (arith, ints) }
-turned_on_board M180 p h = record { x = omega (arith, ints); y = omega (arith, ints) }
-turned_on_board M270 p h = record { x = omega (arith, ints); y = omega (arith, ints) }
+turned_on_board t p h = grind (arith, ints)
 
 -- ---- the reach of a place
 
@@ -70,9 +62,7 @@ reach_shifted n dx dy h x y = (omega arith, omega arith)
 
 -- a flash at a point of the board, by the layer itself
 pub flashed_box : (at : Point) (t : Turn) (dark : Bool) → IsOnBoard at → IsBoxOffset (flashed origin at t dark).offset
-flashed_box at t dark h =
-    reach_box 0 (flashed origin at t dark)
-    (reach_flashed 0 origin at t dark h (reach_shifted 0 (pos 0) (pos 0) (omega arith) (lit< tt) (lit< tt)))
+flashed_box at t dark h = grind (arith, reach_box, reach_flashed, reach_shifted)
 
 -- ---- contours that stand on the board, and are placed on it
 
@@ -103,28 +93,21 @@ placeable_segs t o (Curve to centre ccw ∷ segs) h k =
 
 pub placeable : (t : Turn) (o : Point) (c : Contour) → IsShiftable o → All IsOnBoard (points_of_contour c)
     → All IsOnBoard (points_of_contour (placed_contour t o c)) → IsPlaceable t o c
-placeable t o c offset h k = record {
-  start = record {
-    here = All-head IsOnBoard c.start (flat_map points_of_seg c.segs) h;
-    there = All-head IsOnBoard (placed_point t o c.start) (flat_map points_of_seg (map (placed_seg t o) c.segs)) k;
-  };
-  segs = placeable_segs t o c.segs
-      (All-tail IsOnBoard c.start (flat_map points_of_seg c.segs) h)
-      (All-tail IsOnBoard (placed_point t o c.start) (flat_map points_of_seg (map (placed_seg t o) c.segs)) k);
-}
+placeable t o c offset h k = search (rules, All-head, placeable_segs, All-tail)
 
 -- its points stand on the board
 standing_segs : (t : Turn) (o : Point) (segs : List Seg) → All (IsPlaceableSeg t o) segs → All IsOnBoard (flat_map points_of_seg segs)
 standing_segs t o [] h = All-nil IsOnBoard
 standing_segs t o (Line to ∷ segs) h =
-    let here : IsPlaceableSeg t o (Line to) = All-head (IsPlaceableSeg t o) (Line to) segs h in
-    All-cons IsOnBoard to (flat_map points_of_seg segs) here.here
-    (standing_segs t o segs (All-tail (IsPlaceableSeg t o) (Line to) segs h))
+    grind (arith, All-head, All-cons, All-tail, standing_segs t o segs (All-tail (IsPlaceableSeg t o) (Line to) segs h))
 standing_segs t o (Curve to centre ccw ∷ segs) h =
-    let here : IsPlaceableSeg t o (Curve to centre ccw) = All-head (IsPlaceableSeg t o) (Curve to centre ccw) segs h in
-    All-cons IsOnBoard to (centre ∷ flat_map points_of_seg segs) here.0.here
-    (All-cons IsOnBoard centre (flat_map points_of_seg segs) here.1.here
-    (standing_segs t o segs (All-tail (IsPlaceableSeg t o) (Curve to centre ccw) segs h)))
+    grind (
+      arith,
+      All-head,
+      All-cons,
+      All-tail,
+      standing_segs t o segs (All-tail (IsPlaceableSeg t o) (Curve to centre ccw) segs h),
+    )
 
 pub standing : (t : Turn) (o : Point) (c : Contour) → IsPlaceable t o c → All IsOnBoard (points_of_contour c)
 standing t o c h = All-cons IsOnBoard c.start (flat_map points_of_seg c.segs) h.start.here (standing_segs t o c.segs h.segs)
@@ -134,7 +117,4 @@ board_offset : (a o : ℤ) → unsigned_abs a < 1000000000 → unsigned_abs (a +
 board_offset a o h k = omega (arith, ints)
 
 pub contour_offset : (t : Turn) (o : Point) (c : Contour) → IsPlaceable t o c → IsBoxOffset o
-contour_offset t o c h =
-    let p = applied (matrix_of t) c.start in
-    let turned = turned_on_board t c.start h.start.here in
-    record { x = board_offset p.x o.x turned.x h.start.there.x; y = board_offset p.y o.y turned.y h.start.there.y }
+contour_offset t o c h = grind (arith, turned_on_board, board_offset)

@@ -1,4 +1,5 @@
 -- the box of what is painted at a place is that of the same at the origin, placed
+use Rattle.std.proofs.Common.{arith}
 use Rattle.std.proofs.Common.{◌≡◌, ℕ, Bool, true, false, cond, List, [], ◌∷◌, ◌++◌, map, Option, None, Some, nat_eq, refl, ap, sym, ◌∙◌}
 use Rattle.std.specs.Prelude.{fold}
 use Rattle.std.proofs.lemmas.List.{map-append}
@@ -74,8 +75,7 @@ module _ (m : Shape → Bounds) where
     pub drawn_placed : (p : Place) (tip : Tip) (t : Turn) (from to : Point)
         → m (drawn (turned_tip (after t p.turn) tip) (placed p from) (placed p to))
         ≡ placed_bounds p (m (drawn (turned_tip t tip) from to))
-    drawn_placed p tip t from to =
-        ap (λ x. m (drawn x (placed p from) (placed p to))) (turned_after t p.turn tip) ∙ law.drawn p (turned_tip t tip) from to
+    drawn_placed p tip t from to = grind (arith, turned_after)
 
     draws_placed : (tip : Option Tip) (t : Turn) (from to : Point) (dark : Bool)
         → IsPlacedWith (λ p. draw_leaves tip (after t p.turn) (placed p from) (placed p to) (polarity_in p.dark dark))

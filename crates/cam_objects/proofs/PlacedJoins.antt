@@ -1,4 +1,6 @@
 -- boxes that are turned and moved, one after the other
+use Rattle.std.proofs.lemmas.Grind.{common_steps}
+use Rattle.std.proofs.Common.{rules}
 use Rattle.std.proofs.Common.{
   ◌≡◌,
   ◌^◌,
@@ -31,7 +33,6 @@ use Rattle.cam_units.specs.declared.bounds.Bounds.{Bounds}
 use Rattle.cam_units.specs.declared.bounds.Bounds.TheVariants.{Empty, Closed}
 use Rattle.cam_units.specs.declared.point.Point.{Point}
 use Rattle.cam_units.specs.declared.turn.Turn.{Turn}
-use Rattle.cam_units.specs.declared.turn.Turn.TheVariants.{R0, R90, R180, R270, M0, M90, M180, M270}
 use Rattle.cam_units.specs.Boxes.{has_no_place, join_of, span_of}
 use Rattle.cam_units.specs.Turns.{applied, matrix_of, minus}
 use Rattle.cam_apertures.specs.Turned.{IsTurnableBox, turned_box}
@@ -46,9 +47,7 @@ use Rattle.cam_objects.specs.Turning.{after}
 -- ---- moves
 
 pub moved_nowhere : (b : Bounds) → moved (record { x = pos 0; y = pos 0 }) b ≡ b
-moved_nowhere Empty = refl
-moved_nowhere (Closed low high) =
-    same_box _ _ _ _ low.x low.y high.x high.y (omega (arith, ints)) (omega (arith, ints)) (omega (arith, ints)) (omega (arith, ints))
+moved_nowhere b = grind (arith, common_steps, same_box, ints)
 
 pub moved_twice : (o q : Point) (b : Bounds) → moved o (moved q b) ≡ moved (record { x = q.x +ℤ o.x; y = q.y +ℤ o.y }) b
 moved_twice o q Empty = refl
@@ -70,23 +69,7 @@ up_back z a b = omega (arith, ints)
 
 -- a box that is moved and then turned is one that is turned and then moved, by the turned way
 turned_moved : (t : Turn) (o : Point) (b : Bounds) → turned_box t (moved o b) ≡ moved (applied (matrix_of t) o) (turned_box t b)
-turned_moved t o Empty = refl
-turned_moved R0 o (Closed low high) =
-    same_box _ _ _ _ _ _ _ _ (right_on low.x o.x o.y) (up_on low.y o.x o.y) (right_on high.x o.x o.y) (up_on high.y o.x o.y)
-turned_moved R90 o (Closed low high) =
-    same_box _ _ _ _ _ _ _ _ (up_back high.y o.x o.y) (right_on low.x o.x o.y) (up_back low.y o.x o.y) (right_on high.x o.x o.y)
-turned_moved R180 o (Closed low high) =
-    same_box _ _ _ _ _ _ _ _ (right_back high.x o.x o.y) (up_back high.y o.x o.y) (right_back low.x o.x o.y) (up_back low.y o.x o.y)
-turned_moved R270 o (Closed low high) =
-    same_box _ _ _ _ _ _ _ _ (up_on low.y o.x o.y) (right_back high.x o.x o.y) (up_on high.y o.x o.y) (right_back low.x o.x o.y)
-turned_moved M0 o (Closed low high) =
-    same_box _ _ _ _ _ _ _ _ (right_back high.x o.x o.y) (up_on low.y o.x o.y) (right_back low.x o.x o.y) (up_on high.y o.x o.y)
-turned_moved M90 o (Closed low high) =
-    same_box _ _ _ _ _ _ _ _ (up_back high.y o.x o.y) (right_back high.x o.x o.y) (up_back low.y o.x o.y) (right_back low.x o.x o.y)
-turned_moved M180 o (Closed low high) =
-    same_box _ _ _ _ _ _ _ _ (right_on low.x o.x o.y) (up_back high.y o.x o.y) (right_on high.x o.x o.y) (up_back low.y o.x o.y)
-turned_moved M270 o (Closed low high) =
-    same_box _ _ _ _ _ _ _ _ (up_on low.y o.x o.y) (right_on low.x o.x o.y) (up_on high.y o.x o.y) (right_on high.x o.x o.y)
+turned_moved t o b = grind (arith, same_box, right_on, up_on, up_back, right_back)
 
 lt_moved : (a b c : ℤ) → int_lt (a +ℤ c) (b +ℤ c) ≡ int_lt a b
 lt_moved a b c = grind (arith, ints)
@@ -98,32 +81,18 @@ max_moved : (a b c : ℤ) → int_max a b +ℤ c ≡ int_max (a +ℤ c) (b +ℤ 
 max_moved a b c = omega (arith, ints, clamps)
 
 pub empty_moved : (o : Point) (b : Bounds) → has_no_place (moved o b) ≡ has_no_place b
-empty_moved o Empty = refl
-empty_moved o (Closed low high) =
-    λ i. lt_moved high.x low.x (pos 2 *ℤ o.x) i || lt_moved high.y low.y (pos 2 *ℤ o.y) i
+empty_moved o b = grind (arith, lt_moved)
 
 span_moved : (o : Point) (a b : Bounds) → moved o (span_of a b) ≡ span_of (moved o a) (moved o b)
-span_moved o Empty b = refl
-span_moved o (Closed low high) Empty = refl
-span_moved o (Closed low high) (Closed low' high') =
-    same_box _ _ _ _ _ _ _ _
-    (min_moved low.x low'.x (pos 2 *ℤ o.x)) (min_moved low.y low'.y (pos 2 *ℤ o.y))
-    (max_moved high.x high'.x (pos 2 *ℤ o.x)) (max_moved high.y high'.y (pos 2 *ℤ o.y))
+span_moved o a b = grind (arith, same_box, min_moved, max_moved)
 
 either_by : (f : Bounds → Bounds) (v : Bool) (x y : Bounds) → f (cond v x y) ≡ cond v (f x) (f y)
-either_by f true x y = refl
-either_by f false x y = refl
+either_by f v x y = grind arith
 
 -- a change of boxes that keeps which are empty and what they span keeps their joins
 pub join_kept_by : (f : Bounds → Bounds) → ((b : Bounds) → has_no_place (f b) ≡ has_no_place b)
     → ((a b : Bounds) → f (span_of a b) ≡ span_of (f a) (f b)) → (a b : Bounds) → f (join_of a b) ≡ join_of (f a) (f b)
-join_kept_by f empty span a b =
-    either_by f (has_no_place a) b (cond (has_no_place b) a (span_of a b))
-    ∙ ap (λ rest. cond (has_no_place a) (f b) rest)
-    (either_by f (has_no_place b) a (span_of a b)
-    ∙ ap (λ both. cond (has_no_place b) (f a) both) (span a b)
-    ∙ ap (λ v. cond v (f a) (span_of (f a) (f b))) (sym (empty b)))
-    ∙ ap (λ v. cond v (f b) (cond (has_no_place (f b)) (f a) (span_of (f a) (f b)))) (sym (empty a))
+join_kept_by f empty span a b = grind (arith, either_by)
 
 pub join_moved : (o : Point) (a b : Bounds) → moved o (join_of a b) ≡ join_of (moved o a) (moved o b)
 join_moved o = join_kept_by (moved o) (empty_moved o) (span_moved o)
@@ -135,81 +104,12 @@ minus_twice z = omega (arith, ints)
 
 pub turned_twice : (t u : Turn) (b : Bounds) → turned_box u (turned_box t b) ≡ turned_box (after t u) b
 unfolding after
-turned_twice t u Empty = refl
-turned_twice R0 R0 (Closed low high) = refl
-turned_twice R0 R90 (Closed low high) = refl
-turned_twice R0 R180 (Closed low high) = refl
-turned_twice R0 R270 (Closed low high) = refl
-turned_twice R0 M0 (Closed low high) = refl
-turned_twice R0 M90 (Closed low high) = refl
-turned_twice R0 M180 (Closed low high) = refl
-turned_twice R0 M270 (Closed low high) = refl
-turned_twice R90 R0 (Closed low high) = refl
-turned_twice R90 R90 (Closed low high) = refl
-turned_twice R90 R180 (Closed low high) = same_box _ _ _ _ _ _ _ _ (minus_twice low.y) refl (minus_twice high.y) refl
-turned_twice R90 R270 (Closed low high) = same_box _ _ _ _ _ _ _ _ refl (minus_twice low.y) refl (minus_twice high.y)
-turned_twice R90 M0 (Closed low high) = same_box _ _ _ _ _ _ _ _ (minus_twice low.y) refl (minus_twice high.y) refl
-turned_twice R90 M90 (Closed low high) = same_box _ _ _ _ _ _ _ _ refl (minus_twice low.y) refl (minus_twice high.y)
-turned_twice R90 M180 (Closed low high) = refl
-turned_twice R90 M270 (Closed low high) = refl
-turned_twice R180 R0 (Closed low high) = refl
-turned_twice R180 R90 (Closed low high) = same_box _ _ _ _ _ _ _ _ (minus_twice low.y) refl (minus_twice high.y) refl
-turned_twice R180 R180 (Closed low high) =
-    same_box _ _ _ _ _ _ _ _ (minus_twice low.x) (minus_twice low.y) (minus_twice high.x) (minus_twice high.y)
-turned_twice R180 R270 (Closed low high) = same_box _ _ _ _ _ _ _ _ refl (minus_twice low.x) refl (minus_twice high.x)
-turned_twice R180 M0 (Closed low high) = same_box _ _ _ _ _ _ _ _ (minus_twice low.x) refl (minus_twice high.x) refl
-turned_twice R180 M90 (Closed low high) =
-    same_box _ _ _ _ _ _ _ _ (minus_twice low.y) (minus_twice low.x) (minus_twice high.y) (minus_twice high.x)
-turned_twice R180 M180 (Closed low high) = same_box _ _ _ _ _ _ _ _ refl (minus_twice low.y) refl (minus_twice high.y)
-turned_twice R180 M270 (Closed low high) = refl
-turned_twice R270 R0 (Closed low high) = refl
-turned_twice R270 R90 (Closed low high) = same_box _ _ _ _ _ _ _ _ (minus_twice low.x) refl (minus_twice high.x) refl
-turned_twice R270 R180 (Closed low high) = same_box _ _ _ _ _ _ _ _ refl (minus_twice low.x) refl (minus_twice high.x)
-turned_twice R270 R270 (Closed low high) = refl
-turned_twice R270 M0 (Closed low high) = refl
-turned_twice R270 M90 (Closed low high) = same_box _ _ _ _ _ _ _ _ (minus_twice low.x) refl (minus_twice high.x) refl
-turned_twice R270 M180 (Closed low high) = same_box _ _ _ _ _ _ _ _ refl (minus_twice low.x) refl (minus_twice high.x)
-turned_twice R270 M270 (Closed low high) = refl
-turned_twice M0 R0 (Closed low high) = refl
-turned_twice M0 R90 (Closed low high) = refl
-turned_twice M0 R180 (Closed low high) = same_box _ _ _ _ _ _ _ _ (minus_twice low.x) refl (minus_twice high.x) refl
-turned_twice M0 R270 (Closed low high) = same_box _ _ _ _ _ _ _ _ refl (minus_twice low.x) refl (minus_twice high.x)
-turned_twice M0 M0 (Closed low high) = same_box _ _ _ _ _ _ _ _ (minus_twice low.x) refl (minus_twice high.x) refl
-turned_twice M0 M90 (Closed low high) = same_box _ _ _ _ _ _ _ _ refl (minus_twice low.x) refl (minus_twice high.x)
-turned_twice M0 M180 (Closed low high) = refl
-turned_twice M0 M270 (Closed low high) = refl
-turned_twice M90 R0 (Closed low high) = refl
-turned_twice M90 R90 (Closed low high) = same_box _ _ _ _ _ _ _ _ (minus_twice low.x) refl (minus_twice high.x) refl
-turned_twice M90 R180 (Closed low high) =
-    same_box _ _ _ _ _ _ _ _ (minus_twice low.y) (minus_twice low.x) (minus_twice high.y) (minus_twice high.x)
-turned_twice M90 R270 (Closed low high) = same_box _ _ _ _ _ _ _ _ refl (minus_twice low.y) refl (minus_twice high.y)
-turned_twice M90 M0 (Closed low high) = same_box _ _ _ _ _ _ _ _ (minus_twice low.y) refl (minus_twice high.y) refl
-turned_twice M90 M90 (Closed low high) =
-    same_box _ _ _ _ _ _ _ _ (minus_twice low.x) (minus_twice low.y) (minus_twice high.x) (minus_twice high.y)
-turned_twice M90 M180 (Closed low high) = same_box _ _ _ _ _ _ _ _ refl (minus_twice low.x) refl (minus_twice high.x)
-turned_twice M90 M270 (Closed low high) = refl
-turned_twice M180 R0 (Closed low high) = refl
-turned_twice M180 R90 (Closed low high) = same_box _ _ _ _ _ _ _ _ (minus_twice low.y) refl (minus_twice high.y) refl
-turned_twice M180 R180 (Closed low high) = same_box _ _ _ _ _ _ _ _ refl (minus_twice low.y) refl (minus_twice high.y)
-turned_twice M180 R270 (Closed low high) = refl
-turned_twice M180 M0 (Closed low high) = refl
-turned_twice M180 M90 (Closed low high) = same_box _ _ _ _ _ _ _ _ (minus_twice low.y) refl (minus_twice high.y) refl
-turned_twice M180 M180 (Closed low high) = same_box _ _ _ _ _ _ _ _ refl (minus_twice low.y) refl (minus_twice high.y)
-turned_twice M180 M270 (Closed low high) = refl
-turned_twice M270 R0 (Closed low high) = refl
-turned_twice M270 R90 (Closed low high) = refl
-turned_twice M270 R180 (Closed low high) = refl
-turned_twice M270 R270 (Closed low high) = refl
-turned_twice M270 M0 (Closed low high) = refl
-turned_twice M270 M90 (Closed low high) = refl
-turned_twice M270 M180 (Closed low high) = refl
-turned_twice M270 M270 (Closed low high) = refl
+turned_twice t u b = grind (arith, same_box, minus_twice)
 
 -- ---- places
 
 pub placed_nowhere : (b : Bounds) → placed_bounds origin b ≡ b
-placed_nowhere Empty = refl
-placed_nowhere (Closed low high) = moved_nowhere (Closed low high)
+placed_nowhere b = grind (arith, moved_nowhere)
 
 pub placed_join : (p : Place) (a b : Bounds) → placed_bounds p (join_of a b) ≡ join_of (placed_bounds p a) (placed_bounds p b)
 placed_join p a b = ap (moved p.offset) (join_turned p.turn a b) ∙ join_moved p.offset (turned_box p.turn a) (turned_box p.turn b)
@@ -217,16 +117,11 @@ placed_join p a b = ap (moved p.offset) (join_turned p.turn a b) ∙ join_moved 
 -- the place of a flash: turned and moved with the flash, and then with the place
 pub placed_flash : (p : Place) (at : Point) (t : Turn) (dark : Bool) (b : Bounds)
     → placed_bounds (flashed p at t dark) b ≡ placed_bounds p (moved at (turned_box t b))
-placed_flash p at t dark b =
-    ap (moved (flashed p at t dark).offset) (sym (turned_twice t p.turn b))
-    ∙ sym (moved_twice p.offset (applied (matrix_of p.turn) at) (turned_box p.turn (turned_box t b)))
-    ∙ ap (moved p.offset) (sym (turned_moved p.turn at (turned_box t b)))
+placed_flash p at t dark b = grind (arith, turned_twice, moved_twice, turned_moved)
 
 pub placed_flashed : (p : Place) (at : Point) (t : Turn) (dark : Bool) (b : Bounds)
     → placed_bounds (flashed p at t dark) b ≡ placed_bounds p (placed_bounds (flashed origin at t dark) b)
-placed_flashed p at t dark b =
-    placed_flash p at t dark b
-    ∙ ap (placed_bounds p) (sym (placed_nowhere (moved at (turned_box t b))) ∙ sym (placed_flash origin at t dark b))
+placed_flashed p at t dark b = search (rules, placed_flash, placed_nowhere)
 
 -- the join of many boxes is placed with them
 pub joins_placed : {X Y : Type 0} (p : Place) (f : X → Bounds) (g : Y → Bounds) (h : Y → X) → ((y : Y) → f (h y) ≡ placed_bounds p (g y))
@@ -243,24 +138,10 @@ minus_near : (z : ℤ) → unsigned_abs z < 2 ^ 33 → unsigned_abs (neg_ℤ z) 
 minus_near z h = omega (arith, ints)
 
 pub near_turnable : (b : Bounds) → IsNearBox b → IsTurnableBox b
-near_turnable Empty h = tt
-near_turnable (Closed low high) h = (
-  record { x = omega (arith, h.0.x); y = omega (arith, h.0.y) },
-  record { x = omega (arith, h.1.x); y = omega (arith, h.1.y) },
-)
+near_turnable b h = grind arith
 
 pub near_turned : (t : Turn) (b : Bounds) → IsNearBox b → IsNearBox (turned_box t b)
-near_turned t Empty h = tt
-near_turned R0 (Closed low high) h = h
-near_turned R90 (Closed low high) h = (record { x = minus_near high.y h.1.y; y = h.0.x }, record { x = minus_near low.y h.0.y; y = h.1.x })
-near_turned R180 (Closed low high) h =
-    (record { x = minus_near high.x h.1.x; y = minus_near high.y h.1.y }, record { x = minus_near low.x h.0.x; y = minus_near low.y h.0.y })
-near_turned R270 (Closed low high) h = (record { x = h.0.y; y = minus_near high.x h.1.x }, record { x = h.1.y; y = minus_near low.x h.0.x })
-near_turned M0 (Closed low high) h = (record { x = minus_near high.x h.1.x; y = h.0.y }, record { x = minus_near low.x h.0.x; y = h.1.y })
-near_turned M90 (Closed low high) h =
-    (record { x = minus_near high.y h.1.y; y = minus_near high.x h.1.x }, record { x = minus_near low.y h.0.y; y = minus_near low.x h.0.x })
-near_turned M180 (Closed low high) h = (record { x = h.0.x; y = minus_near high.y h.1.y }, record { x = h.1.x; y = minus_near low.y h.0.y })
-near_turned M270 (Closed low high) h = (record { x = h.0.y; y = h.0.x }, record { x = h.1.y; y = h.1.x })
+near_turned t b h = grind (arith, minus_near)
 
 -- ---- boxes that are not crossed
 
@@ -268,5 +149,4 @@ pub uncrossed_moved : (o : Point) (b : Bounds) → IsUncrossed b → IsUncrossed
 uncrossed_moved o b h none = ap (moved o) (h (sym (empty_moved o b) ∙ none))
 
 pub uncrossed_placed : (p : Place) (b : Bounds) → IsUncrossed b → IsUncrossed (placed_bounds p b)
-uncrossed_placed p b h =
-    uncrossed_moved p.offset (turned_box p.turn b) (λ none. ap (turned_box p.turn) (h (sym (empty_turned p.turn b) ∙ none)))
+uncrossed_placed p b h = grind (arith, uncrossed_moved, empty_turned)

@@ -1,5 +1,5 @@
 -- the box of a shape that is placed is the box of the shape, placed
-use Rattle.std.proofs.Common.{◌≡◌, ◌+◌, ◌*◌, Bool, ℤ, pos, negsuc, neg_ℤ, ◌+ℤ◌, ◌-ℤ◌, ◌*ℤ◌, List, [], ◌∷◌, map, refl, ap, sym, ◌∙◌, arith}
+use Rattle.std.proofs.Common.{◌≡◌, ◌+◌, ◌*◌, Bool, ℤ, pos, neg_ℤ, ◌+ℤ◌, ◌-ℤ◌, ◌*ℤ◌, List, [], ◌∷◌, map, refl, ap, sym, ◌∙◌, arith}
 use Rattle.std.specs.Prelude.{fold}
 use Rattle.std.specs.List.{flat_map}
 use Rattle.std.specs.Int.RustNames.{unsigned_abs}
@@ -22,7 +22,7 @@ use Rattle.cam_apertures.specs.declared.aperture.Aperture.{Aperture as Template}
 use Rattle.cam_apertures.specs.declared.aperture.Aperture.TheVariants.{Circle, Rect, Obround, Prims}
 use Rattle.cam_apertures.specs.Bounds.{bounds_of as template_bounds}
 use Rattle.cam_apertures.specs.Cover.{flash_point}
-use Rattle.cam_apertures.specs.Primitives.{box_about, box_of_point, box_of_prims}
+use Rattle.cam_apertures.specs.Primitives.{box_about, box_of_point}
 use Rattle.cam_apertures.specs.Turned.{turned_box, turned_height, turned_width}
 use Rattle.cam_apertures.proofs.Corners.{same_box}
 use Rattle.cam_apertures.proofs.TurnedBoxes.{about_turned, point_turned, prims_turned, square_turned}
@@ -146,24 +146,13 @@ more_turned : (z w : ℤ) → neg_ℤ z +ℤ w ≡ neg_ℤ (z -ℤ w)
 more_turned z w = omega (arith, ints)
 
 widened_turned : (w : ℤ) (t : Turn) (b : Bounds) → widened w (turned_box t b) ≡ turned_box t (widened w b)
-widened_turned w t Empty = refl
-widened_turned w R0 (Closed low high) = refl
-widened_turned w R90 (Closed low high) = same_box _ _ _ _ _ _ _ _ (less_turned high.y w) refl (more_turned low.y w) refl
-widened_turned w R180 (Closed low high) =
-    same_box _ _ _ _ _ _ _ _ (less_turned high.x w) (less_turned high.y w) (more_turned low.x w) (more_turned low.y w)
-widened_turned w R270 (Closed low high) = same_box _ _ _ _ _ _ _ _ refl (less_turned high.x w) refl (more_turned low.x w)
-widened_turned w M0 (Closed low high) = same_box _ _ _ _ _ _ _ _ (less_turned high.x w) refl (more_turned low.x w) refl
-widened_turned w M90 (Closed low high) =
-    same_box _ _ _ _ _ _ _ _ (less_turned high.y w) (less_turned high.x w) (more_turned low.y w) (more_turned low.x w)
-widened_turned w M180 (Closed low high) = same_box _ _ _ _ _ _ _ _ refl (less_turned high.y w) refl (more_turned low.y w)
-widened_turned w M270 (Closed low high) = refl
+widened_turned w t b = grind (arith, same_box, less_turned, more_turned)
 
 pub widened_placed : (w : ℤ) (p : Place) (b : Bounds) → widened w (placed_bounds p b) ≡ placed_bounds p (widened w b)
 widened_placed w p b = widened_moved w p.offset (turned_box p.turn b) ∙ ap (moved p.offset) (widened_turned w p.turn b)
 
 pub square_is : (z : ℤ) → z *ℤ z ≡ pos (unsigned_abs z * unsigned_abs z)
-square_is (pos n) = refl
-square_is (negsuc n) = refl
+square_is z = grind arith
 
 same_square : (a b : ℤ) → unsigned_abs a ≡ unsigned_abs b → a *ℤ a ≡ b *ℤ b
 same_square a b e = square_is a ∙ ap (λ n. pos (n * n)) e ∙ sym (square_is b)
@@ -259,11 +248,7 @@ template_turned M0 (Obround width height hole) = about_turned M0 flash_point wid
 template_turned M90 (Obround width height hole) = about_turned M90 flash_point width height
 template_turned M180 (Obround width height hole) = about_turned M180 flash_point width height
 template_turned M270 (Obround width height hole) = about_turned M270 flash_point width height
-template_turned t (Prims prims) = prims_turned t prims ∙ ap (turned_box t) (unturned (box_of_prims prims) ∙ sym (prims_turned R0 prims))
-  where
-    unturned : (b : Bounds) → b ≡ turned_box R0 b
-    unturned Empty = refl
-    unturned (Closed low high) = refl
+template_turned t (Prims prims) = grind (arith, prims_turned)
 
 stroke_points : (p : Place) (from to : Point) → join_of (box_of_point (placed p from)) (box_of_point (placed p to))
     ≡ placed_bounds p (join_of (box_of_point from) (box_of_point to))
@@ -273,8 +258,7 @@ stroke_points p from to =
 drawn_so : (p : Place) (tip : Tip) (from to : Point)
     → box_of_shape (drawn_shape (turned_tip p.turn tip) (placed p from) (placed p to))
     ≡ placed_bounds p (box_of_shape (drawn_shape tip from to))
-drawn_so p (Round w) from to =
-    ap (widened w.0) (stroke_points p from to) ∙ widened_placed w.0 p (join_of (box_of_point from) (box_of_point to))
+drawn_so p (Round w) from to = grind (arith, stroke_points, widened_placed)
 drawn_so p (Rectangular w h) from to =
     (λ i. join_of (rectangle_placed p from w h i) (rectangle_placed p to w h i))
     ∙ sym (placed_join p (box_about (place_of from) w.0 h.0) (box_about (place_of to) w.0 h.0))

@@ -1,5 +1,5 @@
 -- leaves that do not cover a place may be taken out, put in and moved
-use Rattle.std.proofs.Common.{◌≡◌, ◌↔◌, true, List, [], ◌∷◌, ◌++◌, sym, ap, ◌∙◌, append_assoc}
+use Rattle.std.proofs.Common.{arith, ◌≡◌, ◌↔◌, List, [], ◌∷◌, ◌++◌, sym, ap, ◌∙◌, append_assoc}
 use Rattle.std.specs.List.{flat_map}
 use Rattle.std.proofs.lemmas.Grind.{flat_map-append}
 use Rattle.std.proofs.lemmas.List.Elements.{All-head, All-tail}
@@ -17,10 +17,7 @@ use Rattle.cam_objects.proofs.LastInks.{last_paints, last_without}
 
 -- where one leaf decides, places are black alike
 same_image : (a b : List Leaf) (s : Spot) → last_ink a s ≡ last_ink b s → IsBlack a s ↔ IsBlack b s
-same_image a b s e = (
-  (λ black. (last_paints b s true).0 (sym e ∙ (last_paints a s true).1 black)),
-  (λ black. (last_paints a s true).0 (e ∙ (last_paints b s true).1 black)),
-)
+same_image a b s e = grind (arith, last_paints)
 
 module _ {X : Type 0} (paints : X → List Leaf) where
   uncovered_items : (items : List X) (s : Spot) → IsOutside paints items s → IsUncovered (flat_map paints items) s
@@ -36,10 +33,7 @@ module _ {X : Type 0} (paints : X → List Leaf) where
   -- items of which none covers the place
   without : (a u b : List X) (s : Spot) → IsOutside paints u s
       → last_ink (flat_map paints (a ++ u ++ b)) s ≡ last_ink (flat_map paints (a ++ b)) s
-  without a u b s h =
-      ap (λ ls. last_ink ls s) (three a u b)
-      ∙ last_without s (flat_map paints a) (flat_map paints u) (flat_map paints b) (uncovered_items u s h)
-      ∙ ap (λ ls. last_ink ls s) (sym (flat_map-append paints a b))
+  without a u b s h = grind (arith, three, last_without, uncovered_items, flat_map-append)
 
   pub keeps_outside : KeepsOutside paints
   keeps_outside = record {

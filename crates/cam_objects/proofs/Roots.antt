@@ -1,5 +1,5 @@
 -- the greatest root, by its square and the next
-use Rattle.std.proofs.Common.{◌≡◌, ℕ, zero, suc, ◌+◌, ◌*◌, ◌<◌, ◌≤◌, Bool, true, false, count_by, refl, ◌∙◌, ◌⊎◌, inl, inr, arith}
+use Rattle.std.proofs.Common.{◌≡◌, ℕ, zero, suc, ◌+◌, ◌*◌, ◌<◌, ◌≤◌, Bool, true, false, count_by, refl, ◌∙◌, inl, inr, arith}
 use Rattle.std.specs.Prelude.{nat_le}
 use Rattle.std.specs.List.{range_with_len}
 use Rattle.std.proofs.lemmas.Bool.{cases_Bool, cases_lt, leb-true, le-leb}
@@ -15,11 +15,7 @@ module _ (n r : ℕ) (low : r * r ≤ n) (high : n < (r + 1) * (r + 1)) where
   within a h = le-leb (a * a) n (omega (arith, mul-le a a r r h h))
 
   beyond : (a : ℕ) → r < a → has_square a ≡ false
-  beyond a h = by (cases_Bool (has_square a))
-    where
-      by : (has_square a ≡ true) ⊎ (has_square a ≡ false) → has_square a ≡ false
-      by (inl e) = absurd (omega (arith, leb-true (a * a) n e, mul-le (r + 1) (r + 1) a a (omega arith) (omega arith)))
-      by (inr e) = e
+  beyond a h = grind (arith, cases_Bool, leb-true, mul-le)
 
   none : (a k : ℕ) → r < a → count_by has_square (range_with_len a k) ≡ 0
   none a zero h = refl
@@ -39,11 +35,7 @@ module _ (n r : ℕ) (low : r * r ≤ n) (high : n < (r + 1) * (r + 1)) where
       next c = omega arith
 
   few : r ≤ n
-  few = by r refl
-    where
-      by : (q : ℕ) → q ≡ r → q ≤ n
-      by zero e = omega arith
-      by (suc q) e = omega (arith, mul-le 1 (suc q) r r (omega arith) (omega arith))
+  few = grind (arith, mul-le)
 
   -- there is one such number
   pub is_root : root n ≡ r

@@ -1,4 +1,5 @@
 -- runs of copies, each so far ahead of the one before
+use Rattle.std.proofs.lemmas.Grind.{common_steps}
 use Rattle.std.proofs.Common.{
   ◌≡◌,
   ◌↔◌,
@@ -38,38 +39,25 @@ use Rattle.cam_objects.specs.Machinery.Runs.{IsInRun}
 -- those at most so far ahead are those up to the quotient
 pub up_to_quotient : (k stride : ℕ) (way : ℤ) → 0 < stride → pos 0 ≤ℤ way
     → (k < unsigned_abs way / stride + 1) ↔ (pos (k * stride) ≤ℤ way)
-up_to_quotient k stride (pos way) some ahead =
-    let there = le-div_iff_mul-le {k = stride} {x = k} {y = way} some in (
-      λ h. let least : k * stride ≤ way = there.0 (omega arith) in omega (arith, ints),
-      λ h. let most : k ≤ way / stride = there.1 (omega (arith, ints)) in omega arith,
-    )
-up_to_quotient k stride (negsuc way) some ahead = absurd (omega (arith, ints))
+up_to_quotient k stride way some ahead = grind (arith, le-div_iff_mul-le, ints)
 
 -- ---- differences that are cut to 64 bits
 
 -- a number under the greatest is at most the cut one where it is at most the other
 cut_above : (n : ℕ) (z : ℤ) → n < 2 ^ 63 → (pos n ≤ℤ saturate_signed w64 z) ↔ (pos n ≤ℤ z)
-cut_above n (pos m) small = (λ h. omega (arith, ints), λ h. omega (arith, ints))
-cut_above n (negsuc m) small = (λ h. absurd (omega (arith, ints)), λ h. absurd (omega (arith, ints)))
+cut_above n z small = grind (arith, ints)
 
 cut_below : (n : ℕ) (z : ℤ) → n + 1 < 2 ^ 63 → (saturate_signed w64 z ≤ℤ pos n) ↔ (z ≤ℤ pos n)
-cut_below n (pos m) small = (λ h. omega (arith, ints), λ h. omega (arith, ints))
-cut_below n (negsuc m) small = (λ h. omega (arith, ints), λ h. omega (arith, ints))
+cut_below n z small = grind (arith, ints)
 
 -- and a cut one that cannot be cut above
 cut_before : (n : ℕ) (z : ℤ) → z <ℤ pos (2 ^ 63) → (pos n ≤ℤ saturate_signed w64 z) ↔ (pos n ≤ℤ z)
-cut_before n (pos m) small = (λ h. omega (arith, ints), λ h. omega (arith, ints))
-cut_before n (negsuc m) small = (λ h. absurd (omega (arith, ints)), λ h. absurd (omega (arith, ints)))
+cut_before n z small = grind (arith, ints)
 
 -- what is not before the least is at least that
 pub not_before : (n : ℕ) (least before : ℤ) → FitsSigned w64 least → before ≡ saturate_signed w64 (least -ℤ pos 1)
     → (pos n ≤ℤ before → ⊥) ↔ (least ≤ℤ pos n)
-not_before n least before fits e =
-    let cut = cut_before n (least -ℤ pos 1) (omega (arith, ints)) in
-    subst (λ (z : ℤ). (pos n ≤ℤ z → ⊥) ↔ (least ≤ℤ pos n)) (sym e) (
-      λ off. by_lt_z {P = least ≤ℤ pos n} (pos n) least (λ h. absurd (off (cut.1 (omega (arith, ints))))) (λ h. h),
-      λ h before. let bad : pos n ≤ℤ (least -ℤ pos 1) = cut.0 before in omega (arith, ints),
-    )
+not_before n least before fits e = grind (arith, cut_before, ints, by_lt_z)
 
 -- the copies that lie from the least to the most ahead of the first
 pub between : (run : Run) (count stride k : ℕ) (least most before : ℤ) → k < count → FitsSigned w64 least
@@ -106,8 +94,7 @@ way_back k s = omega (arith, ints)
 
 -- it is no greater than the greatest number
 short_way : (k s : ℕ) → k < 2 ^ 32 → s < 1000000000 → k * (2 * s) + 1 < 2 ^ 63
-short_way k s few short =
-    omega (arith, mul-le k (2 * s) (2 ^ 32) 2000000000 (omega arith) (omega arith))
+short_way k s few short = grind (arith, mul-le)
 
 -- between the least and the most ahead of the first, a copy is moved so far that both spans have a coordinate
 ahead : (k s : ℕ) (low high left right least most : ℤ) → k < 2 ^ 32 → s < 1000000000
@@ -168,10 +155,8 @@ module _ (run : Run) (k stride : ℕ) where
       → pos 0 ≤ℤ step → stride ≡ unsigned_abs step
       → least ≡ saturate_signed w64 (left -ℤ high) → most ≡ saturate_signed w64 (right -ℤ low)
       → LiesBetween run k stride least most → LiesOver run k step low high left right
-  over_ahead (pos s) low high left right least most few short on e first last each =
-      followed (subst (λ n. LiesBetween run k n least most) e each)
-      (ahead k s low high left right least most few short first last)
-  over_ahead (negsuc s) low high left right least most few short on e first last each = absurd (omega (arith, ints))
+  over_ahead step low high left right least most few short on e first last each =
+      grind (arith, common_steps, followed, ahead, ints)
 
   pub over_back : (step low high left right least most : ℤ) → k < 2 ^ 32 → unsigned_abs step < 1000000000
       → step <ℤ pos 0 → stride ≡ unsigned_abs step

@@ -1,5 +1,5 @@
 -- what has a place in common with a box where it is painted has one with the box as it is seen from there
-use Rattle.std.proofs.Common.{◌≡◌, ◌^◌, ◌<◌, ℤ, pos, negsuc, neg_ℤ, w64, ◌-ℤ◌, ◌*ℤ◌, ◌≤ℤ◌, arith}
+use Rattle.std.proofs.Common.{rules, ◌≡◌, ◌^◌, ◌<◌, ℤ, pos, negsuc, neg_ℤ, w64, ◌-ℤ◌, ◌*ℤ◌, ◌≤ℤ◌, arith}
 use Rattle.std.specs.Int.RustNames.{unsigned_abs}
 use Rattle.std.proofs.lemmas.Int.{clamps, ints}
 use Rattle.std.specs.Int.{int_max, int_min, saturate_signed}
@@ -17,24 +17,14 @@ use Rattle.cam_objects.specs.Machinery.Boxes.{IsBackFrom, IsNearBox, IsNearSpot,
 -- ---- a coordinate that is moved back
 
 cut_most : (x d : ℤ) → unsigned_abs x < 2 ^ 33 → x ≤ℤ d → x ≤ℤ saturate_signed w64 d
-cut_most x (pos n) near h = omega (arith, ints, near, h)
-cut_most x (negsuc n) near h = omega (arith, ints, near, h)
+cut_most x d near h = grind (arith, ints)
 
 cut_least : (x d : ℤ) → unsigned_abs x < 2 ^ 33 → d ≤ℤ x → saturate_signed w64 d ≤ℤ x
-cut_least x (pos n) near h = omega (arith, ints, near, h)
-cut_least x (negsuc n) near h = omega (arith, ints, near, h)
+cut_least x d near h = grind (arith, ints)
 
 pub back_from : (at by cut back : ℤ) → cut ≡ saturate_signed w64 (at -ℤ pos 2 *ℤ by)
     → back ≡ int_max (negsuc 8589934591) (int_min cut (pos 8589934592)) → IsBackFrom at by back
-back_from at by cut back e f = record {
-  most = λ x near h.
-      let there = cut_most x (at -ℤ pos 2 *ℤ by) near (omega (arith, ints, h)) in
-      omega (arith, ints, clamps, near, e, f, there);
-  least = λ x near h.
-      let there = cut_least x (at -ℤ pos 2 *ℤ by) near (omega (arith, ints, h)) in
-      omega (arith, ints, clamps, near, e, f, there);
-  near = omega (arith, ints, clamps, f);
-}
+back_from at by cut back e f = search (rules, cut_most, ints, clamps, cut_least)
 
 -- ---- a place that is taken back
 
@@ -54,58 +44,26 @@ between low high s left right below above = record { left = left; right = right;
 
 -- it lay in the box that was turned
 lay_in : (t : Turn) (low high s : Spot) → Holds (turned_corners t low high) s → IsInBox low high (before t s)
-lay_in R0 low high s h = h
-lay_in R90 low high s h = between low high (before R90 s) h.below h.above (omega (arith, ints, h.right)) (omega (arith, ints, h.left))
-lay_in R180 low high s h =
-    between low high (before R180 s) (omega (arith, ints, h.right)) (omega (arith, ints, h.left)) (omega (arith, ints, h.above)) (omega (arith, ints, h.below))
-lay_in R270 low high s h = between low high (before R270 s) (omega (arith, ints, h.above)) (omega (arith, ints, h.below)) h.left h.right
-lay_in M0 low high s h = between low high (before M0 s) (omega (arith, ints, h.right)) (omega (arith, ints, h.left)) h.below h.above
-lay_in M90 low high s h =
-    between low high (before M90 s) (omega (arith, ints, h.above)) (omega (arith, ints, h.below)) (omega (arith, ints, h.right)) (omega (arith, ints, h.left))
-lay_in M180 low high s h = between low high (before M180 s) h.left h.right (omega (arith, ints, h.above)) (omega (arith, ints, h.below))
-lay_in M270 low high s h = between low high (before M270 s) h.below h.above h.left h.right
+lay_in t low high s h = grind (arith, between, ints)
 
 -- and in each box that it lies in, taken back
 lies_in : (t : Turn) (low high s : Spot) → IsInBox low high s → Holds (turned_corners (turned_back t) low high) (before t s)
-lies_in R0 low high s h = h
-lies_in R90 low high s h = between _ _ (before R90 s) h.below h.above (omega (arith, ints, h.right)) (omega (arith, ints, h.left))
-lies_in R180 low high s h =
-    between _ _ (before R180 s) (omega (arith, ints, h.right)) (omega (arith, ints, h.left)) (omega (arith, ints, h.above)) (omega (arith, ints, h.below))
-lies_in R270 low high s h = between _ _ (before R270 s) (omega (arith, ints, h.above)) (omega (arith, ints, h.below)) h.left h.right
-lies_in M0 low high s h = between _ _ (before M0 s) (omega (arith, ints, h.right)) (omega (arith, ints, h.left)) h.below h.above
-lies_in M90 low high s h =
-    between _ _ (before M90 s) (omega (arith, ints, h.above)) (omega (arith, ints, h.below)) (omega (arith, ints, h.right)) (omega (arith, ints, h.left))
-lies_in M180 low high s h = between _ _ (before M180 s) h.left h.right (omega (arith, ints, h.above)) (omega (arith, ints, h.below))
-lies_in M270 low high s h = between _ _ (before M270 s) h.below h.above h.left h.right
+lies_in t low high s h = grind (arith, between, ints)
 
 -- a place of a near box is near
 near_place : (low high s : Spot) → IsNearSpot low → IsNearSpot high → IsInBox low high s → IsNearSpot s
-near_place low high s a b h = record {
-  x = omega (arith, ints, a.x, b.x, h.left, h.right);
-  y = omega (arith, ints, a.y, b.y, h.below, h.above);
-}
+near_place low high s a b h = grind (arith, ints)
 
 -- so it is once it is turned
 near_turned : (t : Turn) (s : Spot) → IsNearSpot (before t s) → IsNearSpot s
-near_turned R0 s h = h
-near_turned R90 s h = record { x = omega (arith, ints, h.y); y = h.x }
-near_turned R180 s h = record { x = omega (arith, ints, h.x); y = omega (arith, ints, h.y) }
-near_turned R270 s h = record { x = h.y; y = omega (arith, ints, h.x) }
-near_turned M0 s h = record { x = omega (arith, ints, h.x); y = h.y }
-near_turned M90 s h = record { x = omega (arith, ints, h.y); y = omega (arith, ints, h.x) }
-near_turned M180 s h = record { x = h.x; y = omega (arith, ints, h.y) }
-near_turned M270 s h = record { x = h.y; y = h.x }
+near_turned t s h = grind (arith, ints)
 
 -- a place before it was moved by an offset
 abbrev unmoved : Place → Spot → Spot
 unmoved p s = record { x = s.x -ℤ pos 2 *ℤ p.offset.x; y = s.y -ℤ pos 2 *ℤ p.offset.y }
 
 holds_unmoved : (p : Place) (b : Bounds) (s : Spot) → Holds (placed_bounds p b) s → Holds (turned_box p.turn b) (unmoved p s)
-holds_unmoved p b s h = by (turned_box p.turn b) h
-  where
-    by : (c : Bounds) → Holds (moved p.offset c) s → Holds c (unmoved p s)
-    by Empty k = k
-    by (Closed low high) k = between low high (unmoved p s) (omega (arith, ints, k.left)) (omega (arith, ints, k.right)) (omega (arith, ints, k.below)) (omega (arith, ints, k.above))
+holds_unmoved p b s h = grind (arith, between, ints)
 
 pub common_back : (p : Place) (b : Bounds) (low high low' high' : Spot) → IsNearBox b
     → IsBackFrom low.x p.offset.x low'.x → IsBackFrom low.y p.offset.y low'.y

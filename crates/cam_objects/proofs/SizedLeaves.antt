@@ -1,4 +1,6 @@
 -- what the entries of a sound dictionary paint has sizes, so that its boxes stand in order
+use Rattle.std.proofs.lemmas.Grind.{common_steps}
+use Rattle.std.proofs.Common.{rules}
 use Rattle.std.proofs.Common.{
   ◌≡◌,
   ℕ,
@@ -54,13 +56,11 @@ use Rattle.cam_shapes.specs.declared.contour.Contour.{Contour}
 use Rattle.cam_shapes.specs.declared.segments.Seg.{Seg}
 use Rattle.cam_shapes.specs.declared.segments.Seg.TheVariants.{Line, Curve}
 use Rattle.cam_shapes.specs.Contour.{caps_from, caps_of, end_of}
-use Rattle.cam_shapes.specs.Placing.{placed_direction}
 use Rattle.cam_shapes.specs.Plane.{dot, place_of, way}
 use Rattle.cam_macros.specs.declared.primitive.MacroPrimitive.{MacroPrimitive}
 use Rattle.cam_macros.specs.declared.primitive.PrimShape.{PrimShape}
 use Rattle.cam_macros.specs.declared.primitive.PrimShape.TheVariants.{Disc, Bar, Rect as Rectangular, Outline}
 use Rattle.cam_apertures.specs.declared.aperture.Aperture.{Aperture as Template}
-use Rattle.cam_apertures.specs.declared.aperture.Aperture.TheVariants.{Circle, Rect, Obround, Prims}
 use Rattle.cam_apertures.specs.Bounds.{bounds_of as template_bounds}
 use Rattle.cam_apertures.specs.Cover.{flash_point}
 use Rattle.cam_apertures.specs.Primitives.{
@@ -75,7 +75,6 @@ use Rattle.cam_apertures.specs.Primitives.{
 use Rattle.cam_apertures.specs.Soundness.{IsSoundAperture}
 use Rattle.cam_apertures.proofs.TurnedBoxes.{prims_turned}
 use Rattle.cam_objects.specs.declared.object.Object.{Object}
-use Rattle.cam_objects.specs.declared.object.Object.TheVariants.{Flash, Draw, Arc, Region}
 use Rattle.cam_objects.specs.declared.entry.Entry.{Entry}
 use Rattle.cam_objects.specs.declared.entry.Entry.TheVariants.{Aperture, Block}
 use Rattle.cam_objects.specs.declared.placing.place.Place.{Place}
@@ -137,9 +136,6 @@ use Rattle.cam_objects.proofs.Painting.{side_size, solid_size}
 use Rattle.cam_objects.proofs.PlacedShapes.{template_turned}
 use Rattle.cam_objects.proofs.Roots.{root_square}
 use Rattle.cam_objects.specs.declared.tip.Tip.{Tip}
-use Rattle.cam_objects.specs.declared.tip.Tip.TheVariants.{Round, Rectangular as RectangularTip}
-use Rattle.cam_objects.specs.Turning.{after}
-use Rattle.cam_apertures.specs.Turned.{exchanges_axes}
 
 -- ---- sizes
 
@@ -153,44 +149,25 @@ pub record IsSizedMeaning (m : Meaning) : Type 0 where
 
 -- a tip that is turned is as large
 pub turned_sized : (t : Turn) (tip : Tip) → IsSizedTip tip → IsSizedTip (turned_tip t tip)
-turned_sized t (Round w) h = h
-turned_sized t (RectangularTip w h) k = by (exchanges_axes t)
-  where
-    by : (b : Bool) → IsSize (cond b h w).0 × IsSize (cond b w h).0
-    by true = (k.1, k.0)
-    by false = (k.0, k.1)
+turned_sized t tip h = grind arith
 
 pub round_sized : (tip : Option Tip) → IfSome tip IsSizedTip → IfSome (round_width tip) (λ w. IsSize w.0)
-round_sized None h = tt
-round_sized (Some (Round w)) h = h
-round_sized (Some (RectangularTip w h)) k = tt
+round_sized tip h = grind arith
 
 drawn_sized : (tip : Tip) (from to : Point) → IsSizedTip tip → IsSizedShape (drawn tip from to)
-drawn_sized (Round w) from to h = h
-drawn_sized (RectangularTip w h) from to k = k
+drawn_sized tip from to h = grind arith
 
 draw_sized : (tip : Option Tip) (t : Turn) (from to : Point) (dark : Bool) → IfSome tip IsSizedTip
     → AreSized (draw_leaves tip t from to dark)
-draw_sized None t from to dark h = All-nil (λ l. IsSizedShape l.shape)
-draw_sized (Some tip) t from to dark h =
-    one_sized (leaf (drawn (turned_tip t tip) from to) dark) (drawn_sized (turned_tip t tip) from to (turned_sized t tip h))
+draw_sized tip t from to dark h = grind (arith, All-nil, one_sized, drawn_sized, turned_sized)
 
 arc_sized : (tip : Option Tip) (from to centre : Point) (ccw dark : Bool) → IfSome tip IsSizedTip
     → AreSized (arc_leaves (round_width tip) from to centre ccw dark)
-arc_sized None from to centre ccw dark h = All-nil (λ l. IsSizedShape l.shape)
-arc_sized (Some (Round w)) from to centre ccw dark h =
-    one_sized (leaf (Sweep (record { from = from; to = to; centre = centre; ccw = ccw; width = w })) dark) h
-arc_sized (Some (RectangularTip w h)) from to centre ccw dark k = All-nil (λ l. IsSizedShape l.shape)
+arc_sized tip from to centre ccw dark h = grind (arith, All-nil, one_sized)
 
 module _ (means : ℕ → Meaning) (so : (n : ℕ) → IsSizedMeaning (means n)) where
   pub object_sized : (p : Place) (o : Object) → AreSized (object_leaves means p o)
-  object_sized p (Flash n at t dark) = (so n).flash (flashed p at t dark)
-  object_sized p (Draw n from to t dark) =
-      draw_sized (means n).tip (after t p.turn) (placed p from) (placed p to) (polarity_in p.dark dark) (so n).tip
-  object_sized p (Arc ccw dark n from to centre) =
-      arc_sized (means n).tip (placed p from) (placed p to) (placed p centre) (placed_direction p.turn ccw) (polarity_in p.dark dark)
-      (so n).tip
-  object_sized p (Region c dark) = one_sized _ tt
+  object_sized p o = grind (arith, draw_sized, arc_sized, one_sized)
 
   pub block_sized : (p : Place) (objects : List Object) → AreSized (block_leaves means p objects)
   block_sized p = all_flat_map (λ l. IsSizedShape l.shape) (object_leaves means p) (object_sized p)
@@ -227,9 +204,7 @@ abbrev small : ℕ
 small = 600000000
 
 origin_about : (w h : ℤ) → IsSize w → IsSize h → IsBoxWithin small (box_about (place_of flash_point) w h)
-origin_about w h a b =
-    within_less (2 * 0 + 200000000) small (box_about (place_of flash_point) w h) (omega arith)
-    (within_about 0 200000000 flash_point w h (omega arith) (omega arith) a.0 a.1 b.0 b.1)
+origin_about w h a b = grind (arith, within_less, within_about)
 
 macro_about : (p : Point) (w h : ℤ) → IsMacroPoint p → IsSize w → IsSize h → IsBoxWithin small (box_about (place_of p) w h)
 macro_about p w h k a b = within_about 200000000 200000000 p w h k.x k.y a.0 a.1 b.0 b.1
@@ -239,28 +214,19 @@ macro_point p h = within_less (2 * 200000000) small (box_of_point p) (omega arit
 
 prim_within : (s : PrimShape) → IsSoundShape s → IsBoxWithin small (box_of_prim s)
 prim_within (Disc centre diameter) h = macro_about centre diameter.0 diameter.0 h.0 h.1 h.1
-prim_within (Bar from to width) h =
-    within_join small (box_about (place_of from) width.0 width.0) (box_about (place_of to) width.0 width.0)
-    (macro_about from width.0 width.0 h.0 h.2 h.2) (macro_about to width.0 width.0 h.1 h.2 h.2)
+prim_within (Bar from to width) h = search (rules, within_join, macro_about)
 prim_within (Rectangular centre width height) h = macro_about centre width.0 height.0 h.0 h.1 h.2
 prim_within (Outline points) h =
     within_all small box_of_point points (All-weaker IsMacroPoint (λ p. IsBoxWithin small (box_of_point p)) macro_point points h.near)
 
 prims_within : (prims : List MacroPrimitive) → All IsSoundPrim prims → IsBoxWithin small (box_of_prims prims)
-prims_within prims h =
-    within_all small (λ p. box_of_prim p.shape) prims
-    (All-weaker IsSoundPrim (λ p. IsBoxWithin small (box_of_prim p.shape)) (λ p h. prim_within p.shape h) prims h)
+prims_within prims h = search (rules, within_all, All-weaker, IsBoxWithin, prim_within)
 
 unturned_within : (a : Template) → IsSoundAperture a → IsBoxWithin small (template_bounds R0 a)
-unturned_within (Circle diameter hole) h = origin_about diameter.0 diameter.0 h.0 h.0
-unturned_within (Rect width height hole) h = origin_about width.0 height.0 (side_size width.0 h.0) (side_size height.0 h.1)
-unturned_within (Obround width height hole) h = origin_about width.0 height.0 (side_size width.0 h.0) (side_size height.0 h.1)
-unturned_within (Prims prims) h =
-    subst (IsBoxWithin small) (sym (prims_turned R0 prims)) (within_turned small R0 (box_of_prims prims) (prims_within prims h))
+unturned_within a h = grind (arith, common_steps, origin_about, side_size, IsBoxWithin, prims_turned, within_turned, prims_within)
 
 template_within : (t : Turn) (a : Template) → IsSoundAperture a → IsBoxWithin small (template_bounds t a)
-template_within t a h =
-    subst (IsBoxWithin small) (sym (template_turned t a)) (within_turned small t (template_bounds R0 a) (unturned_within a h))
+template_within t a h = grind (arith, IsBoxWithin, template_turned, within_turned, unturned_within)
 
 -- ---- boxes of leaves on the board
 
@@ -271,8 +237,7 @@ abbrev pub inner : ℕ
 inner = 7800000000
 
 pub board_point : (p : Point) → IsOnBoard p → IsBoxWithin inner (box_of_point p)
-board_point p h =
-    within_less (2 * 1000000000) inner (box_of_point p) (omega arith) (within_point 1000000000 p (omega (arith, h.x)) (omega (arith, h.y)))
+board_point p h = grind (arith, within_less, within_point)
 
 pub near_point : (p : Point) → IsOnBoard p → IsNearBox (box_of_point p)
 near_point p h = within_near inner (box_of_point p) (omega arith) (board_point p h)
@@ -304,10 +269,7 @@ squared_length p q h k =
     )
 
 pub root_below : (n r : ℕ) → r * r ≤ n → n ≤ 32000000000000000000 → r < 5700000000
-root_below n r h k = elim (cases_lt r 5700000000) [
-  | inl less ↦ less
-  | inr most ↦ absurd (omega (arith, mul-le 5700000000 5700000000 r r most most))
-]
+root_below n r h k = grind (arith, cases_lt, mul-le)
 
 pub root_few : (n : ℕ) → n ≤ 32000000000000000000 → root n < 5700000000
 root_few n h = root_below n (root n) (root_square n).0 h
@@ -382,9 +344,7 @@ ends_spanned from to h k =
 
 -- a rectangle about a point of the board
 pub board_rectangle : (p : Point) (w h : ℤ) → IsOnBoard p → IsSize w → IsSize h → IsBoxWithin inner (box_about (place_of p) w h)
-board_rectangle p w h on a b =
-    within_less (2 * 1000000000 + 200000000) inner (box_about (place_of p) w h) (omega arith)
-    (within_about 1000000000 200000000 p w h (omega (arith, on.x)) (omega (arith, on.y)) a.0 a.1 b.0 b.1)
+board_rectangle p w h on a b = search (rules, within_less, within_about)
 
 -- the box of a leaf of the board reaches less than 2^33 half nm
 pub shape_within : (s : Shape) → IsSizedShape s → All IsOnBoard (points_of_shape s) → IsBoxWithin reach (box_of_shape s)
@@ -421,9 +381,15 @@ shape_within (Drilled d) h k =
 pub leaves_within : (ls : List Leaf) → AreSized ls → AreOnBoard ls → All (λ l. IsBoxWithin reach (box_of_shape l.shape)) ls
 leaves_within [] h k = All-nil (λ l. IsBoxWithin reach (box_of_shape l.shape))
 leaves_within (l ∷ ls) h k =
-    All-cons (λ l. IsBoxWithin reach (box_of_shape l.shape)) l ls
-    (shape_within l.shape (All-head (λ l. IsSizedShape l.shape) l ls h) (All-head (λ l. All IsOnBoard (points_of_shape l.shape)) l ls k))
-    (leaves_within ls (All-tail (λ l. IsSizedShape l.shape) l ls h) (All-tail (λ l. All IsOnBoard (points_of_shape l.shape)) l ls k))
+    grind (
+      arith,
+      All-cons,
+      IsBoxWithin,
+      shape_within,
+      All-head,
+      All-tail,
+      leaves_within ls (All-tail (λ l. IsSizedShape l.shape) l ls h) (All-tail (λ l. All IsOnBoard (points_of_shape l.shape)) l ls k),
+    )
 
 pub bounds_within : (ls : List Leaf) → AreSized ls → AreOnBoard ls → IsBoxWithin reach (bounds_of ls)
 bounds_within ls h k = within_all reach (λ l. box_of_shape l.shape) ls (leaves_within ls h k)

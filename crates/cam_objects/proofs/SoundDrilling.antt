@@ -1,4 +1,5 @@
 -- drill layers stay sound as they grow
+use Rattle.std.proofs.Common.{arith}
 use Rattle.std.proofs.Common.{◌≡◌, ℕ, Bool, true, false, cond, List, [], ◌∷◌, ◌++◌, Some, None, nat_eq, is_some, refl, sym, subst}
 use Rattle.std.specs.Prelude.{◌||◌}
 use Rattle.std.specs.Cmp.{nat_eq_equiv}
@@ -10,7 +11,7 @@ use Rattle.std.proofs.lemmas.List.Elements.{All-append, All-cons, All-nil, All-w
 use Rattle.cam_units.specs.declared.length.Nm.{Nm}
 use Rattle.cam_objects.specs.declared.drill_item.DrillItem.{DrillItem}
 use Rattle.cam_objects.specs.Drilling.{diameter_of}
-use Rattle.cam_objects.specs.DrillSoundness.{DrillGrowthLaw, IsSoundDrillItem, IsSoundTool, KeepsDrillLimits, tool_of}
+use Rattle.cam_objects.specs.DrillSoundness.{DrillGrowthLaw, IsSoundDrillItem, IsSoundTool, KeepsDrillLimits}
 use Rattle.cam_objects.proofs.SoundItems.{meets_drill, sound_drill}
 
 one_more : {X : Type 0} (P : X → Type 0) (xs : List X) (x : X) → All P xs → P x → All P (xs ++ x ∷ [])
@@ -18,18 +19,10 @@ one_more P xs x all here = All-append P xs (x ∷ []) all (All-cons P x [] here 
 
 known_more : (tools more : List (ℕ × Nm)) (n : ℕ) → is_some (diameter_of tools n) ≡ true → is_some (diameter_of (tools ++ more) n) ≡ true
 known_more [] more n h = cc
-known_more (t ∷ ts) more n h = by (nat_eq n t.0) (known_more ts more n) h
-  where
-    by : (b : Bool) → (is_some (lookup (nat_eq n) ts) ≡ true → is_some (lookup (nat_eq n) (ts ++ more)) ≡ true)
-        → is_some (cond b (Some t.1) (lookup (nat_eq n) ts)) ≡ true → is_some (cond b (Some t.1) (lookup (nat_eq n) (ts ++ more))) ≡ true
-    by true rest e = refl
-    by false rest e = rest e
+known_more (t ∷ ts) more n h = grind (arith, known_more ts more n)
 
 sound_more : (tools more : List (ℕ × Nm)) (item : DrillItem) → IsSoundDrillItem tools item → IsSoundDrillItem (tools ++ more) item
-sound_more tools more item h =
-    let m = meets_drill tools item h in
-    sound_drill (tools ++ more) item
-    (record { some = m.some; known = known_more tools more (tool_of item) m.known; inside = m.inside; few = m.few })
+sound_more tools more item h = grind (arith, meets_drill, sound_drill, known_more)
 
 -- a number that is new joins numbers of which none stands twice
 pub distinct_more : (tools : List (ℕ × Nm)) (tool : ℕ) (diameter : Nm) → IsDistinct nat_eq (keys_of tools) → diameter_of tools tool ≡ None

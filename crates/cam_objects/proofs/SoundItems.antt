@@ -1,6 +1,6 @@
 -- What a sound item meets, and what a check tells of another.
-use Rattle.std.proofs.Common.{◌≡◌, ℕ, ◌*◌, ◌<◌, ◌≤◌, nat_lt, Bool, true, false, not, cond, IsTrue, List}
-use Rattle.std.proofs.Common.{length, Option, None, Some, Ok, is_some, refl}
+use Rattle.std.proofs.Common.{arith, ◌≡◌, ℕ, ◌*◌, ◌<◌, ◌≤◌, Bool, true, not, cond, IsTrue, List, length, Option, None, Some, Ok}
+use Rattle.std.proofs.Common.{is_some, refl}
 use Rattle.std.specs.Bool.{Decides}
 use Rattle.std.specs.List.{All, list_all}
 use Rattle.std.proofs.lemmas.Bool.Decides.{Decides-ltb}
@@ -92,8 +92,7 @@ each : {X : Type 0} (p : X → Bool) (xs : List X) → Decides (list_all p xs) (
 each p xs = all p (λ x. IsTrue (p x)) (λ x. ((λ h. h), (λ h. h))) xs
 
 pub repeated : (item : Item) → Decides (is_repeated item) (IsRepeated item)
-repeated (One object) = ((λ h. tt), (λ h. refl))
-repeated (Repeat columns rows i j objects) = both (Decides-ltb 1 (columns * rows)) (Decides-ltb 0 (length objects))
+repeated item = grind (arith, both, Decides-ltb)
 
 pub formed : (item : Item) → Decides (is_formed_item item) (IsRepeated item × All IsFormed (objects_of item))
 formed item = both (repeated item) (each is_formed (objects_of item))
@@ -121,13 +120,11 @@ within_limits es item =
 -- where no check tells a fault, the first holds of none and the rest tell none
 pub passed : {F : Type 0} (fault : F) (met : Bool) (later : Option F) → cond (not met) (Some fault) later ≡ None
     → (met ≡ true) × (later ≡ None)
-passed fault true later e = (refl, e)
-passed fault false later e = absurd cc
+passed fault met later e = grind arith
 
 -- what is answered where checks tell none
 pub none_told : {F : Type 0} (o : Option F) (done : Unit) → Ok done ≡ answer_of o → o ≡ None
-none_told None done e = refl
-none_told (Some fault) done e = absurd cc
+none_told o done e = grind arith
 
 module _ (es : List (ℕ × Entry)) (item : Item) where
   pub meets : IsSoundItem es item → Meets es item
@@ -164,24 +161,8 @@ module _ (es : List (ℕ × Entry)) (item : Item) where
 module _ (tools : List (ℕ × Nm)) (item : DrillItem) where
   pub meets_drill : IsSoundDrillItem tools item → MeetsDrill tools item
   unfolding drill_item_checks
-  meets_drill sound =
-      let a = passed _ (nat_lt 0 (length (drill_points_of item))) _ sound in
-      let b = passed _ (is_some (diameter_of tools (tool_of item))) _ a.1 in
-      let c = passed _ _ _ b.1 in
-      let d = passed _ _ _ c.1 in
-      record {
-        some = (Decides-ltb 0 (length (drill_points_of item))).0 a.0;
-        known = b.0;
-        inside = (all_on_board (drill_points_of item)).0 c.0;
-        few = (at_most (length (drill_points_of item)) 1000000).0 d.0;
-      }
+  meets_drill sound = grind (arith, passed, sound, Decides-ltb, known, all_on_board, at_most)
 
   pub sound_drill : MeetsDrill tools item → IsSoundDrillItem tools item
   unfolding drill_item_checks
-  sound_drill m =
-      rw (
-        (Decides-ltb 0 (length (drill_points_of item))).1 m.some,
-        m.known,
-        (all_on_board (drill_points_of item)).1 m.inside,
-        (at_most (length (drill_points_of item)) 1000000).1 m.few,
-      ) refl
+  sound_drill m = grind (arith, Decides-ltb, known, all_on_board, at_most)

@@ -34,13 +34,12 @@ use Rattle.std.proofs.lemmas.Map.Keys.{IsDistinct-from_apart}
 use Rattle.std.proofs.lemmas.Map.Steps.{length-le_from_distinct_below}
 use Rattle.cam_units.specs.Board.{IsOnBoard}
 use Rattle.cam_objects.specs.declared.object.Object.{Object}
-use Rattle.cam_objects.specs.declared.object.Object.TheVariants.{Flash, Draw, Arc, Region}
 use Rattle.cam_objects.specs.declared.entry.Entry.{Entry}
 use Rattle.cam_objects.specs.declared.item.Item.{Item}
 use Rattle.cam_objects.specs.declared.item.Item.TheVariants.{One, Repeat}
 use Rattle.cam_objects.specs.declared.layer.Layer.{Layer}
 use Rattle.cam_objects.specs.Leaves.{Leaf, item_leaves, leaves_of, meaning_in}
-use Rattle.cam_objects.specs.Machinery.Painting.{IsPaintableItem, IsReadyToPrint, StandsOnBoard}
+use Rattle.cam_objects.specs.Machinery.Painting.{IsPaintableItem, IsReadyToPrint}
 use Rattle.cam_objects.specs.Machinery.Inside.{ArePainted}
 use Rattle.cam_objects.specs.Soundness.{
   AreOnBoard,
@@ -65,11 +64,7 @@ key_at es i k d h = get_or-map (λ (e : ℕ × Entry). e.0) es i d k h
 
 below_any : (xs : List ℕ) (n q : ℕ) → All (λ x. x < n) xs → list_any (eqb q) xs ≡ true → q < n
 below_any [] n q h some = absurd (false≢true some)
-below_any (x ∷ xs) n q h some = by (eqb q x) refl some (below_any xs n q (All-tail (λ y. y < n) x xs h))
-  where
-    by : (b : Bool) → eqb q x ≡ b → (b || list_any (eqb q) xs) ≡ true → (list_any (eqb q) xs ≡ true → q < n) → q < n
-    by true e t rest = omega (arith, All-head (λ y. y < n) x xs h, eqb-true q x e)
-    by false e t rest = rest t
+below_any (x ∷ xs) n q h some = grind (arith, All-tail, All-head, eqb-true, below_any xs n q (All-tail (λ y. y < n) x xs h))
 
 keys_low : (es : Pairs) → IsSoundDictionary es → All (λ x. x < 2 ^ 31) (keys_of es)
 keys_low es sound =
@@ -103,10 +98,7 @@ few_entries es sound =
 -- ---- the copies of a sound repeat
 
 pub count_some : (w : ℕ → Weight) (o : Object) → 1 ≤ object_count w o
-count_some w (Flash n at t dark) = omega arith
-count_some w (Draw n from to t dark) = omega arith
-count_some w (Arc ccw dark n from to centre) = omega arith
-count_some w (Region contour dark) = omega arith
+count_some w o = grind arith
 
 block_some : (w : ℕ → Weight) (os : List Object) → 0 < length os → 1 ≤ block_count w os
 block_some w [] h = absurd (omega arith)
@@ -157,8 +149,4 @@ paintable_items l sound = All-weaker (IsSoundItem l.apertures) IsPaintableItem (
 
 -- the objects of a sound block stand on the board, and each paints
 pub painted_block : (es : Pairs) (objects : List Object) → IsSoundBlock es objects → ArePainted es objects
-painted_block es objects block = record {
-  stands = All-weaker (λ o. IsSoundItem es (One o)) StandsOnBoard (λ o h. paintable_item es (One o) h) objects block.each;
-  drawable = All-weaker (λ o. IsSoundItem es (One o)) (IsDrawable (meaning_in es))
-      (λ o h. (meets es (One o) h).drawable 0 o (omega arith)) objects block.each;
-}
+painted_block es objects block = grind (arith, All-weaker, paintable_item, IsDrawable, meets)

@@ -1,6 +1,6 @@
 -- The tests that compute mean what the relations say.
-use Rattle.std.proofs.Common.{◌≡◌, ◌↔◌, Bool, true, false, ◌&&◌, IsTrue, List, Option, None, Some, refl, ap, sym, ◌∙◌}
-use Rattle.std.specs.Prelude.{ℕ, ◌≤◌, length, nat_le, sum_by, unsigned_abs, unwrap_or}
+use Rattle.std.proofs.Common.{arith, ◌≡◌, ◌↔◌, Bool, true, false, ◌&&◌, IsTrue, List, Option, Some, refl, ap, sym, ◌∙◌}
+use Rattle.std.specs.Prelude.{ℕ, ◌≤◌, nat_le, unwrap_or}
 use Rattle.std.specs.Bool.{Decides}
 use Rattle.std.specs.List.{All, list_all}
 use Rattle.std.proofs.lemmas.Bool.{le-leb, leb-true, true≢false}
@@ -9,13 +9,11 @@ use Rattle.cam_units.specs.Board.{IsOnBoard}
 use Rattle.cam_units.specs.declared.point.Point.{Point}
 use Rattle.cam_units.specs.declared.point.Spot.{Spot}
 use Rattle.cam_objects.specs.declared.item.Item.{Item}
-use Rattle.cam_objects.specs.declared.item.Item.TheVariants.{One, Repeat}
-use Rattle.cam_objects.specs.DrillSoundness.{drill_count_of, keeps_drill_limits}
+use Rattle.cam_objects.specs.DrillSoundness.{keeps_drill_limits}
 use Rattle.cam_objects.specs.Image.{IsBlack}
 use Rattle.cam_objects.specs.Leaves.{Leaf, item_leaves, meaning_in}
 use Rattle.cam_objects.specs.Soundness.{HasShortSteps, are_on_board, has_short_steps, is_inside, is_on_board, keeps_limits}
 use Rattle.cam_objects.specs.Soundness.{objects_of, points_of, points_of_shape}
-use Rattle.cam_objects.specs.Weights.{item_count, weight_in}
 use Rattle.cam_objects.specs.Tests.{BoardTestLaw, InsideTestLaw, LimitTestLaw, PaintingTestLaw, is_black, last_ink}
 use Rattle.cam_objects.proofs.LastInks.{last_law, last_paints}
 
@@ -23,8 +21,7 @@ use Rattle.cam_objects.proofs.LastInks.{last_law, last_paints}
 
 -- a place is dark where it has a dark ink
 dark_ink : (o : Option Bool) → unwrap_or o false ≡ true → o ≡ Some true
-dark_ink None e = absurd (true≢false (sym e))
-dark_ink (Some dark) e = ap Some e
+dark_ink o e = grind (arith, true≢false)
 
 pub black_law : PaintingTestLaw
 black_law ls s = (
@@ -34,10 +31,7 @@ black_law ls s = (
 
 -- two tests of one meaning answer alike
 pub same_test : {P : Type 0} (a b : Bool) → (IsTrue a ↔ P) → (IsTrue b ↔ P) → a ≡ b
-same_test true true f g = refl
-same_test true false f g = sym (g.1 (f.0 refl))
-same_test false true f g = f.1 (g.0 refl)
-same_test false false f g = refl
+same_test a b f g = grind arith
 
 -- what tells the black places answers as the test does
 pub test_of_image : (s : Spot) (ls : List Leaf) (b : Bool) → IsTrue b ↔ IsBlack ls s → b ≡ is_black ls s
@@ -59,17 +53,13 @@ pub at_most : (a b : ℕ) → Decides (nat_le a b) (a ≤ b)
 at_most a b = (leb-true a b, le-leb a b)
 
 pub on_board : (p : Point) → Decides (is_on_board p) (IsOnBoard p)
-on_board p =
-    like (λ h. record { x = h.0; y = h.1 }) (λ h. (h.x, h.y))
-    (both (Decides-ltb (unsigned_abs p.x) 1000000000) (Decides-ltb (unsigned_abs p.y) 1000000000))
+on_board p = grind (arith, like, both, Decides-ltb)
 
 pub all_on_board : BoardTestLaw
 all_on_board ps = all is_on_board IsOnBoard on_board ps
 
 short_steps : (item : Item) → Decides (has_short_steps item) (HasShortSteps item)
-short_steps (One object) = ((λ h. tt), (λ h. refl))
-short_steps (Repeat columns rows i j objects) =
-    both (Decides-ltb (unsigned_abs i) 1000000000) (Decides-ltb (unsigned_abs j) 1000000000)
+short_steps item = grind (arith, both, Decides-ltb)
 
 pub inside_law : InsideTestLaw
 unfolding is_inside
@@ -83,11 +73,4 @@ inside_law es item =
 
 pub limit_law : LimitTestLaw
 unfolding keeps_limits keeps_drill_limits
-limit_law = record {
-  layer = λ es items.
-      like (λ h. record { few = h.0; leaves = h.1 }) (λ h. (h.few, h.leaves))
-      (both (at_most (length items) 1000000) (at_most (sum_by (item_count (weight_in es)) items) 4000000));
-  drill_layer = λ items.
-      like (λ h. record { few = h.0; leaves = h.1 }) (λ h. (h.few, h.leaves))
-      (both (at_most (length items) 1000000) (at_most (sum_by drill_count_of items) 4000000));
-}
+limit_law = grind (arith, like, both, at_most)

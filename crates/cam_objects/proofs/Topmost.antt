@@ -33,12 +33,7 @@ AreElsewhere boxes s first end =
     (k : ℕ) → first ≤ k → k < end → k < length boxes → HaveCommonPlace (box_at boxes k) (Closed s s) → ⊥
 
 self : (s : Spot) → IsInBox s s s
-self s = record {
-  left = omega (arith, ints);
-  right = omega (arith, ints);
-  below = omega (arith, ints);
-  above = omega (arith, ints);
-}
+self s = grind (arith, ints)
 
 bare_elsewhere : (lists : List (List Leaf)) (s : Spot) (first end k : ℕ) → AreElsewhere (map bounds_of lists) s first end
     → first ≤ k → k < end → k < length lists → IsCoveredBy (leaves_at lists k) s → ⊥

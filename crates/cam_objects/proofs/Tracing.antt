@@ -1,5 +1,5 @@
 -- the box of a contour, segment by segment
-use Rattle.std.proofs.Common.{◌≡◌, List, [], ◌∷◌, map, refl}
+use Rattle.std.proofs.Common.{arith, ◌≡◌, List, [], ◌∷◌, map, refl}
 use Rattle.std.specs.Prelude.{fold}
 use Rattle.std.specs.List.{All, flat_map}
 use Rattle.std.proofs.lemmas.List.Elements.{All-cons, All-head, All-nil, All-tail}
@@ -32,8 +32,7 @@ traced_contour c = λ i. join_of (traced_points (started c) c.segs i) (traced_ar
 
 -- it stands at the end of the segment, on the board
 pub stands_behind : (t : Trace) (seg : Seg) → All IsOnBoard (points_of_seg seg) → IsOnBoard (followed t seg).here
-stands_behind t (Line to) h = All-head IsOnBoard to [] h
-stands_behind t (Curve to centre ccw) h = All-head IsOnBoard to (centre ∷ []) h
+stands_behind t seg h = grind (arith, All-head)
 
 pub segs_on_board : (segs : List Seg) → All IsOnBoard (flat_map points_of_seg segs) → All (λ s. All IsOnBoard (points_of_seg s)) segs
 segs_on_board [] h = All-nil (λ s. All IsOnBoard (points_of_seg s))

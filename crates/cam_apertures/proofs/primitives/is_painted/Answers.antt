@@ -1,13 +1,9 @@
-use Rattle.std.proofs.Common.{◌-◌, arith, subst, sym}
-use Rattle.cam_apertures.specs.Primitives.{IsSoundPrim}
+use Rattle.std.proofs.Common.{◌-◌, arith}
 use Rattle.cam_apertures.proofs.Painting.{decides_at, none_at, not_false, passes_at, round, through}
 use Rattle.cam_apertures.proofs.primitives.is_painted.Goals as goal
 
 pub returns-then-holds : goal.returns-then-holds
-returns-then-holds c =
-    let n = c.loop-place.place in
-    through (decides_at c.args.turn c.args.prims.now (n - 1) n c.index-prims-place.result c.args.spot (omega arith)
-    (omega (arith, c.loop-place.invariant.here)) c.index-prims-place.is (c.holds.ensures.0 c.if-holds.true)) c.loop-place.invariant.same
+returns-then-holds c = grind (arith, through, decides_at)
 
 pub loop-place-preserved : goal.loop-place-preserved
 loop-place-preserved c =
@@ -24,11 +20,6 @@ returns c = none_at c.args.turn c.args.prims.now c.loop-place.place c.args.spot 
 
 pub bounds-prims-place : goal.bounds-prims-place
 bounds-prims-place c = omega (arith, c.loop-place.invariant.here)
-
-pub holds-requires-clause-shape : goal.holds-requires-clause-shape
-holds-requires-clause-shape c =
-    subst IsSoundPrim (sym c.index-prims-place.is)
-    (c.requires.prims (c.loop-place.place - 1) c.index-prims-place.result (omega (arith, c.loop-place.invariant.here)))
 
 pub holds-requires-clause-spot : goal.holds-requires-clause-spot
 holds-requires-clause-spot c = c.requires.spot

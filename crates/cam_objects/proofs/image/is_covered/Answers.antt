@@ -14,29 +14,25 @@ pub in_capsule-requires : goal.in_capsule-requires
 in_capsule-requires c = record { spot = reached c.args.spot c.requires.spot; capsule = subst IsSoundFigure c.in-Stroke.is c.requires.figure }
 
 pub returns-in-Stroke : goal.returns-in-Stroke
-returns-in-Stroke c =
-    subst (λ (f : Figure). IsTrue c.in_capsule.result ↔ Covers (shape_of f) c.args.spot) (sym c.in-Stroke.is) c.in_capsule.ensures
+returns-in-Stroke c = grind arith
 
 pub in_swept-requires : goal.in_swept-requires
 in_swept-requires c = record { spot = reached c.args.spot c.requires.spot; swept = subst IsSoundFigure c.in-Swept.is c.requires.figure }
 
 pub returns-in-Swept : goal.returns-in-Swept
-returns-in-Swept c =
-    subst (λ (f : Figure). IsTrue c.in_swept.result ↔ Covers (shape_of f) c.args.spot) (sym c.in-Swept.is) c.in_swept.ensures
+returns-in-Swept c = grind arith
 
 pub in_arc-requires : goal.in_arc-requires
 in_arc-requires c = record { spot = reached c.args.spot c.requires.spot; arc = subst IsSoundFigure c.in-Sweep.is c.requires.figure }
 
 pub returns-in-Sweep : goal.returns-in-Sweep
-returns-in-Sweep c =
-    subst (λ (f : Figure). IsTrue c.in_arc.result ↔ Covers (shape_of f) c.args.spot) (sym c.in-Sweep.is) c.in_arc.ensures
+returns-in-Sweep c = grind arith
 
 pub in_disc-requires : goal.in_disc-requires
 in_disc-requires c = record { spot = reached c.args.spot c.requires.spot; disc = subst IsSoundFigure c.in-Drilled.is c.requires.figure }
 
 pub returns-in-Drilled : goal.returns-in-Drilled
-returns-in-Drilled c =
-    subst (λ (f : Figure). IsTrue c.in_disc.result ↔ Covers (shape_of f) c.args.spot) (sym c.in-Drilled.is) c.in_disc.ensures
+returns-in-Drilled c = grind arith
 
 pub in_contour-requires : goal.in_contour-requires
 in_contour-requires c = record { spot = reached c.args.spot c.requires.spot; contour = subst IsSoundFigure c.in-Filled.is c.requires.figure }

@@ -1,14 +1,34 @@
-use Rattle.std.proofs.Common.{◌≡◌, refl, sym, ◌∙◌}
+use Rattle.std.proofs.Common.{arith, ◌≡◌, sym, ◌∙◌}
 use Rattle.std.specs.Prelude.{◌↔◌, Bool, IsTrue, false, true, not}
 use Rattle.cam_apertures.proofs.aperture.Aperture.covers.Goals as goal
 
 -- inside and not in the hole, by two tests
 by_hole : {A B : Type 0} (hole : Bool) → A → (IsTrue hole ↔ B) → IsTrue (not hole) ↔ (A × ¬ B)
-by_hole true inside h = (λ e. let wrong : false ≡ true = e in cc, λ both. absurd (both.1 (h.0 refl)))
-by_hole false inside h = (λ e. (inside, λ b. let wrong : false ≡ true = h.1 b in cc), λ both. refl)
+by_hole hole inside h = grind arith
 
 outside : {A B : Type 0} (inside : Bool) → inside ≡ false → (IsTrue inside ↔ A) → IsTrue inside ↔ (A × ¬ B)
 outside inside out h = (λ e. let wrong : false ≡ true = sym out ∙ e in cc, λ both. h.1 both.0)
+
+pub in_disc-requires-clause-spot : goal.in_disc-requires-clause-spot
+in_disc-requires-clause-spot c = c.requires.spot
+
+pub in_hole-requires-clause-spot : goal.in_hole-requires-clause-spot
+in_hole-requires-clause-spot c = c.requires.spot
+
+pub in_rect-requires-clause-spot : goal.in_rect-requires-clause-spot
+in_rect-requires-clause-spot c = c.requires.spot
+
+pub in_hole-requires-then-in_rect-clause-spot : goal.in_hole-requires-then-in_rect-clause-spot
+in_hole-requires-then-in_rect-clause-spot c = c.requires.spot
+
+pub in_obround-requires-clause-spot : goal.in_obround-requires-clause-spot
+in_obround-requires-clause-spot c = c.requires.spot
+
+pub in_hole-requires-then-in_obround-clause-spot : goal.in_hole-requires-then-in_obround-clause-spot
+in_hole-requires-then-in_obround-clause-spot c = c.requires.spot
+
+pub covers-requires : goal.covers-requires
+covers-requires c = c.requires.spot
 
 pub returns-then-in_disc : goal.returns-then-in_disc
 returns-then-in_disc c =
@@ -39,24 +59,3 @@ returns-then-in_obround c =
 pub returns-else-in_obround : goal.returns-else-in_obround
 returns-else-in_obround c =
     let inside = rw (c.turned_width-in-Obround.ensures, c.turned_height-in-Obround.ensures) at c.in_obround.ensures in rw c.in-Obround.is (outside c.in_obround.result c.if-in_obround.false inside)
-
-pub in_disc-requires-clause-spot : goal.in_disc-requires-clause-spot
-in_disc-requires-clause-spot c = c.requires.spot
-
-pub in_hole-requires-clause-spot : goal.in_hole-requires-clause-spot
-in_hole-requires-clause-spot c = c.requires.spot
-
-pub in_rect-requires-clause-spot : goal.in_rect-requires-clause-spot
-in_rect-requires-clause-spot c = c.requires.spot
-
-pub in_hole-requires-then-in_rect-clause-spot : goal.in_hole-requires-then-in_rect-clause-spot
-in_hole-requires-then-in_rect-clause-spot c = c.requires.spot
-
-pub in_obround-requires-clause-spot : goal.in_obround-requires-clause-spot
-in_obround-requires-clause-spot c = c.requires.spot
-
-pub in_hole-requires-then-in_obround-clause-spot : goal.in_hole-requires-then-in_obround-clause-spot
-in_hole-requires-then-in_obround-clause-spot c = c.requires.spot
-
-pub covers-requires : goal.covers-requires
-covers-requires c = c.requires.spot

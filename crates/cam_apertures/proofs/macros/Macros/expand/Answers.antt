@@ -1,4 +1,4 @@
-use Rattle.std.proofs.Common.{◌≡◌, ap, sym, ◌∙◌, subst, Ok}
+use Rattle.std.proofs.Common.{arith, rules, ◌≡◌, ap, sym, ◌∙◌, subst, Ok}
 use Rattle.std.specs.Prelude.{option_map}
 use Rattle.std.specs.Map.{values_of}
 use Rattle.std.proofs.lemmas.Option.{slice_get-map}
@@ -12,15 +12,10 @@ use Rattle.cam_apertures.proofs.macros.Macros.expand.Goals as goal
 
 made : (c : In_ok-primitives)
     → expansion_of c.args.unit c.args.parameters.items c.in-Some.parts.now ≡ Ok c.in_ok-primitives.primitives
-made c =
-    ap (λ v. expansion_of c.args.unit v c.in-Some.parts.now) (sym c.deref.ensures.value)
-    ∙ ap (λ p. expansion_of c.args.unit c.deref.result.now p) (sym c.as_slice.ensures)
-    ∙ c.in_ok-primitives.ensures.ok
+made c = search rules
 
 pub returns-in_default-clause-fault : goal.returns-in_default-clause-fault
-returns-in_default-clause-fault c =
-    outcome_missing c.args.name.now c.self.inside.parts.entries c.args.self.now c.args.unit c.args.parameters.items
-    c.self.view_is (sym c.in_default.ensures.value)
+returns-in_default-clause-fault c = grind (arith, outcome_missing)
 
 pub returns-in-Some-found_again-clause-ok : goal.returns-in-Some-found_again-clause-ok
 returns-in-Some-found_again-clause-ok c =

@@ -1,9 +1,8 @@
-use Rattle.std.proofs.Common.{List, ap, sym, subst, ◌∙◌, arith}
+use Rattle.std.proofs.Common.{rules, List, ap, sym, ◌∙◌, arith}
 use Rattle.std.proofs.lemmas.List.{take_all}
 use Rattle.cam_objects.specs.declared.object.Object.{Object}
 use Rattle.cam_objects.specs.Bounds.{bounds_of, box_of_all}
 use Rattle.cam_objects.specs.Leaves.{meaning_in, object_leaves, origin}
-use Rattle.cam_objects.specs.Machinery.Boxes.{IsNearBox}
 use Rattle.cam_objects.proofs.ItemBounds.{bounded_block, near_block}
 use Rattle.cam_objects.proofs.boxes.items.block_bounds.Goals as goal
 
@@ -16,6 +15,4 @@ returns-clause-value c =
     ∙ sym (bounded_block es c.soundness.ensures c.args.objects.now c.requires.board)
 
 pub returns-clause-near : goal.returns-clause-near
-returns-clause-near c =
-    subst IsNearBox (sym (returns-clause-value c))
-    (near_block c.args.entries.now c.soundness.ensures c.args.objects.now c.requires.board)
+returns-clause-near c = search (rules, returns-clause-value, near_block)

@@ -9,8 +9,7 @@ IsEnd by low high end = ((by ≤ℤ pos 0) × (end ≡ low)) ⊎ ((pos 0 ≤ℤ 
 
 greatest : (by low high end at from : ℤ) → IsEnd by low high end → low ≤ℤ at → at ≤ℤ high
     → (by *ℤ (at -ℤ from)) ≤ℤ (by *ℤ (end -ℤ from))
-greatest by low high end at from (inl h) left right = far_below by end at from low h.0 h.1 left
-greatest by low high end at from (inr h) left right = far_above by end at from high h.0 h.1 right
+greatest by low high end at from it left right = grind (arith, far_below, far_above)
 
 pub returns-then-way-lt0-2-clause-least : goal.returns-then-way-lt0-2-clause-least
 returns-then-way-lt0-2-clause-least c = λ p s inside.

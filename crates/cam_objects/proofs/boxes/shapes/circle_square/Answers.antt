@@ -31,14 +31,10 @@ returns c =
     ∙ (λ i. widened ((half ∙ ap (λ n. pos (n + 1)) (sym r)) i) (c.point_bounds.ensures i))
 
 pub overflow_add-half : goal.overflow_add-half
-overflow_add-half c =
-    let few = root_below c.squared_length.result c.isqrt-radius.result c.isqrt-radius.ensures.square c.squared_length.ensures.short in
-    omega (arith, ints, few)
+overflow_add-half c = grind (arith, root_below, ints)
 
 pub overflow_cast-half : goal.overflow_cast-half
-overflow_cast-half c =
-    let few = root_below c.squared_length.result c.isqrt-radius.result c.isqrt-radius.ensures.square c.squared_length.ensures.short in
-    omega (arith, few)
+overflow_cast-half c = grind (arith, root_below)
 
 pub widened-requires-clause-bounds : goal.widened-requires-clause-bounds
 widened-requires-clause-bounds c = subst IsNearBox (sym c.point_bounds.ensures) (near_point c.args.centre.now c.requires.centre)

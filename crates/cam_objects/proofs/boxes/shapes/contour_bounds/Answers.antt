@@ -5,7 +5,6 @@ use Rattle.std.proofs.lemmas.List.{take_all}
 use Rattle.std.proofs.lemmas.List.Elements.{All-head, All-tail}
 use Rattle.std.proofs.lemmas.List.Sums.{fold_more}
 use Rattle.cam_units.specs.Board.{IsOnBoard}
-use Rattle.cam_units.specs.Boxes.{join_of}
 use Rattle.cam_shapes.specs.declared.segments.Seg.{Seg}
 use Rattle.cam_shapes.specs.declared.segments.Seg.TheVariants.{Line}
 use Rattle.cam_objects.specs.declared.boxes.shapes.Trace.{Trace}
@@ -22,10 +21,7 @@ pub point_bounds-requires : goal.point_bounds-requires
 point_bounds-requires c = All-head IsOnBoard c.args.contour.now.start (flat_map points_of_seg c.args.contour.now.segs) c.requires
 
 pub loop-seg-init : goal.loop-seg-init
-loop-seg-init c = record {
-  here = All-head IsOnBoard c.args.contour.now.start (flat_map points_of_seg c.args.contour.now.segs) c.requires;
-  trace = λ i. record { here = c.args.contour.now.start; points = c.point_bounds.ensures i; arcs = (started c.args.contour.now).arcs };
-}
+loop-seg-init c = grind (arith, All-head)
 
 pub followed-trace-requires-clause-seg : goal.followed-trace-requires-clause-seg
 followed-trace-requires-clause-seg c =
@@ -48,12 +44,4 @@ loop-seg-preserved c =
     }
 
 pub returns : goal.returns
-returns c =
-    let k = c.args.contour.now in
-    let segs = c.as_slice-seg-items.result.now in
-    c.joined.ensures.value
-    ∙ ap (λ (t : Trace). join_of t.points t.arcs)
-    (c.loop-seg.invariant.trace
-    ∙ ap (λ (ss : List Seg). fold followed (started k) ss)
-    (take_all c.loop-seg.seg-index segs (omega arith) ∙ c.as_slice-seg-items.ensures))
-    ∙ traced_contour k
+returns c = grind (arith, take_all, traced_contour)

@@ -1,17 +1,14 @@
-use Rattle.std.proofs.Common.{sym, ◌∙◌}
+use Rattle.std.proofs.Common.{arith, rules, sym, ◌∙◌}
 use Rattle.cam_apertures.proofs.Corners.{same_box}
 use Rattle.cam_objects.proofs.Computed.{max_near, min_near, twice_fits, twice_max, twice_min}
 use Rattle.cam_objects.proofs.SizedLeaves.{ends_spanned}
 use Rattle.cam_objects.proofs.boxes.shapes.ends.Goals as goal
 
 pub overflow_mul-result : goal.overflow_mul-result
-overflow_mul-result c =
-    twice_fits c.min.result (min_near c.args.from.now.x c.args.to.now.x c.min.result c.requires.from.x c.requires.to.x c.min.ensures.value)
+overflow_mul-result c = grind (arith, twice_fits, min_near)
 
 pub overflow_mul-result-2 : goal.overflow_mul-result-2
-overflow_mul-result-2 c =
-    twice_fits c.min-2.result
-    (min_near c.args.from.now.y c.args.to.now.y c.min-2.result c.requires.from.y c.requires.to.y c.min-2.ensures.value)
+overflow_mul-result-2 c = search (rules, twice_fits, min_near)
 
 pub overflow_mul-result-3 : goal.overflow_mul-result-3
 overflow_mul-result-3 c =

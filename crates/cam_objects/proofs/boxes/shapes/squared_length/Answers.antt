@@ -1,4 +1,4 @@
-use Rattle.std.proofs.Common.{◌≡◌, ℕ, ◌+◌, ◌*◌, ◌≤◌, ℤ, ◌+ℤ◌, ◌*ℤ◌, sym, ◌∙◌, arith}
+use Rattle.std.proofs.Common.{◌≡◌, ℕ, ◌+◌, ◌*◌, ◌≤◌, ℤ, ◌+ℤ◌, ◌*ℤ◌, arith}
 use Rattle.std.specs.Int.RustNames.{unsigned_abs}
 use Rattle.std.proofs.lemmas.Int.{ints}
 use Rattle.std.proofs.lemmas.Nat.{mul-le}
@@ -7,8 +7,7 @@ use Rattle.cam_objects.proofs.PlacedShapes.{square_is}
 use Rattle.cam_objects.proofs.boxes.shapes.squared_length.Goals as goal
 
 sum_of_squares : (x y : ℤ) (m n : ℕ) → m ≡ unsigned_abs x → n ≡ unsigned_abs y → m * m + n * n ≡ unsigned_abs (x *ℤ x +ℤ y *ℤ y)
-sum_of_squares x y m n e f =
-    (λ i. e i * e i + f i * f i) ∙ sym (λ i. unsigned_abs (square_is x i +ℤ square_is y i))
+sum_of_squares x y m n e f = grind (arith, square_is)
 
 square_few : (n : ℕ) → n ≤ 4000000000 → n * n ≤ 16000000000000000000
 square_few n h = mul-le n n 4000000000 4000000000 h h
@@ -20,12 +19,10 @@ pub overflow_mul-result-2 : goal.overflow_mul-result-2
 overflow_mul-result-2 c = omega (arith, square_few c.distance-y.result c.distance-y.ensures.short)
 
 pub overflow_add-result : goal.overflow_add-result
-overflow_add-result c =
-    omega (arith, square_few c.distance-x.result c.distance-x.ensures.short, square_few c.distance-y.result c.distance-y.ensures.short)
+overflow_add-result c = grind (arith, square_few)
 
 pub returns-clause-short : goal.returns-clause-short
-returns-clause-short c =
-    omega (arith, square_few c.distance-x.result c.distance-x.ensures.short, square_few c.distance-y.result c.distance-y.ensures.short)
+returns-clause-short c = grind (arith, square_few)
 
 pub returns-clause-value : goal.returns-clause-value
 returns-clause-value c =

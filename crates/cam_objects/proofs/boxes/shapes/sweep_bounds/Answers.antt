@@ -1,7 +1,7 @@
-use Rattle.std.proofs.Common.{refl, ap, sym, subst, arith, ◌∙◌}
+use Rattle.std.proofs.Common.{sym, subst, arith, ◌∙◌}
 use Rattle.cam_units.specs.Boxes.{join_of}
 use Rattle.cam_apertures.specs.Primitives.{box_of_point}
-use Rattle.cam_objects.specs.Bounds.{circle_square, widened}
+use Rattle.cam_objects.specs.Bounds.{circle_square}
 use Rattle.cam_objects.specs.Machinery.Boxes.{IsNearBox}
 use Rattle.cam_objects.proofs.BoxLimits.{within_join, within_near}
 use Rattle.cam_objects.proofs.SizedLeaves.{circle_within, ends_of_stroke, inner}
@@ -18,7 +18,4 @@ widened-requires-clause-bounds c =
     (ends_of_stroke s.from s.to c.requires.from c.requires.to)))
 
 pub returns : goal.returns
-returns c =
-    c.widened.ensures.even refl
-    ∙ ap (widened c.args.stroke.now.width.0)
-    (c.joined.ensures.value ∙ (λ i. join_of (c.circle_square-circle.ensures i) (c.ends.ensures i)))
+returns c = grind arith

@@ -1,16 +1,13 @@
-use Rattle.std.proofs.Common.{◌≡◌, ℤ, refl, ap, sym, subst, ◌∙◌, arith}
+use Rattle.std.proofs.Common.{◌≡◌, ℤ, ap, sym, subst, ◌∙◌, arith}
 use Rattle.std.proofs.lemmas.Int.{ints}
 use Rattle.cam_units.specs.declared.bounds.Bounds.{Bounds}
-use Rattle.cam_units.specs.declared.bounds.Bounds.TheVariants.{Empty, Closed}
 use Rattle.cam_apertures.proofs.Corners.{same_box}
 use Rattle.cam_objects.specs.Bounds.{widened}
 use Rattle.cam_objects.specs.Machinery.Boxes.{IsNearBox, widened_by}
 use Rattle.cam_objects.proofs.boxes.shapes.widened.Goals as goal
 
 alike : (across up : ℤ) (b : Bounds) → across ≡ up → widened_by across up b ≡ widened across b
-alike across up Empty same = refl
-alike across up (Closed low high) same =
-    subst (λ z. widened_by across z (Closed low high) ≡ widened across (Closed low high)) same refl
+alike across up b same = grind arith
 
 pub returns-in-Closed-clause-sides : goal.returns-in-Closed-clause-sides
 returns-in-Closed-clause-sides c =
@@ -20,5 +17,4 @@ returns-in-Closed-clause-sides c =
     ∙ ap (widened_by c.args.across.now.0 c.args.up.now.0) (sym c.in-Closed.is)
 
 pub returns-in-Closed-clause-even : goal.returns-in-Closed-clause-even
-returns-in-Closed-clause-even c = λ same.
-    returns-in-Closed-clause-sides c ∙ alike c.args.across.now.0 c.args.up.now.0 c.args.bounds.now same
+returns-in-Closed-clause-even c = λ same. grind (arith, returns-in-Closed-clause-sides, alike)

@@ -1,7 +1,6 @@
-use Rattle.std.proofs.Common.{sym}
+use Rattle.std.proofs.Common.{arith}
 use Rattle.cam_objects.proofs.Numbers.{number_found}
 use Rattle.cam_objects.proofs.checks.demands.has_number.Goals as goal
 
 pub returns-in-Some : goal.returns-in-Some
-returns-in-Some c =
-    sym (number_found c.args.entries.now c.in-Some.field-0.0 c.args.number c.in-Some.field-0.1.now c.in-Some.ensures.found)
+returns-in-Some c = grind (arith, number_found)

@@ -1,12 +1,11 @@
-use Rattle.std.proofs.Common.{ap, ◌∙◌}
+use Rattle.std.proofs.Common.{rules, ap, ◌∙◌}
 use Rattle.cam_objects.specs.Bounds.{moved}
 use Rattle.cam_objects.proofs.BoardBoxes.{through}
 use Rattle.cam_objects.proofs.MovedBoxes.{board_moved, near_points, told_at}
 use Rattle.cam_objects.proofs.checks.moving.can_move_points.Goals as goal
 
 pub moved-requires-clause-bounds : goal.moved-requires-clause-bounds
-moved-requires-clause-bounds c =
-    near_points c.args.points.now c.joined_points-bounds.result c.joined_points-bounds.ensures c.requires.points
+moved-requires-clause-bounds c = search (rules, near_points)
 
 pub returns : goal.returns
 returns c =

@@ -1,12 +1,10 @@
-use Rattle.std.proofs.Common.{◌-◌, arith}
+use Rattle.std.proofs.Common.{rules, ◌-◌, arith}
 use Rattle.cam_objects.proofs.Canvases.{sound_print}
 use Rattle.cam_objects.proofs.PaintedLists.{paints_no_slot, paints_rout, paints_slot}
 use Rattle.cam_objects.proofs.drill.painting.paint_rout.Goals as goal
 
 pub loop-k-init : goal.loop-k-init
-loop-k-init g c =
-    let canvas = g.C.Canvas in
-    paints_no_slot canvas.has canvas.place canvas.ink c.args.canvas.now c.args.diameter c.args.points.now
+loop-k-init g c = search (rules, paints_no_slot)
 
 pub paint_leaf-requires : goal.paint_leaf-requires
 paint_leaf-requires g c =
@@ -24,7 +22,4 @@ loop-k-preserved g c =
     (c.loop-k.k - 1 - 1) (c.loop-k.k - 1) _ (omega arith) (omega arith) c.loop-k.invariant c.paint_leaf.ensures
 
 pub returns : goal.returns
-returns g c =
-    let canvas = g.C.Canvas in
-    paints_rout canvas.has canvas.place canvas.ink c.args.canvas.now c.loop-k.canvas c.args.diameter c.args.points.now (c.loop-k.k - 1)
-    (omega arith) c.if-points-eq1.false c.loop-k.invariant
+returns g c = grind (arith, paints_rout)

@@ -4,7 +4,7 @@ use Rattle.cam_units.specs.Boxes.{join_of}
 use Rattle.cam_units.specs.declared.bounds.Bounds.{Bounds}
 use Rattle.cam_objects.specs.declared.entry.Entry.{Entry}
 use Rattle.cam_objects.specs.declared.item.Item.{Item}
-use Rattle.cam_objects.specs.declared.item.Item.TheVariants.{One, Repeat}
+use Rattle.cam_objects.specs.declared.item.Item.TheVariants.{Repeat}
 use Rattle.cam_objects.specs.declared.object.Object.{Object}
 use Rattle.cam_objects.specs.declared.placing.copies.Copies.{Copies}
 use Rattle.cam_objects.specs.Bounds.{bounds_of, moved}
@@ -45,9 +45,7 @@ boxed es item p columns rows i j objects first entries sound is copies box =
     }
 
 pub object_bounds-requires-clause-stands : goal.object_bounds-requires-clause-stands
-object_bounds-requires-clause-stands c =
-    let es = c.args.self.now.apertures in
-    (meets es (One c.in-One.object) (subst (IsSoundItem es) c.in-One.is c.requires.item)).inside.points 0 c.in-One.object (omega arith)
+object_bounds-requires-clause-stands c = grind (arith, meets)
 
 pub block_bounds-first-requires : goal.block_bounds-first-requires
 block_bounds-first-requires c =

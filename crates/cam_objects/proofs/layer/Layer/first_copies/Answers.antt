@@ -1,4 +1,5 @@
-use Rattle.std.proofs.Common.{◌≡◌, ℕ, Bool, true, false, List, [], ◌∷◌, ◌++◌, Some, if◌then◌else◌, subst, sym}
+use Rattle.std.proofs.Common.{arith, ◌≡◌, ℕ, Bool, List, [], ◌∷◌, ◌++◌, Some, if◌then◌else◌, subst}
+use Rattle.std.proofs.lemmas.Grind.{common_steps}
 use Rattle.std.specs.List.{All, slice_get}
 use Rattle.std.proofs.lemmas.List.Elements.{All-push}
 use Rattle.cam_objects.specs.Cells.{FirstCopied, IsFirstCopyOf}
@@ -17,8 +18,7 @@ known entries items first place is h = λ item at. h item (subst (λ (k : ℕ). 
 -- one more, where there is memory for it
 perhaps_more : (P : FirstCopied → Type 0) (xs ys : List FirstCopied) (x : FirstCopied) (b : Bool)
     → ys ≡ (if b then xs ++ x ∷ [] else xs) → All P xs → P x → All P ys
-perhaps_more P xs ys x true is all new = subst (All P) (sym is) (All-push P xs x all new)
-perhaps_more P xs ys x false is all new = subst (All P) (sym is) all
+perhaps_more P xs ys x b is all new = grind (arith, common_steps, All-push)
 
 pub loop-place-preserved : goal.loop-place-preserved
 loop-place-preserved c =

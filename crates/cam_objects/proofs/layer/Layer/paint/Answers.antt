@@ -1,6 +1,5 @@
-use Rattle.std.proofs.Common.{◌≡◌, ◌-◌, drop, subst, arith}
-use Rattle.cam_objects.specs.Canvases.{Paints}
-use Rattle.cam_objects.specs.Leaves.{item_leaves, leaves_of, meaning_in}
+use Rattle.std.proofs.Common.{◌-◌, arith}
+use Rattle.cam_objects.specs.Leaves.{item_leaves, meaning_in}
 use Rattle.cam_objects.proofs.Canvases.{paints_listed}
 use Rattle.cam_objects.proofs.layer.Layer.paint.Goals as goal
 
@@ -12,9 +11,4 @@ loop-place-preserved g c =
     (c.loop-place.place - 1) c.loop-place.place _ _ _ (omega arith) (omega arith) c.loop-place.invariant c.paint_item.ensures
 
 pub returns : goal.returns
-returns g c =
-    let canvas = g.C.Canvas in
-    let layer = c.args.self.now in
-    let first : c.loop-place.place ≡ 0 = omega arith in
-    subst (λ k. Paints canvas.has canvas.place canvas.ink c.args.canvas.now
-    (leaves_of layer.apertures (drop k layer.items.items)) c.loop-place.canvas) first c.loop-place.invariant
+returns g c = grind arith

@@ -31,9 +31,7 @@ asked layer place x sound within here = (
 )
 
 pub paint_object-requires-clause-object : goal.paint_object-requires-clause-object
-paint_object-requires-clause-object g c =
-    subst IsPaintableItem c.in-One.is
-    (asked c.args.self.now c.args.place c.index-item.result.now c.requires.sound c.requires.within c.index-item.ensures).0
+paint_object-requires-clause-object g c = grind (arith, asked)
 
 pub paint_object-requires-clause-ready : goal.paint_object-requires-clause-ready
 paint_object-requires-clause-ready g c =
@@ -106,19 +104,7 @@ paint-requires-clause-repeat g c =
     }
 
 pub paint-requires-clause-ready : goal.paint-requires-clause-ready
-paint-requires-clause-ready g c =
-    let layer = c.args.self.now in
-    let es = layer.apertures in
-    let made = repeat_again _ _ _ _ _ _ _ _ c.in-Repeat.is c.copies.ensures c.as_slice-objects.ensures in
-    subst (λ (item : Item). IsReadyToPrint es (item_leaves (meaning_in es) item)) made
-    (asked layer c.args.place c.index-item.result.now c.requires.sound c.requires.within c.index-item.ensures).1
+paint-requires-clause-ready g c = grind (arith, repeat_again, asked)
 
 pub returns-after-known : goal.returns-after-known
-returns-after-known g c = λ item at.
-    let canvas = g.C.Canvas in
-    let layer = c.args.self.now in
-    let made = repeat_again _ _ _ _ _ _ _ _ c.in-Repeat.is c.copies.ensures c.as_slice-objects.ensures in
-    subst (λ (x : Item). Paints canvas.has canvas.place canvas.ink c.args.canvas.now
-    (item_leaves (meaning_in layer.apertures) x) c.paint.new.canvas)
-    (sym made ∙ c.index-item.ensures ∙ get_or_from_slice_get layer.items.items c.args.place item c.index-item.result.now at)
-    c.paint.ensures
+returns-after-known g c = λ item at. grind (arith, repeat_again, get_or_from_slice_get)

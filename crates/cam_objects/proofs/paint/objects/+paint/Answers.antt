@@ -1,15 +1,13 @@
-use Rattle.std.proofs.Common.{◌≡◌, ℕ, ◌+◌, ◌-◌, ◌<◌, ◌≤◌, List, length, take, drop, slice_get, get_or, Some, sym, ap, subst, ◌∙◌, arith}
+use Rattle.std.proofs.Common.{◌≡◌, ℕ, ◌+◌, ◌-◌, ◌<◌, ◌≤◌, List, length, take, slice_get, get_or, Some, sym, ap, subst, ◌∙◌, arith}
 use Rattle.std.specs.Option.{IfSome}
 use Rattle.cam_units.specs.Board.{IsSize}
 use Rattle.cam_objects.specs.declared.object.Object.{Object}
 use Rattle.cam_objects.specs.declared.entry.Entry.{Entry}
 use Rattle.cam_objects.specs.declared.entry.Entry.TheVariants.{Aperture, Block}
-use Rattle.cam_objects.specs.declared.placing.place.Place.{Place}
 use Rattle.cam_objects.specs.Bounds.{bounds_of}
-use Rattle.cam_objects.specs.Canvases.{Paints}
 use Rattle.cam_objects.specs.Leaves.{Leaf, Meaning, block_leaves, meaning_in, object_leaves, round_width}
 use Rattle.cam_objects.specs.Machinery.ObjectCells.{AreObjectCells}
-use Rattle.cam_objects.specs.Machinery.Painting.{HasReach, IsPrintable, StandsOnBoard, flash_leaves, meaning_before}
+use Rattle.cam_objects.specs.Machinery.Painting.{IsPrintable, StandsOnBoard, flash_leaves, meaning_before}
 use Rattle.cam_objects.specs.Soundness.{AreOnBoard}
 use Rattle.cam_objects.proofs.ObjectCells.{paints_past, unseen_between}
 use Rattle.cam_objects.proofs.PaintedRuns.{still_unseen}
@@ -101,32 +99,15 @@ paint_block-loop-end-preserved g t c =
     }
 
 pub paint_block-returns : goal.paint_block-returns
-paint_block-returns g t c =
-    let canvas = g.C.Canvas in
-    let means = meaning_before c.args.upto c.args.entries.now in
-    let first : c.loop-end.end ≡ 0 = omega arith in
-    subst (λ k. Paints canvas.has canvas.place canvas.ink c.args.canvas.now
-    (block_leaves means c.args.place.now (drop k c.args.objects.now)) c.loop-end.canvas)
-    first c.loop-end.invariant.painted
+paint_block-returns g t c = grind arith
 
 -- ---- a flash
 
 pub paint_flash-returns-in-None : goal.paint_flash-returns-in-None
-paint_flash-returns-in-None g t c =
-    let canvas = g.C.Canvas in
-    let v = c.args.canvas.now in
-    subst (λ (m : Meaning). Paints canvas.has canvas.place canvas.ink v (m.flash c.args.place.now) v)
-    (sym (meaning-absent c.args.entries.now c.args.upto c.args.number c.in-None.ensures.absent c.requires.within))
-    (paints_nothing canvas.has canvas.place canvas.ink v)
+paint_flash-returns-in-None g t c = grind (arith, meaning-absent, paints_nothing)
 
 pub paint_flash-returns-then-upto-at : goal.paint_flash-returns-then-upto-at
-paint_flash-returns-then-upto-at g t c =
-    let canvas = g.C.Canvas in
-    let v = c.args.canvas.now in
-    subst (λ (m : Meaning). Paints canvas.has canvas.place canvas.ink v (m.flash c.args.place.now) v)
-    (sym (meaning-later c.args.entries.now c.in-Some.found.0 c.args.upto c.args.number c.in-Some.found.1.now
-    c.find_with_facts.ensures.distinct c.in-Some.ensures.found c.if-upto-at.true))
-    (paints_nothing canvas.has canvas.place canvas.ink v)
+paint_flash-returns-then-upto-at g t c = grind (arith, meaning-later, paints_nothing)
 
 pub paint_flash-bounds-bounds-requires-clause-offset : goal.paint_flash-bounds-bounds-requires-clause-offset
 paint_flash-bounds-bounds-requires-clause-offset g t c = reach_box c.args.upto c.args.place.now c.requires.reach
@@ -200,30 +181,10 @@ paint_flash-paint_block-requires g t c κs within =
     )
 
 pub paint_flash-returns-in-Aperture : goal.paint_flash-returns-in-Aperture
-paint_flash-returns-in-Aperture g t c =
-    let canvas = g.C.Canvas in
-    let es = c.args.entries.now in
-    let i = c.in-Some.found.0 in
-    let at : slice_get es i ≡ Some (c.args.number, Aperture c.in-Aperture.aperture) =
-    c.in-Some.ensures.found ∙ ap (λ (e : Entry). Some (c.args.number, e)) c.in-Aperture.is in
-    subst (λ (m : Meaning). Paints canvas.has canvas.place canvas.ink c.args.canvas.now (m.flash c.args.place.now) c.paint.new.self)
-    (sym (meaning-at es i c.args.upto c.args.number (Aperture c.in-Aperture.aperture) c.find_with_facts.ensures.distinct at
-    (omega (arith, c.if-upto-at.false)) c.requires.within))
-    c.paint.ensures
+paint_flash-returns-in-Aperture g t c = grind (arith, meaning-at)
 
 pub paint_flash-returns-else-is_decided_in : goal.paint_flash-returns-else-is_decided_in
-paint_flash-returns-else-is_decided_in g t c =
-    let canvas = g.C.Canvas in
-    let es = c.args.entries.now in
-    let i = c.in-Some.found.0 in
-    let at : slice_get es i ≡ Some (c.args.number, Block c.in-Block.objects) =
-    c.in-Some.ensures.found ∙ ap (λ (e : Entry). Some (c.args.number, e)) c.in-Block.is in
-    subst (λ (m : Meaning). Paints canvas.has canvas.place canvas.ink c.args.canvas.now (m.flash c.args.place.now) c.paint_block.new.canvas)
-    (sym (meaning-at es i c.args.upto c.args.number (Block c.in-Block.objects) c.find_with_facts.ensures.distinct at
-    (omega (arith, c.if-upto-at.false)) c.requires.within))
-    (subst (λ (os : List Object). Paints canvas.has canvas.place canvas.ink c.args.canvas.now
-    (block_leaves (meaning_before i es) c.args.place.now os) c.paint_block.new.canvas)
-    c.as_slice.ensures c.paint_block.ensures)
+paint_flash-returns-else-is_decided_in g t c = grind (arith, meaning-at)
 
 -- ---- an object
 
@@ -231,24 +192,7 @@ pub paint_object-flashed-inner-requires-clause-offset : goal.paint_object-flashe
 paint_object-flashed-inner-requires-clause-offset g t c = reach_offset (c.args.upto + 1) c.args.place.now c.requires.ready.reach
 
 pub paint_object-paint_flash-requires : goal.paint_object-paint_flash-requires
-paint_object-paint_flash-requires g t c κs within = (
-  omega (arith, c.decreases),
-  (
-    within,
-    record {
-      within = c.requires.ready.within;
-      sound = c.requires.ready.sound;
-      board =
-          subst (λ (q : Place). AreOnBoard (flash_leaves c.args.upto c.args.entries.now c.in-Flash.aperture q))
-          (sym c.flashed-inner.ensures)
-          (subst (λ (o : Object). AreOnBoard (object_leaves (meaning_before c.args.upto c.args.entries.now) c.args.place.now o))
-          c.in-Flash.is c.requires.ready.board);
-      reach = subst (HasReach c.args.upto) (sym c.flashed-inner.ensures)
-          (reach_flashed c.args.upto c.args.place.now c.in-Flash.at c.in-Flash.turn c.in-Flash.dark
-          (subst StandsOnBoard c.in-Flash.is c.requires.object 0 c.in-Flash.at (omega arith)) c.requires.ready.reach);
-    },
-  ),
-)
+paint_object-paint_flash-requires g t c κs within = grind (arith, reach_flashed)
 
 pub paint_object-paint_stroke-requires : goal.paint_object-paint_stroke-requires
 paint_object-paint_stroke-requires g t c =

@@ -1,4 +1,4 @@
-use Rattle.std.proofs.Common.{ap, sym, subst, ◌∙◌, arith}
+use Rattle.std.proofs.Common.{rules, ap, sym, subst, ◌∙◌, arith}
 use Rattle.cam_objects.specs.Machinery.Boxes.{IsNearBox, placed_bounds}
 use Rattle.cam_objects.proofs.BoxLimits.{within_near}
 use Rattle.cam_objects.proofs.Canvases.{sound_print}
@@ -9,12 +9,10 @@ use Rattle.cam_objects.proofs.SizedLeaves.{contour_within, inner}
 use Rattle.cam_objects.proofs.paint.prints.paint_region.Goals as goal
 
 pub contour_bounds-requires : goal.contour_bounds-requires
-contour_bounds-requires g c =
-    standing c.args.place.now.turn c.args.place.now.offset c.args.contour.now c.requires.contour
+contour_bounds-requires g c = search (rules, standing)
 
 pub bounds-requires-clause-offset : goal.bounds-requires-clause-offset
-bounds-requires-clause-offset g c =
-    contour_offset c.args.place.now.turn c.args.place.now.offset c.args.contour.now c.requires.contour
+bounds-requires-clause-offset g c = grind (arith, contour_offset)
 
 pub bounds-requires-clause-bounds : goal.bounds-requires-clause-bounds
 bounds-requires-clause-bounds g c =

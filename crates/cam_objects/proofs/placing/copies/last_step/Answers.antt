@@ -1,5 +1,4 @@
-use Rattle.std.proofs.Common.{◌-◌, ◌<◌, ℤ, sym, subst, arith}
-use Rattle.std.specs.Int.RustNames.{unsigned_abs}
+use Rattle.std.proofs.Common.{rules, ◌-◌, arith}
 use Rattle.cam_objects.proofs.Computed.{steps_are, steps_fit, steps_reach}
 use Rattle.cam_objects.proofs.placing.copies.last_step.Goals as goal
 
@@ -10,7 +9,4 @@ pub returns-clause-value : goal.returns-clause-value
 returns-clause-value c = steps_are (c.args.count - 1) c.args.step (omega arith) c.requires.step c.from.result c.from.ensures
 
 pub returns-clause-reach : goal.returns-clause-reach
-returns-clause-reach c =
-    subst (λ (z : ℤ). unsigned_abs z < 4400000000000000000)
-    (sym (steps_are (c.args.count - 1) c.args.step (omega arith) c.requires.step c.from.result c.from.ensures))
-    (steps_reach (c.args.count - 1) c.args.step (omega arith) c.requires.step)
+returns-clause-reach c = search (rules, steps_are, steps_reach)

@@ -8,10 +8,7 @@ use Rattle.cam_objects.proofs.Extents.{bounded_arc, bounded_draw, bounded_region
 use Rattle.cam_objects.proofs.boxes.extent.Extent.object_bounds.Goals as goal
 
 pub turned-requires : goal.turned-requires
-turned-requires c =
-    let go = c.go_to in
-    sized c.args.entries.now go.new.self go.ensures.extent c.in-Draw.aperture go.ensures.number c.requires.sound
-    c.in-Some.tip c.in-Some.is
+turned-requires c = grind (arith, sized)
 
 pub drawn_bounds-requires-clause-from : goal.drawn_bounds-requires-clause-from
 drawn_bounds-requires-clause-from c = (subst StandsOnBoard c.in-Draw.is c.requires.stands) 0 c.in-Draw.from (omega arith)
@@ -35,10 +32,7 @@ pub contour_bounds-requires : goal.contour_bounds-requires
 contour_bounds-requires c = rw c.in-Region.is at c.requires.stands
 
 pub returns-in-Flash-clause-value : goal.returns-in-Flash-clause-value
-returns-in-Flash-clause-value c =
-    let es = c.args.entries.now in
-    c.flash_bounds.ensures.value c.in-Flash.dark
-    ∙ ap (λ (o : Object). bounds_of (object_leaves (meaning_in es) origin o)) (sym c.in-Flash.is)
+returns-in-Flash-clause-value c = grind arith
 
 pub returns-in-Some-clause-value : goal.returns-in-Some-clause-value
 returns-in-Some-clause-value c =

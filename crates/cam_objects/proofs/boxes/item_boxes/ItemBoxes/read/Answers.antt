@@ -1,27 +1,17 @@
-use Rattle.std.proofs.Common.{◌≡◌, ◌<◌, Some, length, ap, sym, subst, ◌∙◌}
+use Rattle.std.proofs.Common.{arith, rules, ◌<◌, Some, length, ap, sym, subst, ◌∙◌}
 use Rattle.std.specs.Option.{IfSome}
 use Rattle.std.proofs.lemmas.Option.{slice_get-get_or}
-use Rattle.cam_objects.specs.declared.item.Item.{Item}
 use Rattle.cam_objects.specs.declared.layer.Layer.{Layer}
-use Rattle.cam_objects.specs.Bounds.{bounds_of}
 use Rattle.cam_objects.specs.Cells.{AreFirstCopiesOf}
-use Rattle.cam_objects.specs.Leaves.{item_leaves, meaning_in}
 use Rattle.cam_objects.proofs.KeptBoxes.{listed_stands, read_box}
-use Rattle.cam_objects.proofs.boxes.item_boxes.ItemBoxes.read.Goals.{in-Some, in-None}
+use Rattle.cam_objects.proofs.boxes.item_boxes.ItemBoxes.read.Goals.{in-Some}
 use Rattle.cam_objects.proofs.boxes.item_boxes.ItemBoxes.read.Goals as goal
 
 pub object_bounds-requires-clause-stands : goal.object_bounds-requires-clause-stands
-object_bounds-requires-clause-stands c =
-    listed_stands c.self.inside.layer.now c.args.self.now c.args.place c.index-item.result.now c.in-One.object
-    c.self.invariant.sound c.self.view_is c.requires c.index-item.ensures c.in-One.is
+object_bounds-requires-clause-stands c = search (rules, listed_stands)
 
 pub returns-in-One-clause-value : goal.returns-in-One-clause-value
-returns-in-One-clause-value c = λ item at.
-    let layer = c.self.inside.layer.now in
-    read_box layer c.args.self.now c.args.place c.index-item.result.now item c.object_bounds.result c.self.view_is
-    c.index-item.ensures at
-    (c.object_bounds.ensures.value
-    ∙ ap (λ (x : Item). bounds_of (item_leaves (meaning_in layer.apertures) x)) (sym c.in-One.is))
+returns-in-One-clause-value c = λ item at. grind (arith, read_box)
 
 pub bounds_with-requires-clause-known : goal.bounds_with-requires-clause-known
 bounds_with-requires-clause-known c =
@@ -33,11 +23,4 @@ bounds_with-requires-clause-known c =
     (slice_get-get_or layer.items.items c.args.place c.index-item.result.now within ∙ ap Some (sym c.index-item.ensures))
 
 pub returns-after-self-clause-value : goal.returns-after-self-clause-value
-returns-after-self-clause-value c = λ item at.
-    let layer = c.self.inside.layer.now in
-    let x = c.index-item.result.now in
-    read_box layer c.args.self.now c.args.place x item c.match-self.result c.self.view_is c.index-item.ensures at
-    (elim c.match-self.branch as (λ _. c.match-self.result ≡ bounds_of (item_leaves (meaning_in layer.apertures) x)) [
-      | in-Some w ↦ w.result-is ∙ w.bounds_with.ensures
-      | in-None w ↦ w.result-is ∙ w.bounds_of.ensures
-    ])
+returns-after-self-clause-value c = λ item at. grind (arith, read_box)

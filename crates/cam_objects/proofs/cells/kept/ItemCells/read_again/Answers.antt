@@ -26,8 +26,4 @@ loop-place-preserved g c =
     }
 
 pub returns-clause-cells : goal.returns-clause-cells
-returns-clause-cells g c =
-    let boxes = g.B.BoxedItems.boxes c.args.items.now in
-    subst (λ (those : List Bounds). AreCellsOf those c.loop-place.self)
-    (take_all c.loop-place.place boxes (omega arith))
-    c.loop-place.invariant.cells
+returns-clause-cells g c = grind (arith, take_all)

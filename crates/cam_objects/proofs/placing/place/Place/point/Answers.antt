@@ -1,8 +1,7 @@
-use Rattle.std.proofs.Common.{◌≡◌, ◌^◌, ◌<◌, ℤ, ◌+ℤ◌, FitsSigned, of_z, to_z, w64, ap, sym, subst, ◌∙◌, arith}
+use Rattle.std.proofs.Common.{◌≡◌, ◌^◌, ◌<◌, ℤ, ◌+ℤ◌, FitsSigned, of_z, to_z, w64, ap, ◌∙◌, arith}
 use Rattle.std.specs.Int.RustNames.{unsigned_abs}
 use Rattle.std.proofs.lemmas.Int.{fits_signed_from_abs, ints, to_z-of_z}
 use Rattle.cam_units.specs.Board.{IsOnBoard}
-use Rattle.cam_units.specs.Turns.{applied, matrix_of}
 use Rattle.cam_units.specs.declared.point.Point.{Point}
 use Rattle.cam_units.proofs.TurnLaws.{same_point}
 use Rattle.cam_shapes.specs.Shifting.{IsShiftable}
@@ -16,26 +15,18 @@ kept_shift q a o on_board offset e =
     ∙ ap (λ p. sum_of p o) e
 
 pub returns : goal.returns
-returns c =
-    kept_shift c.apply-turned.result (applied (matrix_of c.args.self.now.turn) c.args.point) c.args.self.now.offset
-    (c.apply-turned.ensures.on_board c.requires.point) c.requires.offset c.apply-turned.ensures.value
+returns c = grind (arith, kept_shift)
 
 -- and so have its coordinates
 sum_fits : (a o : ℤ) → unsigned_abs a < 1000000000 → unsigned_abs o < 2 ^ 62
     → FitsSigned w64 (to_z w64 (of_z w64 a) +ℤ to_z w64 (of_z w64 o))
-sum_fits a o h k =
-    let fa : FitsSigned w64 a = fits_signed_from_abs w64 a (omega arith) in
-    let fo : FitsSigned w64 o = fits_signed_from_abs w64 o (omega arith) in
-    subst (FitsSigned w64) (λ i. sym (to_z-of_z w64 a fa) i +ℤ sym (to_z-of_z w64 o fo) i)
-    (fits_signed_from_abs w64 (a +ℤ o) (omega (arith, ints)))
+sum_fits a o h k = grind (arith, fits_signed_from_abs, to_z-of_z, ints)
 
 pub overflow_add-result : goal.overflow_add-result
-overflow_add-result c =
-    sum_fits c.apply-turned.result.x c.args.self.now.offset.x (c.apply-turned.ensures.on_board c.requires.point).x c.requires.offset.x
+overflow_add-result c = grind (arith, sum_fits)
 
 pub overflow_add-result-2 : goal.overflow_add-result-2
-overflow_add-result-2 c =
-    sum_fits c.apply-turned.result.y c.args.self.now.offset.y (c.apply-turned.ensures.on_board c.requires.point).y c.requires.offset.y
+overflow_add-result-2 c = grind (arith, sum_fits)
 
 pub apply-turned-requires : goal.apply-turned-requires
 apply-turned-requires c = record { x = omega (arith, c.requires.point.x); y = omega (arith, c.requires.point.y) }
