@@ -1,7 +1,7 @@
 -- Evaluation on a stack, the top first.
-use Rattle.std.proofs.Common.{◌≡◌, List, [], ◌∷◌, ◌++◌, ℤ, pos, neg_ℤ, Some, None, refl, ap, sym, ◌∙◌, append_assoc}
-use Rattle.std.proofs.Common.{append-nil, reverse}
-use Rattle.std.specs.Prelude.{option_and_then, ok_or}
+use Rattle.std.proofs.Common.{arith, ◌≡◌, List, [], ◌∷◌, ◌++◌, ℤ, neg_ℤ, Some, None, refl, ap, sym, ◌∙◌, append_assoc, append-nil}
+use Rattle.std.proofs.Common.{reverse}
+use Rattle.std.specs.Prelude.{option_and_then}
 use Rattle.std.proofs.lemmas.List.{reverse-append}
 use Rattle.cam_macros.specs.declared.expression.Step.{Step}
 use Rattle.cam_macros.specs.declared.expression.Step.TheVariants.{Negate, Apply}
@@ -10,20 +10,13 @@ use Rattle.cam_macros.specs.Postfix.{postfix}
 use Rattle.cam_macros.specs.Arithmetic.{Values, within, operator_applied, tree_value}
 use Rattle.cam_macros.specs.Machinery.Values.{numbers}
 use Rattle.cam_macros.specs.declared.expansion.arithmetic.Fixed.{Fixed}
-use Rattle.cam_macros.specs.declared.fault.MacroFault.TheVariants.{Malformed}
 use Rattle.cam_macros.specs.Expansion.{worth}
 use Rattle.cam_macros.specs.Machinery.Stack.{stack_of, put, run, answer}
 
 pub run-postfix : (values : Values) (t : Tree) (more : List Step) (stack : List ℤ)
     → run values (postfix t ++ more) stack ≡ option_and_then (λ v. run values more (v ∷ stack)) (tree_value values t)
-run-postfix values (Number n) more stack =
-    elim (within (pos n)) as
-    (λ w. option_and_then (run values more) (put stack w) ≡ option_and_then (λ v. run values more (v ∷ stack)) w)
-    [ Some v ↦ refl | None ↦ refl ]
-run-postfix values (Variable n) more stack =
-    elim (within (values n)) as
-    (λ w. option_and_then (run values more) (put stack w) ≡ option_and_then (λ v. run values more (v ∷ stack)) w)
-    [ Some v ↦ refl | None ↦ refl ]
+run-postfix values (Number n) more stack = grind arith
+run-postfix values (Variable n) more stack = grind arith
 run-postfix values (Negative t) more stack =
     ap (λ s. run values s stack) (append_assoc (postfix t) (Negate ∷ []) more)
     ∙ run-postfix values t (Negate ∷ more) stack
@@ -66,10 +59,7 @@ run_whole values t = ap (λ s. run values s []) (sym (append-nil (postfix t))) �
 
 -- the value of an expression is on top in the end
 pub worth_is : (values : Values) (t : Tree) → answer (run values (postfix t) []) ≡ worth values t
-worth_is values t =
-    ap answer (run_whole values t)
-    ∙ (elim (tree_value values t) as (λ o. answer (option_and_then (λ v. Some (v ∷ [])) o) ≡ ok_or o Malformed)
-    [ Some v ↦ refl | None ↦ refl ])
+worth_is values t = grind (arith, run_whole)
 
 pub numbers_push : (values : List Fixed) (v : Fixed) → numbers (values ++ v ∷ []) ≡ numbers values ++ v.billionths ∷ []
 numbers_push [] v = refl

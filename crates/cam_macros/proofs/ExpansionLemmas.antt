@@ -1,13 +1,11 @@
 -- Lists of primitives, one part at a time.
-use Rattle.std.proofs.Common.{◌≡◌, ℕ, suc, ◌+◌, ◌<◌, List, ◌∷◌, ◌++◌, length, drop, get_or, Result, Ok, Err}
-use Rattle.std.proofs.Common.{refl, ap, sym, ◌∙◌, append_assoc, add-one}
+use Rattle.std.proofs.Common.{arith, ◌≡◌, ℕ, suc, ◌+◌, ◌<◌, List, ◌∷◌, ◌++◌, length, drop, get_or, Result, Ok, Err, ap, sym, ◌∙◌}
+use Rattle.std.proofs.Common.{append_assoc, add-one}
 use Rattle.std.proofs.Math.Seq.{drop-cons}
 use Rattle.cam_units.specs.declared.length.Unit.{Unit as FileUnit}
 use Rattle.cam_macros.specs.declared.part.Part.{Part}
 use Rattle.cam_macros.specs.declared.primitive.MacroPrimitive.{MacroPrimitive}
 use Rattle.cam_macros.specs.declared.fault.MacroFault.{MacroFault}
-use Rattle.cam_macros.specs.declared.fault.MacroFault.TheVariants.{BadName, Malformed, PrimitiveRefused}
-use Rattle.cam_macros.specs.declared.fault.MacroFault.TheVariants.{RotationRefused, SizeRefused, OutOfMemory}
 use Rattle.cam_macros.specs.Arithmetic.{Values}
 use Rattle.cam_macros.specs.Answers.{IsUnlessMemory}
 use Rattle.cam_macros.specs.Expansion.{outcome, values_after, expansion, with_prims, ◌>>=◌}
@@ -15,12 +13,7 @@ use Rattle.cam_macros.specs.Expansion.{outcome, values_after, expansion, with_pr
 -- a fault of a part is one of the whole, where each fault that is meant is
 pub told : {A B : Type 0} (fault : MacroFault) (part : Result A MacroFault) (whole : Result B MacroFault)
     → ((g : MacroFault) → part ≡ Err g → whole ≡ Err g) → IsUnlessMemory fault part → IsUnlessMemory fault whole
-told OutOfMemory part whole h f = f
-told Malformed part whole h f = h Malformed f
-told BadName part whole h f = h BadName f
-told PrimitiveRefused part whole h f = h PrimitiveRefused f
-told RotationRefused part whole h f = h RotationRefused f
-told SizeRefused part whole h f = h SizeRefused f
+told fault part whole h f = grind arith
 
 pub expansion_same : (unit : FileUnit) (v w : Values) (parts : List Part) → ((n : ℕ) → v n ≡ w n)
     → expansion unit v parts ≡ expansion unit w parts
@@ -28,16 +21,13 @@ expansion_same unit v w parts h = let same : v ≡ w = λ i n. h n i in ap (λ f
 
 prims_joined : (before made : List MacroPrimitive) (rest : Result (List MacroPrimitive) MacroFault)
     → with_prims before (rest >>= λ more. Ok (made ++ more)) ≡ with_prims (before ++ made) rest
-prims_joined before made (Ok more) = ap Ok (sym (append_assoc before made more))
-prims_joined before made (Err f) = refl
+prims_joined before made rest = grind (arith, append_assoc)
 
 prims_step : (before after : List MacroPrimitive) (made : Result (List MacroPrimitive) MacroFault)
     (rest : Result (List MacroPrimitive) MacroFault)
     → with_prims before made ≡ Ok after
     → with_prims before (made >>= λ m. rest >>= λ more. Ok (m ++ more)) ≡ with_prims after rest
-prims_step before after (Ok m) rest e =
-    prims_joined before m rest ∙ ap (λ l. with_prims l rest) (let same : before ++ m ≡ after = cc in same)
-prims_step before after (Err f) rest e = cc
+prims_step before after made rest e = grind (arith, prims_joined)
 
 pub part_next : (unit : FileUnit) (v w : Values) (parts : List Part) (i : ℕ) (part : Part)
     (before after : List MacroPrimitive) → i < length parts
@@ -56,12 +46,4 @@ pub part_fault : (unit : FileUnit) (v : Values) (parts : List Part) (i : ℕ) (p
     → i < length parts
     → part ≡ get_or parts i part → with_prims before (expansion unit v (drop i parts)) ≡ all
     → IsUnlessMemory fault (outcome unit v part) → IsUnlessMemory fault all
-part_fault unit v parts i part before fault all h is e f =
-    let found : (g : MacroFault) → outcome unit v part ≡ Err g → all ≡ Err g =
-    λ g w.
-    sym e
-    ∙ ap (λ l. with_prims before (expansion unit v l))
-    (drop-cons parts i part h ∙ ap (λ t. t ∷ drop (suc i) parts) (sym is))
-    ∙ ap (λ x. with_prims before
-    (x >>= λ m. expansion unit (values_after v part) (drop (suc i) parts) >>= λ more. Ok (m ++ more))) w in
-    told fault (outcome unit v part) all found f
+part_fault unit v parts i part before fault all h is e f = grind (arith, drop-cons, told)

@@ -1,16 +1,14 @@
 -- What has been read of nested parentheses, as parts of sums.
-use Rattle.std.proofs.Common.{◌≡◌, ℕ, zero, suc, ◌+◌, ◌≤◌, Bool, true, false, cond, ltb, length, ◌==◌, ◌||◌}
-use Rattle.std.proofs.Common.{◌⊎◌, inl, inr, List, [], ◌∷◌, ◌++◌, replicate, Option, Some, None, refl, ap, sym, subst, ◌∙◌, ◌<◌}
-use Rattle.std.proofs.Common.{append_assoc, append-nil, arith}
-use Rattle.std.specs.Option.{option_and_then}
+use Rattle.std.proofs.Common.{◌≡◌, ℕ, zero, suc, ◌+◌, ◌≤◌, true, length, ◌==◌, ◌||◌, ◌⊎◌, inl, inr, List, [], ◌∷◌, ◌++◌}
+use Rattle.std.proofs.Common.{replicate, Option, Some, None, refl, ap, sym, subst, ◌∙◌, append_assoc, append-nil, arith}
 use Rattle.cam_numbers.proofs.Written.{was_written, natural_found}
-use Rattle.std.proofs.lemmas.Bool.{ltb-false, eqb-true, eqb-false}
+use Rattle.std.proofs.lemmas.Bool.{eqb-true}
 use Rattle.cam_macros.specs.declared.expression.Operator.{Operator}
 use Rattle.cam_macros.specs.declared.expression.Step.{Step}
-use Rattle.cam_macros.specs.declared.expression.Step.TheVariants.{Negate, Apply}
+use Rattle.cam_macros.specs.declared.expression.Step.TheVariants.{Negate}
 use Rattle.cam_macros.specs.declared.parsing.scanner.Level.{Level}
 use Rattle.cam_macros.specs.declared.parsing.mark.Mark.{Mark}
-use Rattle.cam_numbers.specs.Numbers.{value_of, natural}
+use Rattle.cam_numbers.specs.Numbers.{value_of}
 use Rattle.cam_macros.specs.Numbers.{number_written}
 use Rattle.cam_macros.specs.Tree.{Number}
 use Rattle.cam_macros.specs.Postfix.{postfix}
@@ -19,8 +17,8 @@ use Rattle.cam_macros.specs.Grammar.{OneFactor, Multiplied, Factor, Signed, sign
 use Rattle.cam_macros.specs.Grammar.{sum_text, term_text, factor_text, sum_count, term_count, factor_count}
 use Rattle.cam_macros.specs.Grammar.{IsNumber, IsDecimal, IsVariable, IsSum, IsTerm, IsFactor, sign_operator}
 use Rattle.cam_macros.specs.Grammar.{cross_operator, decimal_tree, sum_tree, term_tree, factor_tree}
-use Rattle.cam_macros.specs.Scanning.{Behind, is_run_byte, level_of, mark_of, number_of_run, Scan, scan, scan_of}
-use Rattle.cam_macros.specs.Scanning.{variable_by, variable_of, waiting, Wanted, with_operand}
+use Rattle.cam_macros.specs.Scanning.{Behind, level_of, mark_of, number_of_run, Scan, scan, scan_of}
+use Rattle.cam_macros.specs.Scanning.{variable_of, waiting, Wanted, with_operand}
 use Rattle.cam_macros.specs.Bytes.{closing, dollar, large_x, minus_sign, opening_parenthesis, plus, decimal_point, slash, small_x}
 
 -- leaves
@@ -49,25 +47,8 @@ leaf_of run v n =
     leaf_written run r.whole r.decimals v (record { before = p.before; behind = p.behind; some = p.some; small = p.small })
     r.value r.written.parts
 
-variable_told : (n v : ℕ) → variable_by n ≡ Some v → (0 < n) × (n < 10000) × (n ≡ v)
-variable_told n v e = go (n == 0) (ltb 9999 n) refl refl e
-  where
-    go : (a b : Bool) → (n == 0) ≡ a → ltb 9999 n ≡ b → cond a None (cond b None (Some n)) ≡ Some v → (0 < n) × (n < 10000) × (n ≡ v)
-    go true b p q e = cc
-    go false true p q e = cc
-    go false false p q e = let some = eqb-false n 0 p in let le = ltb-false 9999 n q in (omega (arith, some), omega (arith, le), cc)
-
 pub variable_found : (digits : List ℕ) (v : ℕ) → variable_of digits ≡ Some v → IsVariable digits × (value_of digits ≡ v)
-variable_found digits v e = go (natural digits) refl e
-  where
-    go : (o : Option ℕ) → natural digits ≡ o → option_and_then variable_by o ≡ Some v → IsVariable digits × (value_of digits ≡ v)
-    go None is e = cc
-    go (Some n) is e =
-        let found = natural_found digits n is in
-        let told = variable_told n v e in (
-          record { all = found.digits; some = omega (arith, found.value, told.0); small = omega (arith, found.value, told.1) },
-          found.value ∙ told.2,
-        )
+variable_found digits v e = grind (arith, natural_found)
 
 -- the byte of a mark
 
@@ -82,28 +63,11 @@ IsMarked Mark.Times b = (b ≡ small_x) ⊎ (b ≡ large_x)
 IsMarked Mark.Over b = b ≡ slash
 IsMarked Mark.Other b = Unit {0}
 
-pub choice : (b : ℕ) (t : Bool) (x y : Mark) → (t ≡ true → IsMarked x b) → IsMarked y b → IsMarked (cond t x y) b
-choice b true x y f g = f refl
-choice b false x y f g = g
-
 pub either : (b : ℕ) → (b == small_x) || (b == large_x) ≡ true → (b ≡ small_x) ⊎ (b ≡ large_x)
-either b =
-    elim (b == small_x) as
-    (λ v. ((v ≡ true → b ≡ small_x) → v || (b == large_x) ≡ true → (b ≡ small_x) ⊎ (b ≡ large_x))) [
-      | true ↦ λ f e. inl (f refl)
-      | false ↦ λ f e. inr (eqb-true b large_x e)
-    ] (eqb-true b small_x)
+either b = grind (arith, eqb-true)
 
 pub marked : (b : ℕ) → IsMarked (mark_of b) b
-marked b =
-    choice b (is_run_byte b) Mark.Numeral _ (λ e. tt)
-    (choice b (b == dollar) Mark.Dollar _ (eqb-true b dollar)
-    (choice b (b == opening_parenthesis) Mark.Open _ (eqb-true b opening_parenthesis)
-    (choice b (b == closing) Mark.Close _ (eqb-true b closing)
-    (choice b (b == plus) Mark.Plus _ (eqb-true b plus)
-    (choice b (b == minus_sign) Mark.Minus _ (eqb-true b minus_sign)
-    (choice b ((b == small_x) || (b == large_x)) Mark.Times _ (either b)
-    (choice b (b == slash) Mark.Over Mark.Other (eqb-true b slash) tt)))))))
+marked b = grind (arith, eqb-true, either)
 
 -- what has been read of a pair of parentheses: a sum with its sign, a term with its sign, signs
 
@@ -251,23 +215,18 @@ ended NoSum t = OneTerm t
 ended (SumBefore s o) t = Added s o t
 
 pub ended_text : (sum : SumPart) (t : Term) → sum_text (ended sum t) ≡ sum_part_text sum ++ term_text t
-ended_text NoSum t = refl
-ended_text (SumBefore s o) t = sym (append_assoc (sum_text s) (sign_byte o ∷ []) (term_text t))
+ended_text sum t = grind (arith, append_assoc)
 
 pub ended_steps : (sum : SumPart) (t : Term)
     → (sum_part_steps sum ++ postfix (term_tree t)) ++ waiting (sum_part_operator sum)
     ≡ postfix (sum_tree (ended sum t))
-ended_steps NoSum t = append-nil (postfix (term_tree t))
-ended_steps (SumBefore s o) t =
-    append_assoc (postfix (sum_tree s)) (postfix (term_tree t)) (Apply (sign_operator o) ∷ [])
+ended_steps sum t = grind (arith, append-nil, append_assoc)
 
 pub ended_count : (sum : SumPart) (t : Term) → sum_count (ended sum t) ≡ sum_part_count sum + term_count t
-ended_count NoSum t = omega arith
-ended_count (SumBefore s o) t = omega arith
+ended_count sum t = grind arith
 
 pub ended_fits : (room : ℕ) (sum : SumPart) (t : Term) → IsSumPart room sum → IsTerm room t → IsSum room (ended sum t)
-ended_fits room NoSum t h k = k
-ended_fits room (SumBefore s o) t h k = (h, k)
+ended_fits room sum t h k = grind arith
 
 -- the term that ends with a factor behind signs
 abbrev pub signed : List Sign → Factor → Factor
@@ -300,29 +259,15 @@ pub signed_steps : (signs : List Sign) (f : Factor)
     → postfix (factor_tree (signed signs f)) ≡ postfix (factor_tree f) ++ replicate (minuses signs) Negate
 signed_steps [] f = sym (append-nil (postfix (factor_tree f)))
 signed_steps (Plus ∷ signs) f = signed_steps signs f
-signed_steps (Minus ∷ signs) f =
-    ap (λ l. l ++ Negate ∷ []) (signed_steps signs f)
-    ∙ append_assoc (postfix (factor_tree f)) (replicate (minuses signs) Negate) (Negate ∷ [])
-    ∙ ap (λ l. postfix (factor_tree f) ++ l) (one_more (minuses signs) Negate)
-
-pub joined_text : (term : TermPart) (f : Factor) → term_text (joined term f) ≡ term_part_text term ++ factor_text f
-joined_text NoTerm f = refl
-joined_text (TermBefore t o) f = sym (append_assoc (term_text t) (cross_byte o ∷ []) (factor_text f))
+signed_steps (Minus ∷ signs) f = grind (arith, append_assoc, one_more, signed_steps signs f)
 
 pub joined_count : (term : TermPart) (f : Factor) → term_count (joined term f) ≡ term_part_count term + factor_count f
-joined_count NoTerm f = omega arith
-joined_count (TermBefore t o) f = omega arith
-
-pub joined_fits : (room : ℕ) (term : TermPart) (f : Factor) → IsTermPart room term → IsFactor room f
-    → IsTerm room (joined term f)
-joined_fits room NoTerm f h k = k
-joined_fits room (TermBefore t o) f h k = (h, k)
+joined_count term f = grind arith
 
 pub joined_steps : (term : TermPart) (f : Factor)
     → term_part_steps term ++ (postfix (factor_tree f) ++ waiting (term_part_operator term))
     ≡ postfix (term_tree (joined term f))
-joined_steps NoTerm f = append-nil (postfix (factor_tree f))
-joined_steps (TermBefore t o) f = refl
+joined_steps term f = grind (arith, append-nil)
 
 -- a whole operand
 pub operand_steps : (o s t f : List Step) (n : ℕ) (w : List Step)
@@ -334,33 +279,15 @@ pub operand_whole : (l : Opened) (ls : List Opened) (room budget : ℕ) (f : Fac
     (scan_of (outer_steps ls ++ (sum_part_steps l.sum ++ term_part_steps l.term) ++ postfix (factor_tree f))
     (level_at l) (levels_at ls) room budget)
     ≡ behind l.sum (joined l.term (signed l.signs f)) ls room budget
-operand_whole l ls room budget f =
-    ap (λ steps. scan_of steps (level_of (sum_part_operator l.sum) None 0) (levels_at ls) room budget)
-    (operand_steps (outer_steps ls) (sum_part_steps l.sum) (term_part_steps l.term) (postfix (factor_tree f))
-    (minuses l.signs) (waiting (term_part_operator l.term))
-    ∙ ap (λ x. outer_steps ls
-    ++ (sum_part_steps l.sum ++ (term_part_steps l.term ++ (x ++ waiting (term_part_operator l.term)))))
-    (sym (signed_steps l.signs f))
-    ∙ ap (λ x. outer_steps ls ++ (sum_part_steps l.sum ++ x)) (joined_steps l.term (signed l.signs f)))
+operand_whole l ls room budget f = grind (arith, operand_steps, signed_steps, joined_steps)
 
 pub operand_behind : (l : Opened) (ls : List Opened) (room budget : ℕ) (f : Factor) → IsOpened room l
     → AreOpened room ls → length ls + room ≡ 64 → IsFactor room f
     → outer_count ls + opened_count l + factor_count f + budget ≡ 1000
     → IsBehind l.sum (joined l.term (signed l.signs f)) ls room budget
-operand_behind l ls room budget f inner outer deep fits few = record {
-  sums = inner.sum;
-  terms = joined_fits room l.term (signed l.signs f) inner.term (signed_fits room l.signs f fits);
-  outer = outer;
-  deep = deep;
-  few = omega (arith, few, joined_count l.term (signed l.signs f), signed_count l.signs f);
-}
+operand_behind l ls room budget f inner outer deep fits few = grind (arith, signed_fits, joined_count, signed_count)
 
 pub operand_text : (l : Opened) (f : Factor) (rest : List ℕ)
     → sum_part_text l.sum ++ (term_text (joined l.term (signed l.signs f)) ++ rest)
     ≡ opened_text l ++ (factor_text f ++ rest)
-operand_text l f rest =
-    ap (λ x. sum_part_text l.sum ++ (x ++ rest))
-    (joined_text l.term (signed l.signs f) ∙ ap (λ x. term_part_text l.term ++ x) (signed_text l.signs f))
-    ∙ regroup (sum_part_text l.sum) (term_part_text l.term) (signs_text l.signs) (factor_text f) rest where
-      regroup : (a b c d e : List ℕ) → a ++ ((b ++ (c ++ d)) ++ e) ≡ (a ++ (b ++ c)) ++ (d ++ e)
-      regroup a b c d e = simp append_assoc
+operand_text l f rest = grind (arith, signed_text, append_assoc)

@@ -1,6 +1,5 @@
 pub mod WidthLemmas
 pub mod FaultLemmas
-pub mod QuotientLemmas
 pub mod FieldLemmas
 pub mod Evaluation
 pub mod FlatFields

@@ -1,11 +1,8 @@
 -- Reading from left to right, against the grammar.
-use Rattle.std.proofs.Common.{◌≡◌, ℕ, zero, suc, ◌+◌, ◌<◌, ◌-◌, Bool, true, false, cond, ◌==◌, ◌||◌}
-use Rattle.std.proofs.Common.{◌&&◌, List, [], ◌∷◌, ◌++◌, replicate, Option, Some, None, refl, ap, sym, ◌∙◌}
-use Rattle.std.proofs.Common.{append_assoc, append-nil, arith, take, one-add}
-use Rattle.std.specs.Prelude.{take_while, option_map}
-use Rattle.std.specs.Option.{option_and_then}
+use Rattle.std.proofs.Common.{◌≡◌, ℕ, zero, suc, ◌+◌, ◌-◌, Bool, true, false, cond, ◌==◌, ◌||◌, ◌&&◌, List, [], ◌∷◌, ◌++◌}
+use Rattle.std.proofs.Common.{replicate, Option, Some, None, refl, ap, sym, ◌∙◌, append_assoc, append-nil, arith, take, one-add}
+use Rattle.std.specs.Prelude.{take_while}
 use Rattle.std.specs.List.{list_all, prefix_len}
-use Rattle.std.proofs.lemmas.Bool.{le-ltb, ne_eqb}
 use Rattle.std.specs.Char.{is_ascii_digit}
 use Rattle.cam_macros.specs.declared.expression.Operator.{Operator}
 use Rattle.cam_macros.specs.declared.expression.Step.{Step}
@@ -18,13 +15,13 @@ use Rattle.cam_numbers.proofs.Written.{AreParts, read_whole, read_pointed, some_
 use Rattle.cam_macros.specs.Numbers.{number_written}
 use Rattle.cam_macros.specs.Tree.{Tree}
 use Rattle.cam_macros.specs.Postfix.{postfix}
-use Rattle.cam_macros.specs.Grammar.{Sign, Plus, Minus, Cross, Small, Large, Slash, Whole, Pointed, Sum, OneTerm}
+use Rattle.cam_macros.specs.Grammar.{Sign, Plus, Minus, Cross, Whole, Pointed, Sum, OneTerm}
 use Rattle.cam_macros.specs.Grammar.{Added, Term, OneFactor, Multiplied, Factor, Numeral, Dollar, Signed, Enclosed}
 use Rattle.cam_macros.specs.Grammar.{sign_byte, cross_byte, sum_text, term_text, factor_text, sum_count, term_count}
 use Rattle.cam_macros.specs.Grammar.{factor_count, AreDigits, IsNumber, IsVariable, IsSum, IsTerm, IsFactor}
 use Rattle.cam_macros.specs.Grammar.{sign_operator, cross_operator, sum_tree, term_tree, factor_tree, IsExpression}
 use Rattle.cam_macros.specs.Scanning.{Behind, fresh_level, goes_on, InNumber, InVariable, is_run_byte, level_of, mark_of}
-use Rattle.cam_macros.specs.Scanning.{number_of_run, operand_at, operator_at, scan, Scan, scan_of, scanned, variable_by}
+use Rattle.cam_macros.specs.Scanning.{number_of_run, operator_at, scan, Scan, scan_of, scanned}
 use Rattle.cam_macros.specs.Scanning.{variable_of, waiting, Wanted, with_operand, step_scanned}
 use Rattle.cam_macros.specs.Bytes.{closing, dollar, opening_parenthesis, decimal_point}
 
@@ -36,29 +33,16 @@ IsApart (b ∷ _) = is_run_byte b ≡ false
 -- behind a whole number or variable
 after_number : (s : Scan) (rest : List ℕ) → IsApart rest → scan InNumber s rest ≡ scan Behind s rest
 unfolding scan
-after_number s [] apart = refl
-after_number s (b ∷ rest) apart =
-    ap (λ v. goes_on (cond v (Some (InNumber, s)) (operator_at (mark_of b) s)) (λ status' s'. scan status' s' rest))
-    apart
+after_number s rest apart = grind arith
 
 or_left : (a b : Bool) → a || b ≡ false → a ≡ false
-or_left true b h = cc
-or_left false b h = refl
-
-after_variable : (s : Scan) (rest : List ℕ) → IsApart rest → scan InVariable s rest ≡ scan Behind s rest
-unfolding scan
-after_variable s [] apart = refl
-after_variable s (b ∷ rest) apart =
-    ap (λ v. goes_on (cond v (Some (InVariable, s)) (operator_at (mark_of b) s)) (λ status' s'. scan status' s' rest))
-    (or_left (is_ascii_digit b) (b == decimal_point) apart)
+or_left a b h = grind arith
 
 and_left : (a b : Bool) → a && b ≡ true → a ≡ true
-and_left true b h = refl
-and_left false b h = h
+and_left a b h = grind arith
 
 and_right : (a b : Bool) → a && b ≡ true → b ≡ true
-and_right true b h = h
-and_right false b h = cc
+and_right a b h = grind arith
 
 -- within a number, and within a variable
 in_number : (s : Scan) (run rest : List ℕ) → list_all is_run_byte run ≡ true
@@ -88,13 +72,10 @@ run_ends : (p : ℕ → Bool) (run rest : List ℕ) → list_all p run ≡ true
 run_ends p [] [] h apart = refl
 run_ends p [] (b ∷ rest) h apart = ap (λ v. take (cond v (1 + prefix_len p rest) 0) (b ∷ rest)) (apart b rest refl)
 run_ends p (b ∷ run) rest h apart =
-    ap (λ v. take (cond v (1 + prefix_len p (run ++ rest)) 0) (b ∷ (run ++ rest))) (and_left (p b) (list_all p run) h)
-    ∙ take_one (prefix_len p (run ++ rest)) b (run ++ rest)
-    ∙ ap (λ l. b ∷ l) (run_ends p run rest (and_right (p b) (list_all p run) h) apart)
+    grind (arith, and_left, take_one, and_right, run_ends p run rest (and_right (p b) (list_all p run) h) apart)
 
 apart_head : (rest : List ℕ) → IsApart rest → (b : ℕ) (bs : List ℕ) → rest ≡ b ∷ bs → is_run_byte b ≡ false
-apart_head [] apart b bs e = cc
-apart_head (c ∷ rest) apart b bs e = let same : c ≡ b = cc in ap is_run_byte (sym same) ∙ apart
+apart_head rest apart b bs e = grind arith
 
 run_numeric : (run rest : List ℕ) → list_all is_run_byte run ≡ true → IsApart rest
     → take_while is_run_byte (run ++ rest) ≡ run
@@ -102,39 +83,19 @@ run_numeric run rest h apart = run_ends is_run_byte run rest h (apart_head rest 
 
 run_digits : (run rest : List ℕ) → list_all is_ascii_digit run ≡ true → IsApart rest
     → take_while is_ascii_digit (run ++ rest) ≡ run
-run_digits run rest h apart =
-    run_ends is_ascii_digit run rest h
-    (λ b bs e. or_left (is_ascii_digit b) (b == decimal_point) (apart_head rest apart b bs e))
-
-mark_numeric : (b : ℕ) → is_run_byte b ≡ true → mark_of b ≡ Mark.Numeral
-mark_numeric b h = rw h refl
+run_digits run rest h apart = grind (arith, run_ends, or_left)
 
 number_read : (s : Scan) (b : ℕ) (run rest : List ℕ) (n : ℕ) → list_all is_run_byte (b ∷ run) ≡ true
     → number_of_run (b ∷ run) ≡ Some n → IsApart rest
     → scan Wanted s (b ∷ (run ++ rest)) ≡ scan Behind (step_scanned (Push n) s) rest
 unfolding scan
-number_read s b run rest n h e apart =
-    ap (λ m. goes_on (operand_at m s b (run ++ rest)) (λ status' s'. scan status' s' (run ++ rest)))
-    (mark_numeric b (and_left (is_run_byte b) (list_all is_run_byte run) h))
-    ∙ ap (λ l. goes_on (option_map (λ n. (InNumber, step_scanned (Push n) s)) (number_of_run (b ∷ l)))
-    (λ status' s'. scan status' s' (run ++ rest)))
-    (run_numeric run rest (and_right (is_run_byte b) (list_all is_run_byte run) h) apart)
-    ∙ ap (λ o. goes_on (option_map (λ n. (InNumber, step_scanned (Push n) s)) o)
-    (λ status' s'. scan status' s' (run ++ rest))) e
-    ∙ in_number (step_scanned (Push n) s) run rest (and_right (is_run_byte b) (list_all is_run_byte run) h)
-    ∙ after_number (step_scanned (Push n) s) rest apart
+number_read s b run rest n h e apart = grind (arith, and_left, run_numeric, and_right, in_number, after_number)
 
 variable_read : (s : Scan) (run rest : List ℕ) (n : ℕ) → list_all is_ascii_digit run ≡ true → variable_of run ≡ Some n
     → IsApart rest
     → scan Wanted s (dollar ∷ (run ++ rest)) ≡ scan Behind (step_scanned (Read n) s) rest
 unfolding scan
-variable_read s run rest n h e apart =
-    ap (λ l. goes_on (option_map (λ n. (InVariable, step_scanned (Read n) s)) (variable_of l))
-    (λ status' s'. scan status' s' (run ++ rest))) (run_digits run rest h apart)
-    ∙ ap (λ o. goes_on (option_map (λ n. (InVariable, step_scanned (Read n) s)) o)
-    (λ status' s'. scan status' s' (run ++ rest))) e
-    ∙ in_variable (step_scanned (Read n) s) run rest h
-    ∙ after_variable (step_scanned (Read n) s) rest apart
+variable_read s run rest n h e apart = grind (arith, run_digits, in_variable)
 
 -- single bytes
 
@@ -143,16 +104,13 @@ cross_step : (o : Cross) (steps : List Step) (sum : Option Operator) (outer : Li
     → scan Behind (scan_of steps (level_of sum None 0) outer room (suc left)) (cross_byte o ∷ rest)
     ≡ scan Wanted (scan_of steps (level_of sum (Some (cross_operator o)) 0) outer room left) rest
 unfolding scan
-cross_step Small steps sum outer room left rest = refl
-cross_step Large steps sum outer room left rest = refl
-cross_step Slash steps sum outer room left rest = refl
+cross_step o steps sum outer room left rest = grind arith
 
 sum_step : (o : Sign) (steps : List Step) (sum : Option Operator) (outer : List Level) (room left : ℕ) (rest : List ℕ)
     → scan Behind (scan_of steps (level_of sum None 0) outer room (suc left)) (sign_byte o ∷ rest)
     ≡ scan Wanted (scan_of (steps ++ waiting sum) (level_of (Some (sign_operator o)) None 0) outer room left) rest
 unfolding scan
-sum_step Plus steps sum outer room left rest = refl
-sum_step Minus steps sum outer room left rest = refl
+sum_step o steps sum outer room left rest = grind arith
 
 abbrev more_minuses : Sign → ℕ → ℕ
 more_minuses Plus n = n
@@ -163,8 +121,7 @@ sign_step : (o : Sign) (steps : List Step) (sum term : Option Operator) (minuses
     → scan Wanted (scan_of steps (level_of sum term minuses) outer room (suc left)) (sign_byte o ∷ rest)
     ≡ scan Wanted (scan_of steps (level_of sum term (more_minuses o minuses)) outer room left) rest
 unfolding scan
-sign_step Plus steps sum term minuses outer room left rest = refl
-sign_step Minus steps sum term minuses outer room left rest = refl
+sign_step o steps sum term minuses outer room left rest = grind arith
 
 open_step : (steps : List Step) (level : Level) (outer : List Level) (room left : ℕ) (rest : List ℕ)
     → scan Wanted (scan_of steps level outer (suc room) left) (opening_parenthesis ∷ rest)
@@ -179,13 +136,10 @@ unfolding scan
 close_step steps within level outer room left rest = refl
 
 cross_apart : (o : Cross) (rest : List ℕ) → IsApart (cross_byte o ∷ rest)
-cross_apart Small rest = refl
-cross_apart Large rest = refl
-cross_apart Slash rest = refl
+cross_apart o rest = grind arith
 
 sign_apart : (o : Sign) (rest : List ℕ) → IsApart (sign_byte o ∷ rest)
-sign_apart Plus rest = refl
-sign_apart Minus rest = refl
+sign_apart o rest = grind arith
 
 -- decimals
 
@@ -199,17 +153,11 @@ number_of_pointed : (whole decimals : List ℕ) → IsNumber whole decimals
     → number_of_run (whole ++ decimal_point ∷ decimals) ≡ Some (number_written whole decimals)
 number_of_pointed whole decimals h = read_pointed whole decimals (are_parts whole decimals h)
 
-variable_at : (n : ℕ) → 0 < n → n < 10000 → variable_by n ≡ Some n
-variable_at n some small = rw (ne_eqb n 0 (λ e. absurd (omega (arith, some, e))), le-ltb 9999 n (omega (arith, small))) refl
-
 pub variable_is : (digits : List ℕ) → IsVariable digits → variable_of digits ≡ Some (value_of digits)
-variable_is digits h =
-    ap (option_and_then variable_by) (natural-digits digits h.all (some_digits digits h.some))
-    ∙ variable_at (value_of digits) h.some h.small
+variable_is digits h = grind (arith, natural-digits, some_digits)
 
 or_true : (a b : Bool) → a ≡ true → a || b ≡ true
-or_true true b h = refl
-or_true false b h = cc
+or_true a b h = grind arith
 
 digits_numeric : (digits : List ℕ) → AreDigits digits → list_all is_run_byte digits ≡ true
 digits_numeric [] h = refl
@@ -229,9 +177,7 @@ pointed_numeric (b ∷ whole) decimals h k =
 whole_read : (s : Scan) (whole rest : List ℕ) → IsNumber whole [] → IsApart rest
     → scan Wanted s (whole ++ rest) ≡ scan Behind (step_scanned (Push (number_written whole [])) s) rest
 whole_read s [] rest h apart = absurd (omega (arith, h.some))
-whole_read s (b ∷ whole) rest h apart =
-    number_read s b whole rest (number_written (b ∷ whole) []) (digits_numeric (b ∷ whole) h.before)
-    (number_of_whole (b ∷ whole) h) apart
+whole_read s (b ∷ whole) rest h apart = grind (arith, number_read, digits_numeric, number_of_whole)
 
 pointed_read : (s : Scan) (whole decimals rest : List ℕ) → IsNumber whole decimals → IsApart rest
     → scan Wanted s ((whole ++ decimal_point ∷ decimals) ++ rest)
@@ -253,8 +199,7 @@ last (OneTerm t) = None
 last (Added s o t) = Some (sign_operator o)
 
 front_last : (s : Sum) → front s ++ waiting (last s) ≡ postfix (sum_tree s)
-front_last (OneTerm t) = append-nil (postfix (term_tree t))
-front_last (Added s o t) = append_assoc (postfix (sum_tree s)) (postfix (term_tree t)) (Apply (sign_operator o) ∷ [])
+front_last s = grind (arith, append-nil, append_assoc)
 
 -- the same scan at other steps, and before another count or text
 other_steps : (a b : List Step) (level : Level) (outer : List Level) (room left : ℕ) (rest : List ℕ) → a ≡ b
@@ -263,9 +208,7 @@ other_steps a b level outer room left rest e = ap (λ l. scan Behind (scan_of l 
 
 other_text : (steps : List Step) (level : Level) (outer : List Level) (room m n : ℕ) (a b : List ℕ) → m ≡ n → a ≡ b
     → scan Wanted (scan_of steps level outer room m) a ≡ scan Wanted (scan_of steps level outer room n) b
-other_text steps level outer room m n a b e f =
-    ap (λ k. scan Wanted (scan_of steps level outer room k) a) e
-    ∙ ap (λ l. scan Wanted (scan_of steps level outer room n) l) f
+other_text steps level outer room m n a b e f = grind arith
 
 product_steps : (steps t f : List Step) (o : Operator)
     → steps ++ t ++ f ++ [] ++ Apply o ∷ [] ≡ steps ++ (t ++ (f ++ Apply o ∷ []))
@@ -273,8 +216,7 @@ product_steps steps t f o = simp (append_assoc, append-nil)
 
 sum_steps : (steps e t : List Step) (last : Option Operator) (whole : List Step) → e ++ waiting last ≡ whole
     → steps ++ e ++ waiting last ++ t ≡ steps ++ (whole ++ t)
-sum_steps steps e t last whole h =
-    ap (λ l. l ++ t) (append_assoc steps e (waiting last) ∙ ap (λ l. steps ++ l) h) ∙ append_assoc steps whole t
+sum_steps steps e t last whole h = grind (arith, append_assoc)
 
 minus_steps : (steps f : List Step) (minuses : ℕ) (term : List Step)
     → steps ++ f ++ replicate (suc minuses) Negate ++ term
@@ -285,8 +227,7 @@ closed_steps : (steps e : List Step) (last : Option Operator) (whole : List Step
     → e ++ waiting last ≡ whole
     → steps ++ e ++ waiting last ++ replicate minuses Negate ++ term
     ≡ steps ++ whole ++ replicate minuses Negate ++ term
-closed_steps steps e last whole minuses term h =
-    ap (λ l. l ++ replicate minuses Negate ++ term) (append_assoc steps e (waiting last) ∙ ap (λ l. steps ++ l) h)
+closed_steps steps e last whole minuses term h = grind (arith, append_assoc)
 
 mutual
   sum_read : (e : Sum) (room : ℕ) (steps : List Step) (outer : List Level) (left : ℕ) (rest : List ℕ) → IsSum room e

@@ -1,5 +1,5 @@
 -- Points and outlines, field by field.
-use Rattle.std.proofs.Common.{◌≡◌, ℕ, zero, suc, ◌+◌, ◌-◌, ◌*◌, ◌<◌, ◌≤◌, Bool, cond, List, [], ◌∷◌, ◌++◌, length}
+use Rattle.std.proofs.Common.{◌≡◌, ℕ, zero, suc, ◌+◌, ◌-◌, ◌*◌, ◌<◌, ◌≤◌, Bool, List, [], ◌∷◌, ◌++◌, length}
 use Rattle.std.proofs.Common.{take, drop, Result, Ok, Err, refl, ap, sym, ◌∙◌, arith, length-drop, append-nil}
 use Rattle.std.proofs.lemmas.List.{take_all}
 use Rattle.std.proofs.lemmas.Bool.{lt-ltb, le-ltb}
@@ -36,30 +36,11 @@ drop-numbers (suc n) (v ∷ fields) = drop-numbers n fields
 
 pub outline_few : (unit : FileUnit) (paint : Bool) (count : ℕ) (fields : List Fixed) → length fields < 2 * count + 2
     → outline_through unit paint count (numbers fields) ≡ Err Malformed
-outline_few unit paint count fields h =
-    ap (λ b. cond b (Err Malformed)
-    (rotation_field (drop (2 * count + 2) (numbers fields))
-    >>= λ turn. outline_points unit turn (take (2 * count) (numbers fields))
-    >>= λ points. Ok (record { paint = paint; shape = Outline points })))
-    (lt-ltb (length (numbers fields)) (2 * count + 2) (omega (arith, length-numbers fields)))
+outline_few unit paint count fields h = grind (arith, lt-ltb, length-numbers)
 
 pub outline_long : (unit : FileUnit) (paint : Bool) (count : ℕ) (fields : List Fixed) → 2 * count + 2 ≤ length fields
     → outline_through unit paint count (numbers fields)
     ≡ (rotation_field (numbers (take (length fields - (2 * count + 2)) (drop (2 * count + 2) fields)))
     >>= λ turn. outline_points unit turn (numbers (take (2 * count) fields))
     >>= λ points. Ok (record { paint = paint; shape = Outline points }))
-outline_long unit paint count fields h =
-    ap (λ b. cond b (Err Malformed)
-    (rotation_field (drop (2 * count + 2) (numbers fields))
-    >>= λ turn. outline_points unit turn (take (2 * count) (numbers fields))
-    >>= λ points. Ok (record { paint = paint; shape = Outline points })))
-    (le-ltb (length (numbers fields)) (2 * count + 2) (omega (arith, length-numbers fields)))
-    ∙ ap (λ l. rotation_field l >>= λ turn. outline_points unit turn (take (2 * count) (numbers fields))
-    >>= λ points. Ok (record { paint = paint; shape = Outline points }))
-    (drop-numbers (2 * count + 2) fields
-    ∙ ap numbers
-    (sym (take_all (length fields - (2 * count + 2)) (drop (2 * count + 2) fields)
-    (omega (arith, length-drop (2 * count + 2) fields)))))
-    ∙ ap (λ l. rotation_field (numbers (take (length fields - (2 * count + 2)) (drop (2 * count + 2) fields)))
-    >>= λ turn. outline_points unit turn l >>= λ points. Ok (record { paint = paint; shape = Outline points }))
-    (take-numbers (2 * count) fields)
+outline_long unit paint count fields h = grind (arith, le-ltb, length-numbers, drop-numbers, take_all, length-drop, take-numbers)

@@ -13,8 +13,7 @@ use Rattle.cam_macros.specs.declared.fault.MacroFault.TheVariants.{Malformed}
 use Rattle.cam_macros.specs.Bytes.{comma_sign, dollar, equals}
 use Rattle.cam_macros.specs.Tree.{Tree}
 use Rattle.cam_macros.specs.Grammar.{IsExpression}
-use Rattle.cam_macros.specs.Reading.{AreExpressions, IsPart, AreParts, pieces, first, others, parts_spoken}
-use Rattle.cam_macros.specs.Reading.{is_macro_name}
+use Rattle.cam_macros.specs.Reading.{AreExpressions, IsPart, AreParts, pieces, first, others, parts_spoken, is_macro_name}
 use Rattle.cam_macros.specs.Postfix.{tree_of}
 use Rattle.cam_macros.specs.Scanning.{scanned, variable_of}
 use Rattle.cam_macros.specs.Parsing.{with_both, all_read, expression_read, assignment_read, primitive_by}
@@ -24,7 +23,7 @@ use Rattle.cam_macros.proofs.ExpressionLemmas.{tree_is}
 use Rattle.cam_macros.proofs.Machine as machine
 use Rattle.cam_macros.proofs.PartLemmas.{is_assignment, no_equals, no_variable, no_value, dollar_part, is_primitive}
 use Rattle.cam_macros.proofs.PartLemmas.{no_code, no_fields, other_part, IsNoDollar}
-use Rattle.cam_macros.proofs.ReadingLemmas.{head_read, tail_read, head_part, tail_part}
+use Rattle.cam_macros.proofs.ReadingLemmas.{head_read, tail_read}
 use Rattle.cam_numbers.specs.Numbers.{natural, value_limit}
 
 -- the answer is what the relation says of the text, or it says nothing
@@ -118,22 +117,12 @@ assignment_answers behind = go (nat_lt (position_or_len (λ b. b == equals) behi
 -- ---- parts
 
 part_answers : (piece : List ℕ) → Answers IsPart piece (part_read piece)
-part_answers [] = primitive_answers [] tt
-part_answers (b ∷ bs) = go (b == dollar) refl
-  where
-    go : (v : Bool) → (b == dollar) ≡ v
-        → Answers IsPart (b ∷ bs) (if v then assignment_read bs else primitive_read (b ∷ bs))
-    go true e =
-        subst (λ c. Answers IsPart (c ∷ bs) (assignment_read bs)) (sym (eqb-true b dollar e)) (assignment_answers bs)
-    go false e = primitive_answers (b ∷ bs) (λ same. cc (eq-eqb b dollar same, e))
+part_answers piece = grind (arith, primitive_answers, eqb-true, assignment_answers, eq-eqb)
 
 one_part_more : (piece : List ℕ) (others : List (List ℕ)) (o : Option Part) (os : Option (List Part))
     → Answers IsPart piece o → Answers AreParts others os
     → Answers AreParts (piece ∷ others) (with_both (λ y ys. y ∷ ys) o os)
-one_part_more piece others None os h k = λ parts all. let found = head_part piece others parts all in h found.0 found.1
-one_part_more piece others (Some part) None h k =
-    λ parts all. let found = tail_part piece others parts all in k found.0 found.1
-one_part_more piece others (Some part) (Some parts) h k = (h, k)
+one_part_more piece others o os h k = grind arith
 
 parts_answer : (pieces : List (List ℕ)) → Answers AreParts pieces (all_read part_read pieces)
 parts_answer [] = tt

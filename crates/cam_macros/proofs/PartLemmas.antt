@@ -1,13 +1,12 @@
 -- Parts by their first pieces.
-use Rattle.std.proofs.Common.{◌≡◌, ℕ, min, Bool, true, false, cond, eqb, ◌==◌, ◌&&◌, List, [], ◌∷◌, ◌++◌, length, Some, Option}
+use Rattle.std.proofs.Common.{◌≡◌, ℕ, min, Bool, true, false, eqb, ◌==◌, ◌&&◌, List, [], ◌∷◌, ◌++◌, Some}
 use Rattle.std.proofs.Common.{None, refl, ap, sym, subst, ◌∙◌, arith}
-use Rattle.std.specs.List.{slice_split, onto_first, list_all, join_with_byte}
+use Rattle.std.specs.List.{slice_split, list_all, join_with_byte}
 use Rattle.std.specs.Char.{is_ascii_digit}
 use Rattle.std.specs.Prelude.{option_map}
 use Rattle.std.proofs.lemmas.List.{nil_from_length}
 use Rattle.std.proofs.lemmas.Bool.{ne_eqb}
 use Rattle.std.proofs.lemmas.List.Splits.{join_with_byte-slice_split}
-use Rattle.cam_macros.specs.declared.part.Part.TheVariants.{Assignment, Primitive}
 use Rattle.cam_macros.specs.declared.fault.MacroFault.{MacroFault}
 use Rattle.cam_macros.specs.Tree.{Tree}
 use Rattle.cam_numbers.specs.Numbers.{value_of, natural, value_limit}
@@ -38,28 +37,27 @@ no_equals_sign : (b : ℕ) → is_ascii_digit b ≡ true → eqb b equals ≡ fa
 no_equals_sign b h = ne_eqb b equals (λ e. let wrong : false ≡ true = subst (λ c. is_ascii_digit c ≡ true) e h in cc)
 
 both_left : (a b : Bool) → a && b ≡ true → a ≡ true
-both_left true b h = refl
-both_left false b h = h
+both_left a b h = grind arith
 
 both_right : (a b : Bool) → a && b ≡ true → b ≡ true
-both_right true b h = h
-both_right false b h = cc
+both_right a b h = grind arith
 
 digits_first : (digits rest : List ℕ) → AreDigits digits
     → cut_at equals (digits ++ equals ∷ rest) ≡ digits ∷ cut_at equals rest
 digits_first [] rest h = refl
 digits_first (b ∷ digits) rest h =
-    ap (λ v. cond v ([] ∷ cut_at equals (digits ++ equals ∷ rest))
-    (onto_first b (cut_at equals (digits ++ equals ∷ rest))))
-    (no_equals_sign b (both_left (is_ascii_digit b) (list_all is_ascii_digit digits) h))
-    ∙ ap (onto_first b) (digits_first digits rest (both_right (is_ascii_digit b) (list_all is_ascii_digit digits) h))
+    grind (
+      arith,
+      no_equals_sign,
+      both_left,
+      both_right,
+      digits_first digits rest (both_right (is_ascii_digit b) (list_all is_ascii_digit digits) h),
+    )
 
 -- the pieces of an assignment are those that it tells
 its_pieces : (behind : List ℕ) (variable : ℕ) (value : Tree) (h : IsAssignment (dollar ∷ behind) variable value)
     → cut_at equals behind ≡ h.digits ∷ cut_at equals h.text
-its_pieces behind variable value h =
-    let same : behind ≡ h.digits ++ equals ∷ h.text = cc (h.written) in
-    ap (cut_at equals) same ∙ digits_first h.digits h.text h.number.all
+its_pieces behind variable value h = grind (arith, digits_first)
 
 pub no_equals : (behind digits : List ℕ) → cut_at equals behind ≡ digits ∷ [] → (variable : ℕ) (value : Tree)
     → IsAssignment (dollar ∷ behind) variable value → ⊥
@@ -97,106 +95,45 @@ no_value fault behind digits text e f =
 pub is_assignment : (behind digits text : List ℕ) (variable : ℕ) (value : Tree)
     → cut_at equals behind ≡ digits ∷ cut_at equals text → variable_of digits ≡ Some variable
     → IsExpression text value → IsAssignment (dollar ∷ behind) variable value
-is_assignment behind digits text variable value e some reads =
-    let found = variable_found digits variable some in
-    record {
-      digits = digits;
-      text = text;
-      written = ap (λ l. dollar ∷ l) (text_again equals behind digits text e);
-      number = found.0;
-      same = sym found.1;
-      reads = reads;
-    }
+is_assignment behind digits text variable value e some reads = grind (arith, variable_found, text_again)
 
 -- primitives
 
 -- the code that digits write, told up to the limit
 code_found : (digits : List ℕ) (code : ℕ) → option_map (min value_limit) (natural digits) ≡ Some code
     → (digits ≡ [] → ⊥) × AreDigits digits × (min value_limit (value_of digits) ≡ code)
-code_found digits code e = go (natural digits) refl e
-  where
-    go : (o : Option ℕ) → natural digits ≡ o → option_map (min value_limit) o ≡ Some code
-        → (digits ≡ [] → ⊥) × AreDigits digits × (min value_limit (value_of digits) ≡ code)
-    go None is e = cc
-    go (Some n) is e =
-        let found = natural_found digits n is in
-        let same : min value_limit n ≡ code = cc in
-        ((λ none. found.some (ap length none)), found.digits, ap (min value_limit) found.value ∙ same)
+code_found digits code e = grind (arith, natural_found)
 
 pub is_primitive : (piece digits : List ℕ) (texts : List (List ℕ)) (code capped : ℕ) (fields : List Tree)
     → cut_at comma_sign piece ≡ digits ∷ texts → Some code ≡ option_map (min value_limit) (natural digits)
     → capped ≡ min code 10000 → AreExpressions texts fields → IsPrimitive piece capped fields
-is_primitive piece digits texts code capped fields e number same reads =
-    let found = code_found digits code (sym number) in
-    record {
-      digits = digits;
-      texts = texts;
-      written = e;
-      some = found.0;
-      number = found.1;
-      same = omega (arith, found.2, same);
-      reads = reads;
-    }
+is_primitive piece digits texts code capped fields e number same reads = grind (arith, code_found)
 
 pub no_code : (piece digits : List ℕ) (texts : List (List ℕ)) → cut_at comma_sign piece ≡ digits ∷ texts
     → None ≡ option_map (min value_limit) (natural digits)
     → (code : ℕ) (fields : List Tree) → IsPrimitive piece code fields → ⊥
-no_code piece digits texts e none code fields h =
-    let same : h.digits ≡ digits = cc (h.written) in
-    let there : natural h.digits ≡ Some (value_of h.digits) =
-    natural-digits h.digits h.number (λ empty. h.some (nil_from_length h.digits empty)) in
-    let found : None ≡ Some (min value_limit (value_of h.digits)) =
-    none ∙ ap (λ l. option_map (min value_limit) (natural l)) (sym same) ∙ ap (option_map (min value_limit)) there in
-    cc
+no_code piece digits texts e none code fields h = grind (arith, natural-digits, nil_from_length)
 
 pub no_fields : (fault : MacroFault) (piece digits : List ℕ) (texts : List (List ℕ))
     → cut_at comma_sign piece ≡ digits ∷ texts → IsMalformed fault (Nothing (AreExpressions texts))
     → IsMalformed fault ((code : ℕ) → Nothing (IsPrimitive piece code))
-no_fields fault piece digits texts e f =
-    malformed_also fault
-    (λ none code fields h.
-    let same : h.texts ≡ texts = cc (h.written) in
-    none fields (subst (λ l. AreExpressions l fields) same h.reads))
-    f
+no_fields fault piece digits texts e f = grind (arith, malformed_also)
 
 -- a dollar first, or not
-
-dollar_no_digits : (behind digits : List ℕ) (texts : List (List ℕ)) → cut_at comma_sign (dollar ∷ behind) ≡ digits ∷ texts
-    → AreDigits digits → ⊥
-dollar_no_digits behind digits texts e all =
-    let found = first_piece (λ b. b == comma_sign) behind in
-    let first : digits ≡ dollar ∷ found.0 = cc (ap (onto_first dollar) found.2) in
-    cc (ap (list_all is_ascii_digit) first)
 
 pub dollar_part : (fault : MacroFault) (behind : List ℕ)
     → IsMalformed fault ((variable : ℕ) → Nothing (IsAssignment (dollar ∷ behind) variable))
     → IsMalformed fault (Nothing (IsPart (dollar ∷ behind)))
-dollar_part fault behind f =
-    malformed_also fault
-    (λ none part. elim part as (λ p. IsPart (dollar ∷ behind) p → ⊥) [
-      | Assignment variable value ↦ λ h. none variable value h
-      | Primitive code fields ↦ λ h. dollar_no_digits behind h.digits h.texts h.written h.number
-    ])
-    f
+dollar_part fault behind f = grind (arith, malformed_also)
 
 -- what does not begin with a dollar
 abbrev pub IsNoDollar : List ℕ → Type 0
 IsNoDollar [] = Unit {0}
 IsNoDollar (b ∷ _) = b ≡ dollar → ⊥
 
-no_dollar : (piece : List ℕ) (variable : ℕ) (value : Tree) → IsNoDollar piece → IsAssignment piece variable value → ⊥
-no_dollar [] variable value none h = cc (h.written)
-no_dollar (b ∷ piece) variable value none h = none (cc (h.written))
-
 pub other_part : (fault : MacroFault) (piece : List ℕ) → IsNoDollar piece
     → IsMalformed fault ((code : ℕ) → Nothing (IsPrimitive piece code)) → IsMalformed fault (Nothing (IsPart piece))
-other_part fault piece dollarless f =
-    malformed_also fault
-    (λ none part. elim part as (λ p. IsPart piece p → ⊥) [
-      | Assignment variable value ↦ λ h. no_dollar piece variable value dollarless h
-      | Primitive code fields ↦ λ h. none code fields h
-    ])
-    f
+other_part fault piece dollarless f = grind (arith, malformed_also)
 
 -- two readings of a piece as an assignment tell the same digits and the same text
 pub same_assignment : (piece : List ℕ) (m n : ℕ) (a b : Tree) (p : IsAssignment piece m a)
@@ -214,6 +151,4 @@ same_assignment piece m n a b p q =
 
 pub dollar_or_not : (piece : List ℕ) (m : ℕ) (a : Tree) (code : ℕ) (fields : List Tree) → IsAssignment piece m a
     → IsPrimitive piece code fields → ⊥
-dollar_or_not piece m a code fields p q =
-    dollar_no_digits (p.digits ++ equals ∷ p.text) q.digits q.texts (ap (cut_at comma_sign) (sym p.written) ∙ q.written)
-    q.number
+dollar_or_not piece m a code fields p q = grind arith

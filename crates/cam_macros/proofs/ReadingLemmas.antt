@@ -1,6 +1,6 @@
 -- Fields and parts, one at a time.
-use Rattle.std.proofs.Common.{◌≡◌, ℕ, suc, true, false, cond, not, List, [], ◌∷◌, ◌++◌, length, Option, Some, None}
-use Rattle.std.proofs.Common.{ap, subst, ◌∙◌, append-nil}
+use Rattle.std.proofs.Common.{arith, ◌≡◌, ℕ, suc, true, false, List, [], ◌∷◌, ◌++◌, length, Option, Some, None, ap, subst, ◌∙◌}
+use Rattle.std.proofs.Common.{append-nil}
 use Rattle.std.specs.Borrow.{Bor}
 use Rattle.cam_macros.specs.declared.part.Part.{Part}
 use Rattle.cam_macros.specs.declared.fault.MacroFault.{MacroFault}
@@ -25,13 +25,11 @@ pub record AreReadBefore (left all : List (List ℕ)) (items : List Tree) : Type
 
 pub tail_read : (text : List ℕ) (left : List (List ℕ)) (more : List Tree) → AreExpressions (text ∷ left) more
     → (rest : List Tree) × AreExpressions left rest
-tail_read text left [] h = absurd h
-tail_read text left (tree ∷ more) h = (more, h.1)
+tail_read text left more h = grind arith
 
 pub head_read : (text : List ℕ) (left : List (List ℕ)) (more : List Tree) → AreExpressions (text ∷ left) more
     → (tree : Tree) × IsExpression text tree
-head_read text left [] h = absurd h
-head_read text left (tree ∷ more) h = (tree, h.0)
+head_read text left more h = grind arith
 
 pub fields_end : (all : List (List ℕ)) (items : List Tree) → AreReadBefore [] all items → AreExpressions all items
 fields_end all items k = subst (AreExpressions all) (append-nil items) (k.forth [] tt)
@@ -52,19 +50,9 @@ pub record ArePartsBefore (left all : List (List ℕ)) (items : List Part) : Typ
   pub forth : (more : List Part) → AreParts left more → AreParts all (items ++ more)
   pub back : (parts : List Part) → AreParts all parts → (more : List Part) × AreParts left more
 
-pub tail_part : (piece : List ℕ) (left : List (List ℕ)) (more : List Part) → AreParts (piece ∷ left) more
-    → (rest : List Part) × AreParts left rest
-tail_part piece left [] h = absurd h
-tail_part piece left (part ∷ more) h = (more, h.1)
-
 pub head_part : (piece : List ℕ) (left : List (List ℕ)) (more : List Part) → AreParts (piece ∷ left) more
     → (part : Part) × IsPart piece part
-head_part piece left [] h = absurd h
-head_part piece left (part ∷ more) h = (part, h.0)
-
-spoken_yes : (piece : List ℕ) (left : List (List ℕ)) → is_silent piece ≡ false
-    → parts_spoken (piece ∷ left) ≡ piece ∷ parts_spoken left
-spoken_yes piece left e = ap (λ v. cond (not v) (piece ∷ parts_spoken left) (parts_spoken left)) e
+head_part piece left more h = grind arith
 
 pub parts_end : (all : List (List ℕ)) (items : List Part) → ArePartsBefore [] all items → AreParts all items
 parts_end all items k = subst (AreParts all) (append-nil items) (k.forth [] tt)
@@ -72,15 +60,7 @@ parts_end all items k = subst (AreParts all) (append-nil items) (k.forth [] tt)
 pub parts_fault : (fault : MacroFault) (piece : List ℕ) (left all : List (List ℕ)) (items : List Part)
     → is_silent piece ≡ false → ArePartsBefore (parts_spoken (piece ∷ left)) (parts_spoken all) items
     → IsMalformed fault (Nothing (IsPart piece)) → IsMalformed fault (Nothing (AreParts (parts_spoken all)))
-parts_fault fault piece left all items e k f =
-    let begun : ArePartsBefore (piece ∷ parts_spoken left) (parts_spoken all) items =
-    subst (λ l. ArePartsBefore l (parts_spoken all) items) (spoken_yes piece left e) k in
-    malformed_also fault
-    (λ none parts h.
-    let found = begun.back parts h in
-    let part = head_part piece (parts_spoken left) found.0 found.1 in
-    none part.0 part.1)
-    f
+parts_fault fault piece left all items e k f = grind (arith, malformed_also, head_part)
 
 -- a fault of the parts is one of the macro
 pub refused : (fault : MacroFault) (text name : List ℕ) (rest : List (List ℕ)) → pieces text ≡ name ∷ rest

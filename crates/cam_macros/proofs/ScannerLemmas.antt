@@ -29,16 +29,8 @@ few_less budget less (l ∷ outer) k h = (omega (arith, h.0), few_less budget le
 -- the counts once a pair is open, and once it is closed
 pub counts_push : (level fresh : Level) (outer : List Level) (room less budget : ℕ) → less + 1 ≡ room
     → fresh.minuses ≡ 0 → IsScanner level outer room budget → IsScanner fresh (outer ++ level ∷ []) less budget
-counts_push level fresh outer room less budget e z h = record {
-  deep = omega (arith, h.deep, length-append outer (level ∷ []));
-  few = omega (arith, h.few);
-  each = few_push budget outer level h.each h.few;
-}
+counts_push level fresh outer room less budget e z h = grind (arith, length-append, few_push)
 
 pub counts_pop : (within level : Level) (outer : List Level) (room budget : ℕ)
     → IsScanner within (outer ++ level ∷ []) room budget → IsScanner level outer (room + 1) budget
-counts_pop within level outer room budget h = record {
-  deep = omega (arith, h.deep, length-append outer (level ∷ []));
-  few = few_last budget outer level h.each;
-  each = few_front budget outer level h.each;
-}
+counts_pop within level outer room budget h = grind (arith, length-append, few_last, few_front)

@@ -1,7 +1,7 @@
 -- What is read from left to right is in the grammar.
-use Rattle.std.proofs.Common.{◌≡◌, ℕ, zero, suc, ◌+◌, ◌≤◌, cond, length, ◌⊎◌, inl, inr, List, [], ◌∷◌, ◌++◌, take}
-use Rattle.std.proofs.Common.{drop, Option, Some, None, refl, ap, sym, ◌∙◌, subst, append_assoc, append-nil, arith}
-use Rattle.std.proofs.Common.{length-drop, length-append}
+use Rattle.std.proofs.lemmas.Grind.{common_steps}
+use Rattle.std.proofs.Common.{◌≡◌, ℕ, zero, suc, ◌+◌, ◌≤◌, cond, length, ◌⊎◌, inl, inr, List, [], ◌∷◌, ◌++◌, take, drop, Option}
+use Rattle.std.proofs.Common.{Some, None, refl, ap, sym, ◌∙◌, subst, append_assoc, append-nil, arith, length-drop, length-append}
 use Rattle.std.proofs.lemmas.List.{take-append-drop}
 use Rattle.std.specs.Prelude.{option_map}
 use Rattle.std.specs.List.{prefix_len}
@@ -21,24 +21,21 @@ use Rattle.cam_macros.specs.Scanning.{with_operand, step_scanned}
 use Rattle.cam_macros.specs.Machinery.Scanning.{prefixed, scan_behind, scan_wanted}
 use Rattle.cam_macros.proofs.Marks.{numeric_from_mark, numeral_is, dollar_is, prefix_then, operator_then}
 use Rattle.cam_macros.proofs.Marks.{none_wanted, finished_is}
-use Rattle.cam_macros.proofs.Levels.{leaf_of, variable_found, IsMarked, marked, SumPart, NoSum, SumBefore, NoTerm}
-use Rattle.cam_macros.proofs.Levels.{TermBefore, Opened, opened, sum_part_text, term_part_text, signs_text}
-use Rattle.cam_macros.proofs.Levels.{opened_text, outer_text, sum_part_steps, term_part_steps, outer_steps}
-use Rattle.cam_macros.proofs.Levels.{sum_part_operator, term_part_operator, minuses, level_at, levels_at}
-use Rattle.cam_macros.proofs.Levels.{opened_count, outer_count, IsOpened, AreOpened, before, behind, IsBefore}
-use Rattle.cam_macros.proofs.Levels.{IsBehind, Found, Reads, ended, ended_text, ended_steps, ended_count}
-use Rattle.cam_macros.proofs.Levels.{ended_fits, signed, joined, operand_whole, operand_behind, operand_text}
+use Rattle.cam_macros.proofs.Levels.{leaf_of, variable_found, IsMarked, marked, SumPart, NoSum, SumBefore, NoTerm, TermBefore}
+use Rattle.cam_macros.proofs.Levels.{Opened, opened, sum_part_text, term_part_text, signs_text, opened_text, outer_text}
+use Rattle.cam_macros.proofs.Levels.{sum_part_steps, term_part_steps, outer_steps, sum_part_operator, term_part_operator, minuses}
+use Rattle.cam_macros.proofs.Levels.{level_at, levels_at, opened_count, outer_count, IsOpened, AreOpened, before, behind}
+use Rattle.cam_macros.proofs.Levels.{IsBefore, IsBehind, Found, Reads, ended, ended_text, ended_steps, ended_count, ended_fits}
+use Rattle.cam_macros.proofs.Levels.{signed, joined, operand_whole, operand_behind, operand_text}
 use Rattle.cam_macros.specs.Bytes.{closing, dollar, large_x, minus_sign, opening_parenthesis, plus, slash, small_x}
 
 found_at : (a b : List ℕ) (out : List Step) → a ≡ b → Found a out → Found b out
-found_at a b out e h =
-    record { sum = h.sum; written = sym e ∙ h.written; leaves = h.leaves; short = h.short; same = h.same }
+found_at a b out e h = grind arith
 
 behind_some : (o : Option ℕ) (f : ℕ → Scan) (rest : List ℕ) (out : List Step)
     → scan_behind (option_map f o) rest ≡ Some out
     → (v : ℕ) × (o ≡ Some v) × (scan Behind (f v) rest ≡ Some out)
-behind_some None f rest out e = cc
-behind_some (Some v) f rest out e = (v, refl, e)
+behind_some o f rest out e = grind arith
 
 -- a factor has been read
 factor_found : (n : ℕ) (ih : Reads n) (l : Opened) (ls : List Opened) (room budget : ℕ) (f : Factor)
@@ -58,12 +55,10 @@ factor_found n ih l ls room budget f steps rest out inner outer deep fits few sa
     ∙ e))
 
 leaf_fits : (room : ℕ) (d : Decimal) → IsDecimal d → IsFactor room (Numeral d)
-leaf_fits zero d h = h
-leaf_fits (suc room) d h = h
+leaf_fits room d h = grind arith
 
 variable_fits : (room : ℕ) (digits : List ℕ) → IsVariable digits → IsFactor room (Dollar digits)
-variable_fits zero digits h = h
-variable_fits (suc room) digits h = h
+variable_fits room digits h = grind arith
 
 numeral_found : (n : ℕ) (ih : Reads n) (b : ℕ) (bs : List ℕ) (l : Opened) (ls : List Opened) (room budget : ℕ)
     (out : List Step)
@@ -111,12 +106,7 @@ dollar_found n ih b bs l ls room budget out h k m byte e =
 
 opened_before : (l : Opened) (ls : List Opened) (room budget : ℕ) → IsBefore l ls (suc room) budget
     → IsBefore (opened NoSum NoTerm []) (l ∷ ls) room budget
-opened_before l ls room budget k = record {
-  inner = record { sum = tt; term = tt };
-  outer = (k.inner, k.outer);
-  deep = omega (arith, k.deep);
-  few = omega (arith, k.few);
-}
+opened_before l ls room budget k = grind arith
 
 open_text : (o p rest : List ℕ) → (o ++ (p ++ opening_parenthesis ∷ [])) ++ rest ≡ o ++ (p ++ opening_parenthesis ∷ rest)
 open_text o p rest = simp append_assoc
@@ -153,12 +143,7 @@ with_sign l o = opened l.sum l.term (l.signs ++ o ∷ [])
 
 sign_before : (l : Opened) (ls : List Opened) (room budget : ℕ) (o : Sign) → IsBefore l ls room (suc budget)
     → IsBefore (with_sign l o) ls room budget
-sign_before l ls room budget o k = record {
-  inner = record { sum = k.inner.sum; term = k.inner.term };
-  outer = k.outer;
-  deep = k.deep;
-  few = omega (arith, k.few, length-append l.signs (o ∷ []));
-}
+sign_before l ls room budget o k = grind (arith, length-append)
 
 sign_text : (o s t g : List ℕ) (c b : ℕ) (bs : List ℕ) → b ≡ c
     → o ++ ((s ++ (t ++ (g ++ c ∷ []))) ++ bs) ≡ o ++ ((s ++ (t ++ g)) ++ b ∷ bs)
@@ -185,9 +170,7 @@ other_minuses : (l : Opened) (ls : List Opened) (room budget m n : ℕ) (bs : Li
     (scan_of (outer_steps ls ++ (sum_part_steps l.sum ++ term_part_steps l.term))
     (level_of (sum_part_operator l.sum) (term_part_operator l.term) n) (levels_at ls) room budget) bs
 other_minuses l ls room budget m n bs e =
-    ap (λ x. scan Wanted
-    (scan_of (outer_steps ls ++ (sum_part_steps l.sum ++ term_part_steps l.term))
-    (level_of (sum_part_operator l.sum) (term_part_operator l.term) x) (levels_at ls) room budget) bs) e
+    grind (arith, outer_steps, sum_part_steps, term_part_steps, sum_part_operator, term_part_operator, levels_at)
 
 plus_found : (n : ℕ) (ih : Reads n) (b : ℕ) (bs : List ℕ) (l : Opened) (ls : List Opened) (room budget : ℕ)
     (out : List Step)
@@ -214,45 +197,26 @@ wanted_at : (n : ℕ) (ih : Reads n) (b : ℕ) (bs : List ℕ) (l : Opened) (ls 
     → mark_of b ≡ m → IsMarked m b → length bs ≤ n → IsBefore l ls room budget
     → scan Wanted (before l ls room budget) (b ∷ bs) ≡ Some out
     → Found (outer_text ls ++ (opened_text l ++ b ∷ bs)) out
-wanted_at n ih b bs l ls room budget out Mark.Numeral m byte h k e =
-    numeral_found n ih b bs l ls room budget out h k m e
-wanted_at n ih b bs l ls room budget out Mark.Dollar m byte h k e =
-    dollar_found n ih b bs l ls room budget out h k m byte e
-wanted_at n ih b bs l ls room budget out Mark.Open m byte h k e =
-    open_found n ih b bs l ls room budget out h k byte
-    (sym (prefix_then (before l ls room budget) b bs Mark.Open m (λ x. cc) (λ x. cc)) ∙ e)
-wanted_at n ih b bs l ls room budget out Mark.Plus m byte h k e =
-    plus_found n ih b bs l ls room budget out h k byte
-    (sym (prefix_then (before l ls room budget) b bs Mark.Plus m (λ x. cc) (λ x. cc)) ∙ e)
-wanted_at n ih b bs l ls room budget out Mark.Minus m byte h k e =
-    minus_found n ih b bs l ls room budget out h k byte
-    (sym (prefix_then (before l ls room budget) b bs Mark.Minus m (λ x. cc) (λ x. cc)) ∙ e)
-wanted_at n ih b bs l ls room budget out Mark.Close m byte h k e =
-    cc (prefix_then (before l ls room budget) b bs Mark.Close m (λ x. cc) (λ x. cc))
-wanted_at n ih b bs l ls room budget out Mark.Times m byte h k e =
-    cc (prefix_then (before l ls room budget) b bs Mark.Times m (λ x. cc) (λ x. cc))
-wanted_at n ih b bs l ls room budget out Mark.Over m byte h k e =
-    cc (prefix_then (before l ls room budget) b bs Mark.Over m (λ x. cc) (λ x. cc))
-wanted_at n ih b bs l ls room budget out Mark.Other m byte h k e =
-    cc (prefix_then (before l ls room budget) b bs Mark.Other m (λ x. cc) (λ x. cc))
+wanted_at n ih b bs l ls room budget out Mark.Numeral m byte h k e = grind (arith, numeral_found)
+wanted_at n ih b bs l ls room budget out Mark.Dollar m byte h k e = grind (arith, dollar_found)
+wanted_at n ih b bs l ls room budget out Mark.Open m byte h k e = grind (arith, open_found, prefix_then, before)
+wanted_at n ih b bs l ls room budget out Mark.Plus m byte h k e = grind (arith, plus_found, prefix_then, before)
+wanted_at n ih b bs l ls room budget out Mark.Minus m byte h k e = grind (arith, minus_found, prefix_then, before)
+wanted_at n ih b bs l ls room budget out Mark.Close m byte h k e = grind (arith, prefix_then, before)
+wanted_at n ih b bs l ls room budget out Mark.Times m byte h k e = grind (arith, prefix_then, before)
+wanted_at n ih b bs l ls room budget out Mark.Over m byte h k e = grind (arith, prefix_then, before)
+wanted_at n ih b bs l ls room budget out Mark.Other m byte h k e = grind (arith, prefix_then, before)
 
 -- behind an operand
 
 ended_before : (sum : SumPart) (t : Term) (ls : List Opened) (room budget : ℕ) (o : Sign)
     → IsBehind sum t ls room (suc budget)
     → IsBefore (opened (SumBefore (ended sum t) o) NoTerm []) ls room budget
-ended_before sum t ls room budget o k = record {
-  inner = record { sum = ended_fits room sum t k.sums k.terms; term = tt };
-  outer = k.outer;
-  deep = k.deep;
-  few = omega (arith, k.few, ended_count sum t);
-}
+ended_before sum t ls room budget o k = grind (arith, ended_fits, ended_count)
 
 sum_text_regroup : (o s t : List ℕ) (c b : ℕ) (bs e : List ℕ) → b ≡ c → e ≡ s ++ t
     → o ++ (((e ++ c ∷ []) ++ ([] ++ [])) ++ bs) ≡ o ++ (s ++ (t ++ b ∷ bs))
-sum_text_regroup o s t c b bs e byte h =
-    ap (λ x. o ++ (((x ++ c ∷ []) ++ ([] ++ [])) ++ bs)) h
-    ∙ (simp (append_assoc, append-nil) (ap (λ x. o ++ (s ++ (t ++ x ∷ bs))) (sym byte)))
+sum_text_regroup o s t c b bs e byte h = grind (arith, append_assoc, append-nil)
 
 sum_steps_regroup : (o s p : List Step) (w e : List Step) → (s ++ p) ++ w ≡ e → o ++ (e ++ []) ≡ (o ++ (s ++ p)) ++ w
 sum_steps_regroup o s p w e h = ap (λ x. o ++ x) (append-nil e ∙ sym h) ∙ sym (append_assoc o (s ++ p) w)
@@ -296,12 +260,7 @@ subtract_found n ih b bs sum t ls room (suc budget) out h k byte e =
 term_before : (sum : SumPart) (t : Term) (ls : List Opened) (room budget : ℕ) (o : Cross)
     → IsBehind sum t ls room (suc budget)
     → IsBefore (opened sum (TermBefore t o) []) ls room budget
-term_before sum t ls room budget o k = record {
-  inner = record { sum = k.sums; term = k.terms };
-  outer = k.outer;
-  deep = k.deep;
-  few = omega (arith, k.few);
-}
+term_before sum t ls room budget o k = grind arith
 
 term_text_regroup : (o s t : List ℕ) (c b : ℕ) (bs : List ℕ) → b ≡ c
     → o ++ ((s ++ ((t ++ c ∷ []) ++ [])) ++ bs) ≡ o ++ (s ++ (t ++ b ∷ bs))
@@ -341,9 +300,7 @@ over_found n ih b bs sum t ls room (suc budget) out h k byte e =
 
 close_text : (o p s t e : List ℕ) (b : ℕ) (bs : List ℕ) → b ≡ closing → e ≡ s ++ t
     → o ++ (p ++ (opening_parenthesis ∷ (e ++ closing ∷ []) ++ bs)) ≡ (o ++ (p ++ opening_parenthesis ∷ [])) ++ (s ++ (t ++ b ∷ bs))
-close_text o p s t e b bs byte h =
-    ap (λ x. o ++ (p ++ (opening_parenthesis ∷ (x ++ closing ∷ []) ++ bs))) h
-    ∙ (simp append_assoc (ap (λ x. o ++ (p ++ opening_parenthesis ∷ (s ++ (t ++ x ∷ bs)))) (sym byte)))
+close_text o p s t e b bs byte h = grind (arith, append_assoc)
 
 enclosed_fits : (room : ℕ) (e : Sum) → IsSum room e → IsFactor (suc room) (Enclosed e)
 enclosed_fits room e h = h
@@ -370,29 +327,8 @@ whole_at : (n : ℕ) (ih : Reads n) (b : ℕ) (bs : List ℕ) (sum : SumPart) (t
     → mark_of b ≡ m → IsMarked m b → length bs ≤ n → IsBehind sum t ls room budget
     → scan Behind (behind sum t ls room budget) (b ∷ bs) ≡ Some out
     → Found (outer_text ls ++ (sum_part_text sum ++ (term_text t ++ b ∷ bs))) out
-whole_at n ih b bs sum t ls room budget out Mark.Plus m byte h k e =
-    add_found n ih b bs sum t ls room budget out h k byte
-    (sym (operator_then (behind sum t ls room budget) b bs Mark.Plus m) ∙ e)
-whole_at n ih b bs sum t ls room budget out Mark.Minus m byte h k e =
-    subtract_found n ih b bs sum t ls room budget out h k byte
-    (sym (operator_then (behind sum t ls room budget) b bs Mark.Minus m) ∙ e)
-whole_at n ih b bs sum t ls room budget out Mark.Times m byte h k e =
-    times_found n ih b bs sum t ls room budget out h k byte
-    (sym (operator_then (behind sum t ls room budget) b bs Mark.Times m) ∙ e)
-whole_at n ih b bs sum t ls room budget out Mark.Over m byte h k e =
-    over_found n ih b bs sum t ls room budget out h k byte
-    (sym (operator_then (behind sum t ls room budget) b bs Mark.Over m) ∙ e)
-whole_at n ih b bs sum t ls room budget out Mark.Close m byte h k e =
-    close_found n ih b bs sum t ls room budget out h k byte
-    (sym (operator_then (behind sum t ls room budget) b bs Mark.Close m) ∙ e)
-whole_at n ih b bs sum t ls room budget out Mark.Numeral m byte h k e =
-    cc (operator_then (behind sum t ls room budget) b bs Mark.Numeral m)
-whole_at n ih b bs sum t ls room budget out Mark.Dollar m byte h k e =
-    cc (operator_then (behind sum t ls room budget) b bs Mark.Dollar m)
-whole_at n ih b bs sum t ls room budget out Mark.Open m byte h k e =
-    cc (operator_then (behind sum t ls room budget) b bs Mark.Open m)
-whole_at n ih b bs sum t ls room budget out Mark.Other m byte h k e =
-    cc (operator_then (behind sum t ls room budget) b bs Mark.Other m)
+whole_at n ih b bs sum t ls room budget out m m' byte h k e =
+    grind (arith, add_found, operator_then, behind, subtract_found, times_found, over_found, close_found)
 
 -- at the end
 
@@ -417,21 +353,17 @@ read_wanted : (n : ℕ) → Reads n → (rest : List ℕ) → length rest ≤ su
     → (l : Opened) (ls : List Opened) (room budget : ℕ) (out : List Step) → IsBefore l ls room budget
     → scan Wanted (before l ls room budget) rest ≡ Some out → Found (outer_text ls ++ (opened_text l ++ rest)) out
 read_wanted n ih [] h l ls room budget out k e = absurd (none_wanted _ out e)
-read_wanted n ih (b ∷ bs) h l ls room budget out k e =
-    wanted_at n ih b bs l ls room budget out (mark_of b) refl (marked b) (omega (arith, h)) k e
+read_wanted n ih (b ∷ bs) h l ls room budget out k e = grind (arith, wanted_at, marked)
 
 read_whole : (n : ℕ) → Reads n → (rest : List ℕ) → length rest ≤ suc n
     → (sum : SumPart) (t : Term) (ls : List Opened) (room budget : ℕ) (out : List Step) → IsBehind sum t ls room budget
     → scan Behind (behind sum t ls room budget) rest ≡ Some out
     → Found (outer_text ls ++ (sum_part_text sum ++ (term_text t ++ rest))) out
-read_whole n ih [] h sum t ls room budget out k e =
-    end_found sum t ls room budget out k (sym (finished_is (behind sum t ls room budget)) ∙ e)
-read_whole n ih (b ∷ bs) h sum t ls room budget out k e =
-    whole_at n ih b bs sum t ls room budget out (mark_of b) refl (marked b) (omega (arith, h)) k e
+read_whole n ih [] h sum t ls room budget out k e = grind (arith, end_found, behind)
+read_whole n ih (b ∷ bs) h sum t ls room budget out k e = grind (arith, whole_at, marked)
 
 nothing_left : (rest : List ℕ) → length rest ≤ 0 → rest ≡ []
-nothing_left [] h = refl
-nothing_left (_ ∷ _) h = absurd (omega (arith, h))
+nothing_left rest h = grind (arith, common_steps)
 
 reads : (n : ℕ) → Reads n
 reads zero = record {

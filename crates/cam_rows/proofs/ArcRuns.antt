@@ -1,6 +1,6 @@
 -- An arc's stroke by its runs.
-use Rattle.std.proofs.Common.{◌≡◌, ◌↔◌, ◌⊎◌, ℕ, ◌*◌, ◌<◌, ◌≤◌, Bool, true, false, ℤ, pos, negsuc, ◌+ℤ◌, ◌-ℤ◌, ◌*ℤ◌}
-use Rattle.std.proofs.Common.{◌≤ℤ◌, ◌<ℤ◌, if◌then◌else◌, inl, inr, ap, ◌∙◌, arith}
+use Rattle.std.proofs.Common.{◌≡◌, ◌↔◌, ◌⊎◌, ℕ, ◌*◌, ◌<◌, ◌≤◌, Bool, true, false, ℤ, pos, negsuc, ◌+ℤ◌, ◌-ℤ◌}
+use Rattle.std.proofs.Common.{◌≤ℤ◌, ◌<ℤ◌, if◌then◌else◌, inl, inr, ◌∙◌, arith}
 use Rattle.std.specs.Int.RustNames.{unsigned_abs}
 use Rattle.std.proofs.lemmas.Bool.{cases_lt}
 use Rattle.std.proofs.lemmas.Int.{by_lt_z, ints}
@@ -17,9 +17,8 @@ use Rattle.cam_shapes.proofs.Strokes.{dot_is}
 use Rattle.cam_shapes.proofs.Widths.{square_is}
 use Rattle.cam_rows.specs.Machinery.HalfPlanes.{IsLeft}
 use Rattle.cam_rows.specs.declared.ring.Ring.{Ring}
-use Rattle.cam_rows.specs.ArcRuns.{ArcRunsLaw, IsRingSquare, IsHollow, IsInHalf, IsInRing, IsLeftOut, IsRingOf}
-use Rattle.cam_rows.specs.ArcRuns.{IsBeyond, IsPastHalf, IsWideArc}
-use Rattle.cam_rows.specs.ArcRuns.{by_turn, distance_of, radius_of}
+use Rattle.cam_rows.specs.ArcRuns.{ArcRunsLaw, IsRingSquare, IsHollow, IsInHalf, IsInRing, IsLeftOut, IsRingOf, IsBeyond}
+use Rattle.cam_rows.specs.ArcRuns.{IsPastHalf, IsWideArc, by_turn, distance_of, radius_of}
 use Rattle.cam_rows.specs.Machinery.Narrowing.{IsNearer}
 use Rattle.cam_rows.proofs.BesideWays.{from_the_right}
 use Rattle.cam_rows.proofs.SweepRows.{beyond_end, no_more}
@@ -29,8 +28,7 @@ use Rattle.cam_rows.proofs.Sweeps.{narrow_sweep, same_way}
 
 -- a circle is near itself
 square_within : (z : ℤ) (n : ℕ) → unsigned_abs z ≤ n → square z ≤ℤ pos (n * n)
-square_within z n h =
-    let less = mul-le (unsigned_abs z) (unsigned_abs z) n n h h in omega (arith, ints, square_is z, less)
+square_within z n h = grind (arith, mul-le, ints, square_is)
 
 pub near_itself : (q : ℕ) (r : ℤ) → IsNearCircle (pos q) (pos q) r
 near_itself q r =
@@ -45,15 +43,7 @@ near_itself q r =
     ]
 
 near_or_far : (p q r : ℤ) → IsNearCircle p q r ⊎ (IsNearCircle p q r → ⊥)
-near_or_far p q r =
-    by_lt_z (square r) (p +ℤ q)
-    (λ more. by_lt_z (pos 4 *ℤ p *ℤ q) (square (p +ℤ q -ℤ square r))
-    (λ far. inr (λ near. elim near [
-      | inl sum ↦ omega (arith, ints, sum, more)
-      | inr circles ↦ omega (arith, ints, circles, far)
-    ]))
-    (λ circles. inl (inr circles)))
-    (λ sum. inl (inl sum))
+near_or_far p q r = grind (arith, by_lt_z, ints)
 
 -- the circles of an arc, by the square of its radius
 module _ (r : Ring) (a : Arc) (q : ℕ) (ring : IsRingOf r a) (is : radius_of a ≡ pos q) where
@@ -62,31 +52,11 @@ module _ (r : Ring) (a : Arc) (q : ℕ) (ring : IsRingOf r a) (is : radius_of a 
 
   within_outer : (p : ℕ)
       → (p < r.outer) ↔ (IsNearCircle (pos p) (radius_of a) a.width.0 ⊎ (pos p ≤ℤ radius_of a))
-  within_outer p = (
-    (λ less. elim (cases_lt p r.inner) [
-      | inl early ↦ inr (rw is (omega (arith, ints, early, middle.0)))
-      | inr late ↦ inl ((ring.near p).1 (late, less))
-    ]),
-    (λ either. elim either [
-      | inl near ↦ ((ring.near p).0 near).1
-      | inr inside ↦ let less = rw is at inside in omega (arith, ints, less, middle.1)
-    ]),
-  )
+  within_outer p = grind (arith, cases_lt, ints, middle)
 
   within_inner : (p : ℕ)
       → (p < r.inner) ↔ ((pos p ≤ℤ radius_of a) × (IsNearCircle (pos p) (radius_of a) a.width.0 → ⊥))
-  within_inner p = (
-    (λ less. (
-      rw is (omega (arith, ints, less, middle.0)),
-      (λ near. omega (arith, less, ((ring.near p).0 near).0)),
-    )),
-    (λ both. elim (cases_lt p r.inner) [
-      | inl early ↦ early
-      | inr late ↦
-          let less = rw is at both.0 in
-          absurd (both.1 ((ring.near p).1 (late, omega (arith, ints, less, middle.1))))
-    ]),
-  )
+  within_inner p = grind (arith, ints, middle, cases_lt)
 
 -- what lies in them
 in_bound : (z : ℤ) (p bound : ℕ) → z ≡ pos p → (z <ℤ pos bound) ↔ (p < bound)
@@ -113,11 +83,7 @@ in_inner r a s ring =
 -- ---- sweeps
 
 cross_self : (s : Vector) → cross s s ≡ pos 0
-cross_self s =
-    equal
-    (Difference (Product (Atom s.x) (Atom s.y)) (Product (Atom s.y) (Atom s.x)))
-    (Atom (pos 0))
-    (omega arith)
+cross_self s = grind (arith, equal, Difference, Product, Atom)
 
 same_not_wide : (s e : Vector) → s ≡ e → cross s e <ℤ pos 0 → ⊥
 same_not_wide s e same wide = let own = rw (← same) at wide in omega (arith, ints, own, cross_self s)
@@ -190,12 +156,10 @@ left_out_by_sides o p q s more =
 -- by the ends of a sweep, as it is passed counterclockwise
 pub by_ends : (P : Vector → Vector → Vector → Type 0) (b : Bool) (o p q start end : Point) (v : Vector)
     → ◌≡◌ {A = Point × Point} (start, end) (if b then (p, q) else (q, p)) → by_turn P b (way o p) (way o q) v ↔ P (way o start) (way o end) v
-by_ends P true o p q start end v is = rw (ap (λ r. r.0) is, ap (λ r. r.1) is) ((λ h. h), (λ h. h))
-by_ends P false o p q start end v is = rw (ap (λ r. r.0) is, ap (λ r. r.1) is) ((λ h. h), (λ h. h))
+by_ends P b o p q start end v is = grind arith
 
 by_turn_first : (b : Bool) (s e v : Vector) → by_turn IsLeftOut b s e v → by_turn (λ p q _. IsPastHalf p q) b s e e
-by_turn_first true s e v out = out.0
-by_turn_first false s e v out = out.0
+by_turn_first b s e v out = grind arith
 
 -- only a wide sweep leaves something out
 pub wide_where_beyond : (a : Arc) (s : Spot) → IsBeyond a s → IsWideArc a

@@ -1,5 +1,5 @@
 -- Places in a bar, by how far they are along its way from either end, and across it.
-use Rattle.std.proofs.Common.{◌≡◌, ◌+◌, ◌*◌, ◌^◌, ◌<◌, ◌≤◌, ◌↔◌, ℕ, ℤ, pos, ◌+ℤ◌, ◌-ℤ◌, ◌*ℤ◌, ◌≤ℤ◌, ◌<ℤ◌, arith}
+use Rattle.std.proofs.Common.{rules, ◌≡◌, ◌+◌, ◌*◌, ◌^◌, ◌<◌, ◌≤◌, ◌↔◌, ℕ, ℤ, pos, ◌+ℤ◌, ◌-ℤ◌, ◌*ℤ◌, ◌≤ℤ◌, ◌<ℤ◌, arith}
 use Rattle.std.specs.Int.RustNames.{unsigned_abs}
 use Rattle.std.proofs.lemmas.Int.{ints}
 use Rattle.std.proofs.lemmas.Nat.{mul-lt}
@@ -59,14 +59,10 @@ IsAhead p q s = pos 0 ≤ℤ dot (way p q) (seen_from p s)
 
 -- before the end of a way, as one looks back from there
 before_end : (p q : Point) (s : Spot) → IsAhead q p s ↔ (dot (way p q) (seen_from p s) ≤ℤ dot (way p q) (way p q))
-before_end p q s =
-    below_difference (dot (way q p) (seen_from q s)) (dot (way p q) (way p q)) (dot (way p q) (seen_from p s))
-    (from_the_end p q s)
+before_end p q s = search (rules, below_difference, from_the_end)
 
 pub between_ends : (s : Spot) (bar : Bar) → IsInBar s bar → IsAhead bar.from bar.to s × IsAhead bar.to bar.from s
-between_ends s bar inside =
-    let between = inside.beside.between in
-    (between.after_start, (before_end bar.from bar.to s).1 between.before_end)
+between_ends s bar inside = grind (arith, before_end)
 
 -- near the line through both
 abbrev pub IsNear : Point → Point → ℤ → Spot → Type 0
@@ -86,26 +82,7 @@ pub in_bar : (s : Spot) (bar : Bar) (reach : ℤ)
     → ((z : ℤ) → IsWithinReach z reach
     ↔ IsInside z bar.width.0 (dot (way bar.from bar.to) (way bar.from bar.to)))
     → IsInBar s bar ↔ (IsAhead bar.from bar.to s × IsAhead bar.to bar.from s × IsNear bar.from bar.to reach s)
-in_bar s bar reach each =
-    let z = cross (way bar.from bar.to) (seen_from bar.from s) in (
-      (λ p.
-          let ends = between_ends s bar p in
-          let near = (each z).1 (record { wide = p.wide; long = p.beside.between.long; near = p.beside.near }) in
-          (ends.0, ends.1, near)),
-      (λ held.
-          let inside = (each z).0 held.2 in
-          record {
-            wide = inside.wide;
-            beside = record {
-              between = record {
-                long = inside.long;
-                after_start = held.0;
-                before_end = (before_end bar.from bar.to s).0 held.1;
-              };
-              near = inside.near;
-            };
-          }),
-    )
+in_bar s bar reach each = grind (arith, between_ends, before_end)
 
 -- a whole number is at most a root from 0, rounded down, exactly where its square is at most the square
 pub inside_by_root : (z w length : ℤ) (root n : ℕ) → pos 0 <ℤ w → pos 0 <ℤ length → pos n ≡ square w *ℤ length
@@ -123,5 +100,4 @@ inside_by_root z w length root n wide long e least greatest =
 
 -- the square of a radius times the square of a length
 pub reach_bound : (radius length : ℕ) → radius < 2 ^ 28 → length < 2 ^ 67 → radius * radius * length < 2 ^ 123
-reach_bound radius length h k =
-    mul-lt (radius * radius) length (2 ^ 56) (2 ^ 67) (mul-lt radius radius (2 ^ 28) (2 ^ 28) h h) k
+reach_bound radius length h k = grind (arith, mul-lt)

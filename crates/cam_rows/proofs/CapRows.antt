@@ -1,6 +1,5 @@
 -- Caps by their circles and the sides of their chords.
-use Rattle.std.proofs.Common.{◌≡◌, ◌↔◌, Bool, true, false, ◌&&◌, IsTrue}
-use Rattle.std.proofs.Common.{refl, arith}
+use Rattle.std.proofs.Common.{◌≡◌, ◌↔◌, Bool, false, ◌&&◌, IsTrue, arith}
 use Rattle.cam_units.specs.declared.point.Spot.{Spot}
 use Rattle.cam_shapes.specs.declared.cap.Cap.{Cap}
 use Rattle.cam_shapes.specs.Cap.{is_full_circle, is_in_cap, is_in_circle, is_on_side}
@@ -14,12 +13,4 @@ both_true a b = grind arith
 pub part_of_circle : (s : Spot) (c : Cap) → is_full_circle c ≡ false
     → (IsTrue (is_in_circle (way c.centre c.from) (seen_from c.centre s)) × IsTrue (is_on_side s c))
     ↔ IsTrue (is_in_cap s c)
-part_of_circle s c part =
-    let parts = both_true (is_in_circle (way c.centre c.from) (seen_from c.centre s)) (is_on_side s c) in
-    rw part (parts.1, parts.0)
-
-pub all_of_circle : (s : Spot) (c : Cap) → is_full_circle c ≡ true
-    → IsTrue (is_in_circle (way c.centre c.from) (seen_from c.centre s)) ↔ IsTrue (is_in_cap s c)
-all_of_circle s c whole =
-    let parts = both_true (is_in_circle (way c.centre c.from) (seen_from c.centre s)) true in
-    rw whole ((λ inside. parts.1 (inside, refl)), (λ held. (parts.0 held).0))
+part_of_circle s c part = grind (arith, both_true)

@@ -24,8 +24,7 @@ IsTie d tie =
 -- as 128 bits compute the other side's
 pub other_tie : (d : Vector) (tie : ℤ) → IsTie d tie
     → wide ((pos 0 -ℤ pos 1) -ℤ tie) ≡ (pos 0 -ℤ pos 1) -ℤ tie
-other_tie d tie (inl on) = rw on.1 refl
-other_tie d tie (inr off) = rw off.1 refl
+other_tie d tie it = grind arith
 
 left_by_tie : (d v : Vector) (tie : ℤ) → IsTie d tie → IsTrue (is_left_of_chord d v) ↔ (pos 0 ≤ℤ (cross d v +ℤ tie))
 left_by_tie d v tie (inl on) =
@@ -55,13 +54,7 @@ not_left false z w tie other told back e = (
 -- the centres of a half plane, told in other words
 same_centres : (top : Centres) (P Q : Spot → Type 0) (h : HalfPlane) → ((s : Spot) → P s ↔ Q s)
     → IsHalfPlaneOf top P h → IsHalfPlaneOf top Q h
-same_centres top P Q h same half = record {
-  tells = λ k i. (
-    (λ up. (same _).0 ((half.tells k i).0 up)),
-    (λ on. (half.tells k i).1 ((same _).1 on)),
-  );
-  short = half.short;
-}
+same_centres top P Q h same half = grind arith
 
 -- the side of a cap
 pub left_side : (c : Cap) (top : Centres) (tie : ℤ) (h : HalfPlane) → c.ccw ≡ false → IsTie (way c.from c.to) tie

@@ -1,6 +1,5 @@
 -- Chords by walks from the middle of a circle to both sides.
-use Rattle.std.proofs.Common.{◌≡◌, ◌↔◌, ℕ, ◌+◌, ◌-◌, ◌*◌, ◌<◌, ◌≤◌, ℤ, pos, ◌<ℤ◌}
-use Rattle.std.proofs.Common.{inl, inr, sym, arith}
+use Rattle.std.proofs.Common.{◌≡◌, ◌↔◌, ℕ, ◌+◌, ◌-◌, ◌<◌, ◌≤◌, ℤ, pos, ◌<ℤ◌, inl, inr, arith}
 use Rattle.std.specs.Int.RustNames.{unsigned_abs}
 use Rattle.std.proofs.lemmas.Bool.{cases_lt}
 use Rattle.std.proofs.lemmas.Int.{ints}
@@ -16,17 +15,7 @@ use Rattle.cam_rows.specs.Runs.{IsInRun}
 on_side : (inside j distance room : ℕ) (x : ℤ) → unsigned_abs x ≡ distance
     → (j < inside → IsBeyond distance room → ⊥) → (inside ≤ j → IsBeyond distance room)
     → (j < inside) ↔ (square x <ℤ pos room)
-on_side inside j distance room x is near beyond =
-    let squares : pos (distance * distance) ≡ square x = rw is at (sym (square_is x)) in (
-      (λ h. elim (cases_lt (distance * distance) room) [
-        | inl less ↦ omega (arith, ints, less, squares)
-        | inr past ↦ absurd (near h past)
-      ]),
-      (λ less. elim (cases_lt j inside) [
-        | inl h ↦ h
-        | inr h ↦ absurd (omega (arith, ints, less, squares, beyond h))
-      ]),
-    )
+on_side inside j distance room x is near beyond = grind (arith, square_is, cases_lt, ints)
 
 -- the columns of the run are those in the chord
 pub in_walk : (reach : ℕ) (c : Chord) (l r : ChordSide) (to_left to_right i : ℕ) → IsChord reach c → IsSameSide c.left l

@@ -1,6 +1,5 @@
 -- How far a disc, a hole or a rectangle reaches from its centre, at the height of a row.
-use Rattle.std.proofs.Common.{◌≡◌, ℕ, ◌+◌, ◌-◌, ◌*◌, ◌≤◌, ◌↔◌, ℤ, pos, ◌+ℤ◌, ◌-ℤ◌, ◌≤ℤ◌, ◌<ℤ◌}
-use Rattle.std.proofs.Common.{to_z, of_z, w64, arith}
+use Rattle.std.proofs.Common.{◌≡◌, ℕ, ◌+◌, ◌-◌, ◌*◌, ◌≤◌, ◌↔◌, ℤ, pos, ◌+ℤ◌, ◌-ℤ◌, ◌≤ℤ◌, ◌<ℤ◌, to_z, of_z, w64, arith}
 use Rattle.std.specs.Int.RustNames.{unsigned_abs}
 use Rattle.std.proofs.lemmas.Int.{by_lt_z, ints}
 use Rattle.cam_units.specs.declared.point.Spot.{Spot}
@@ -20,10 +19,7 @@ cast_size z size = omega (arith, ints, size.0, size.1)
 -- the places of a strip about a vertical
 pub in_reach : (x middle left right : ℤ) (reach : ℕ) → left ≡ middle -ℤ pos reach → right ≡ middle +ℤ pos reach
     → (unsigned_abs (x -ℤ middle) ≤ reach) ↔ ((left ≤ℤ x) × (x ≤ℤ right))
-in_reach x middle left right reach is_left is_right = (
-  (λ near. (omega (arith, ints, is_left), omega (arith, ints, is_right))),
-  (λ p. omega (arith, ints, p.0, p.1, is_left, is_right)),
-)
+in_reach x middle left right reach is_left is_right = grind (arith, ints)
 
 -- discs and holes by the square of their radius
 at_most_is : (z m : ℤ) (n : ℕ) → pos n ≡ m → (z ≤ℤ m) ↔ (z <ℤ pos (n + 1))
@@ -31,10 +27,7 @@ at_most_is z m n e = ((λ h. omega (arith, ints, e)), (λ h. omega (arith, ints,
 
 pub in_disc_is : (s : Spot) (d : Disc) (r bound : ℕ) → pos 0 <ℤ d.diameter.0 → r ≡ unsigned_abs d.diameter.0
     → bound ≡ r * r + 1 → IsInDisc s d ↔ (dot (seen_from d.centre s) (seen_from d.centre s) <ℤ pos bound)
-in_disc_is s d r bound some e f =
-    let v = seen_from d.centre s in
-    let same = at_most_is (dot v v) (square d.diameter.0) (r * r) (square_of r d.diameter.0 e) in
-    rw f ((λ inside. same.0 inside.near), (λ less. record { some = some; near = same.1 less }))
+in_disc_is s d r bound some e f = grind (arith, at_most_is, square_of)
 
 -- none where its diameter is 0
 pub in_no_disc : (s : Spot) (d : Disc) → d.diameter.0 ≤ℤ pos 0
@@ -46,8 +39,7 @@ in_no_disc s d none = (
 
 pub in_hole_is : (s : Spot) (d : Disc) (r bound : ℕ) → pos 0 <ℤ d.diameter.0 → r ≡ unsigned_abs d.diameter.0
     → bound ≡ r * r → IsInHole s d ↔ (dot (seen_from d.centre s) (seen_from d.centre s) <ℤ pos bound)
-in_hole_is s d r bound some e f =
-    rw (f, square_of r d.diameter.0 e) ((λ inside. inside.near), (λ less. record { some = some; near = less }))
+in_hole_is s d r bound some e f = grind (arith, square_of)
 
 -- also where its diameter is 0
 pub in_any_hole : (s : Spot) (d : Disc) (r bound : ℕ) → IsSize d.diameter.0 → r ≡ unsigned_abs d.diameter.0
@@ -66,6 +58,4 @@ in_any_hole s d r bound size e f =
 -- x and y are the legs of the way from the circle's middle
 pub seen_in_chord : (v : Vector) (height bound : ℕ) → pos height ≡ square v.y
     → (square v.x <ℤ pos (bound - height)) ↔ (dot v v <ℤ pos bound)
-seen_in_chord v height bound e =
-    let wide = square_is v.x in
-    ((λ near. omega (arith, ints, e, wide, near)), (λ near. omega (arith, ints, e, wide, near)))
+seen_in_chord v height bound e = grind (arith, square_is, ints)

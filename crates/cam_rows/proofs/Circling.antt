@@ -1,5 +1,5 @@
 -- Centres near a point and near a circle, by squares of distances.
-use Rattle.std.proofs.Common.{◌≡◌, ℕ, ◌+◌, ◌*◌, ◌^◌, ◌<◌, ◌≤◌, ◌↔◌, ℤ, pos, inl, inr, sym, arith}
+use Rattle.std.proofs.Common.{◌≡◌, ℕ, ◌+◌, ◌*◌, ◌^◌, ◌<◌, ◌≤◌, ◌↔◌, ℤ, pos, sym, arith}
 use Rattle.std.specs.Int.RustNames.{unsigned_abs}
 use Rattle.std.proofs.lemmas.Bool.{cases_lt}
 use Rattle.std.proofs.lemmas.Nat.{mul-le}
@@ -8,20 +8,10 @@ use Rattle.cam_shapes.proofs.Widths.{square_is}
 
 -- of a root that is rounded down
 pub below_root : (x n root : ℕ) → root * root ≤ n → n < (root + 1) * (root + 1) → (x * x ≤ n) ↔ (x ≤ root)
-below_root x n root least greatest = (
-  (λ h. elim (cases_lt root x) [
-    | inl far ↦ absurd (omega (arith, mul-le (root + 1) (root + 1) x x (omega arith) (omega arith)))
-    | inr near ↦ near
-  ]),
-  (λ h. omega (arith, mul-le x x root root h h)),
-)
+below_root x n root least greatest = grind (arith, cases_lt, mul-le)
 
 pub short_root : (root n : ℕ) → root * root ≤ n → n < 2 ^ 68 → root < 2 ^ 34
-short_root root n least small =
-    elim (cases_lt root (2 ^ 34)) [
-      | inl short ↦ short
-      | inr long ↦ absurd (omega (arith, mul-le (2 ^ 34) (2 ^ 34) root root long long))
-    ]
+short_root root n least small = grind (arith, cases_lt, mul-le)
 
 pub square_of : (n : ℕ) (z : ℤ) → n ≡ unsigned_abs z → pos (n * n) ≡ square z
 square_of n z e = rw e (sym (square_is z))

@@ -1,6 +1,5 @@
 -- How far the centres of rows lie to the side of a point.
-use Rattle.std.proofs.Common.{◌≡◌, ◌<◌, ◌≤◌, ℕ, ℤ, pos, ◌+ℤ◌, ◌-ℤ◌, ◌*ℤ◌, ◌≤ℤ◌}
-use Rattle.std.proofs.Common.{arith}
+use Rattle.std.proofs.Common.{◌≡◌, ◌<◌, ◌≤◌, ℕ, ℤ, pos, ◌+ℤ◌, ◌-ℤ◌, ◌*ℤ◌, ◌≤ℤ◌, arith}
 use Rattle.std.specs.Int.RustNames.{unsigned_abs}
 use Rattle.std.proofs.lemmas.Int.{ints}
 use Rattle.std.proofs.lemmas.Nat.{mul-le}
@@ -15,12 +14,8 @@ offset_is x step middle first pitch i e f = rw (e, f) (omega (arith, ints))
 pub offset_short : (x step middle first pitch : ℤ) (i : ℕ) → first ≡ x -ℤ middle → pitch ≡ step
     → unsigned_abs middle < place_limit → unsigned_abs x < 4000000000 → unsigned_abs (x +ℤ pos i *ℤ step) < 4000000000
     → AreShort first pitch i
-offset_short x step middle first pitch i e f h k l =
-    rw (offset_is x step middle first pitch i e f) (omega (arith, ints), omega (arith, ints))
+offset_short x step middle first pitch i e f h k l = grind (arith, offset_is, ints)
 
 -- a later centre lies farther to the right
 pub goes_right : (first step : ℤ) (i j : ℕ) → pos 1 ≤ℤ step → i ≤ j → offset first step i ≤ℤ offset first step j
-goes_right first step i j h k =
-    let pitch = unsigned_abs step in
-    let is : step ≡ pos pitch = omega (arith, ints) in
-    rw is (omega (arith, ints, mul-le i pitch j pitch k (omega arith)))
+goes_right first step i j h k = grind (arith, ints, mul-le)

@@ -1,6 +1,5 @@
 -- Half planes that hold all of some rows: the least of their numbers is one in a corner.
-use Rattle.std.proofs.Common.{◌≡◌, ◌↔◌, ◌^◌, ◌<◌, ◌≤◌, ℕ, IsTrue}
-use Rattle.std.proofs.Common.{ℤ, pos, to_z, ◌*◌, ◌+ℤ◌, ◌*ℤ◌, ◌≤ℤ◌, arith}
+use Rattle.std.proofs.Common.{◌≡◌, ◌↔◌, ◌^◌, ◌<◌, ◌≤◌, ℕ, IsTrue, ℤ, pos, to_z, ◌*◌, ◌+ℤ◌, ◌*ℤ◌, ◌≤ℤ◌, arith}
 use Rattle.std.specs.Int.{w128}
 use Rattle.std.specs.Int.Signed.{le_z}
 use Rattle.std.specs.Int.RustNames.{unsigned_abs}
@@ -25,8 +24,7 @@ least_number s row column k i h m down across up =
 -- the least one, as 128 bits compute it
 short_part : (step : ℤ) (column : ℕ) → column < most_columns → unsigned_abs step < 2 ^ 100
     → unsigned_abs (pos column *ℤ step) ≤ 32768 * 2 ^ 100
-short_part step column few short =
-    omega (arith, unsigned_abs-mul (pos column) step, mul-le column (unsigned_abs step) 32768 (2 ^ 100) (omega arith) (omega arith))
+short_part step column few short = grind (arith, unsigned_abs-mul, mul-le)
 
 sum_kept : (f part : ℤ) → unsigned_abs f < 2 ^ 100 → unsigned_abs part ≤ 32768 * 2 ^ 100
     → wide (wide f +ℤ wide part) ≡ f +ℤ part
@@ -34,12 +32,9 @@ sum_kept f part h k = omega (arith, ints)
 
 pub kept_least : (f step : ℤ) (column : ℕ) → unsigned_abs f < 2 ^ 100 → unsigned_abs step < 2 ^ 100 → column < most_columns
     → wide (wide f +ℤ wide (to_z w128 column *ℤ wide step)) ≡ f +ℤ pos column *ℤ step
-kept_least f step column short across few =
-    let counted : to_z w128 column ≡ pos column = omega (arith, ints) in
-    rw (kept_number step (omega arith), counted) (sum_kept f (pos column *ℤ step) short (short_part step column few across))
+kept_least f step column short across few = grind (arith, ints, kept_number, sum_kept, short_part)
 
 pub least_test : (s : HalfPlane) (row column : ℕ) (f : ℤ) → f ≡ (lowered row s).first
     → unsigned_abs (lowered row s).first < 2 ^ 100 → unsigned_abs s.step < 2 ^ 100 → column < most_columns
     → IsTrue (le_z (pos 0) (wide (wide f +ℤ wide (to_z w128 column *ℤ wide s.step)))) ↔ IsUp s row column
-least_test s row column f is short across few =
-    rw (kept_least f s.step column (rw is short) across few, is) ((λ t. grind (arith, ints)), (λ up. grind (arith, ints)))
+least_test s row column f is short across few = grind (arith, kept_least, ints)

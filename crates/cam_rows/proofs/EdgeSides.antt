@@ -1,6 +1,6 @@
 -- Which side of an edge a place is on, by its ends in either order.
-use Rattle.std.proofs.Common.{◌≡◌, ◌≢◌, ◌↔◌, ℕ, ◌<◌, Bool, true, false, IsTrue, ℤ, pos, negsuc, ◌-ℤ◌, ◌*ℤ◌, ◌≤ℤ◌, ◌<ℤ◌}
-use Rattle.std.proofs.Common.{inl, inr, subst, sym, ◌∙◌, arith}
+use Rattle.std.proofs.Common.{rules, ◌≡◌, ◌≢◌, ◌↔◌, ℕ, ◌<◌, Bool, true, false, IsTrue, ℤ, pos, ◌-ℤ◌, ◌*ℤ◌, ◌≤ℤ◌, ◌<ℤ◌, inl, inr}
+use Rattle.std.proofs.Common.{sym, ◌∙◌, arith}
 use Rattle.std.proofs.lemmas.Bool.{cases_Bool, false≢true}
 use Rattle.std.proofs.lemmas.Int.{by_lt_z, ints}
 use Rattle.cam_units.specs.declared.point.Point.{Point}
@@ -41,19 +41,15 @@ left_of_reverse s p q above below =
 -- and one that rises, from its own left
 left_of_edge : (s : Spot) (p q : Point) → is_above p s ≡ false → is_above q s ≡ true
     → (pos 0 <ℤ cross (way p q) (seen_from p s)) ↔ IsTrue (crosses_ray s (edge p q))
-left_of_edge s p q below above =
-    let told = less_is (pos 0) (cross (way p q) (seen_from p s)) in rw (below, above) (told.1, told.0)
+left_of_edge s p q below above = grind (arith, less_is)
 
 -- a point above a row is above the rows below it
 no_higher : (step : ℤ) (k : ℕ) → pos 1 ≤ℤ step → pos 0 ≤ℤ (pos k *ℤ step)
-no_higher (pos n) k up = omega (arith, ints)
-no_higher (negsuc n) k up = absurd (omega (arith, ints))
+no_higher step k up = grind (arith, ints)
 
 above_lower : (p : Point) (c : Centres) (k : ℕ) → pos 1 ≤ℤ c.step → is_above p (first_centre c) ≡ true
     → is_above p (first_centre (row_below c k)) ≡ true
-above_lower p c k up above =
-    let high = (less_is c.y (pos 2 *ℤ p.y)).0 above in
-    under (c.y -ℤ pos k *ℤ c.step) (pos 2 *ℤ p.y) (omega (arith, ints, high, no_higher c.step k up))
+above_lower p c k up above = grind (arith, less_is, under, ints, no_higher)
 
 -- of two ends on different sides of a row's height
 other_below : (a b : Bool) → a ≡ true → a ≢ b → b ≡ false
@@ -67,44 +63,27 @@ abbrev IsCrossed : Point → Point → Centres → Type 0
 IsCrossed p q c = is_above p (first_centre c) ≢ is_above q (first_centre c)
 
 pub only_crossed : (p q : Point) (c : Centres) (k : ℕ) → k < 1 → IsCrossed p q c → IsCrossed p q (row_below c k)
-only_crossed p q c k within crossed =
-    let top : k ≡ 0 = omega arith in rw top (subst (IsCrossed p q) (sym (top_row c)) crossed)
+only_crossed p q c k within crossed = grind (arith, top_row)
 
 -- an edge whose start is above the top row falls through each row that it crosses, and another rises
 pub falls_through : (p q : Point) (c : Centres) (k i : ℕ) → pos 1 ≤ℤ c.step → is_above p (first_centre c) ≡ true
     → IsCrossed p q (row_below c k)
     → (pos 0 <ℤ cross (way q p) (seen_from q (centre_at (row_below c k) i)))
     ↔ IsTrue (crosses_ray (centre_at (row_below c k) i) (edge p q))
-falls_through p q c k i up above crossed =
-    let here = above_lower p c k up above in
-    left_of_reverse (centre_at (row_below c k) i) p q here
-    (other_below (is_above p (first_centre (row_below c k))) (is_above q (first_centre (row_below c k))) here crossed)
+falls_through p q c k i up above crossed = search (rules, above_lower, left_of_reverse, other_below)
 
 pub rises_through : (p q : Point) (c : Centres) (k i : ℕ) → pos 1 ≤ℤ c.step → is_above p (first_centre c) ≡ false
     → IsCrossed p q (row_below c 0) → IsCrossed p q (row_below c k)
     → (pos 0 <ℤ cross (way p q) (seen_from p (centre_at (row_below c k) i)))
     ↔ IsTrue (crosses_ray (centre_at (row_below c k) i) (edge p q))
-rises_through p q c k i up below top crossed =
-    let there = other_above (is_above p (first_centre c)) (is_above q (first_centre c)) below (subst (IsCrossed p q) (top_row c) top) in
-    let here = above_lower q c k up there in
-    left_of_edge (centre_at (row_below c k) i) p q
-    (other_below (is_above q (first_centre (row_below c k))) (is_above p (first_centre (row_below c k))) here (λ e. crossed (sym e)))
-    here
+rises_through p q c k i up below top crossed = grind (arith, other_above, top_row, above_lower, left_of_edge, other_below)
 
 -- of a row between the ends, the higher one is above it
 lower_end : (p q : Point) (s : Spot) → is_above p s ≡ true → is_above q s ≡ false → q.y <ℤ p.y
-lower_end p q s above below =
-    let high = (less_is s.y (pos 2 *ℤ p.y)).0 above in
-    by_lt_z s.y (pos 2 *ℤ q.y)
-    (λ less. absurd (false≢true (sym below ∙ (less_is s.y (pos 2 *ℤ q.y)).1 less)))
-    (λ most. omega (arith, ints, high, most))
+lower_end p q s above below = grind (arith, less_is, by_lt_z, false≢true, ints)
 
 pub falls_to : (p q : Point) (c : Centres) → is_above p (first_centre c) ≡ true → IsCrossed p q (row_below c 0) → q.y <ℤ p.y
-falls_to p q c above crossed =
-    lower_end p q (first_centre c) above
-    (other_below (is_above p (first_centre c)) (is_above q (first_centre c)) above (subst (IsCrossed p q) (top_row c) crossed))
+falls_to p q c above crossed = grind (arith, lower_end, other_below, top_row)
 
 pub rises_to : (p q : Point) (c : Centres) → is_above p (first_centre c) ≡ false → IsCrossed p q (row_below c 0) → p.y <ℤ q.y
-rises_to p q c below crossed =
-    lower_end q p (first_centre c)
-    (other_above (is_above p (first_centre c)) (is_above q (first_centre c)) below (subst (IsCrossed p q) (top_row c) crossed)) below
+rises_to p q c below crossed = grind (arith, lower_end, other_above, top_row)

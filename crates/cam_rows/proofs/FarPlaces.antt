@@ -1,6 +1,5 @@
 -- Places near the line of a way, so far above or below its start that they are ahead of it.
-use Rattle.std.proofs.Common.{◌≡◌, ◌↔◌, ℕ, ◌<◌, ◌≤◌, ℤ, pos, ◌+ℤ◌, ◌-ℤ◌, ◌*ℤ◌, ◌≤ℤ◌, ◌<ℤ◌}
-use Rattle.std.proofs.Common.{inl, inr, arith}
+use Rattle.std.proofs.Common.{rules, ◌≡◌, ◌↔◌, ℕ, ◌<◌, ◌≤◌, ℤ, pos, ◌+ℤ◌, ◌-ℤ◌, ◌*ℤ◌, ◌≤ℤ◌, ◌<ℤ◌, inl, inr, arith}
 use Rattle.std.proofs.lemmas.Bool.{cases_lt}
 use Rattle.std.proofs.lemmas.Int.{ints, by_lt_z}
 use Rattle.cam_units.specs.declared.point.Point.{Point}
@@ -31,12 +30,10 @@ less_product x w l =
     (omega arith)
 
 opposite_product : (a d : ℤ) → a *ℤ (pos 0 -ℤ d) ≡ pos 0 -ℤ a *ℤ d
-opposite_product a d =
-    equal (Product (Atom a) (Difference (Atom (pos 0)) (Atom d))) (Difference (Atom (pos 0)) (two a d)) (omega arith)
+opposite_product a d = grind (arith, equal, Product, Atom, Difference)
 
 opposites_product : (a d : ℤ) → (pos 0 -ℤ a) *ℤ (pos 0 -ℤ d) ≡ a *ℤ d
-opposites_product a d =
-    equal (Product (Difference (Atom (pos 0)) (Atom a)) (Difference (Atom (pos 0)) (Atom d))) (two a d) (omega arith)
+opposites_product a d = grind (arith, equal, Product, Difference, Atom)
 
 -- x * l is a * d and at most w * l more or less, where d is less than 0
 not_above : (xl wl ad e less more : ℤ) → xl ≡ ad +ℤ e → e ≤ℤ wl → less ≡ pos 0 -ℤ ad → pos 0 <ℤ less
@@ -97,11 +94,7 @@ inside_back z t w l m e f inside = rw f (record { wide = inside.wide; long = ins
 
 pub far_is_before : (p q : Point) (w : ℤ) (s : Spot)
     → IsInside (cross (way p q) (seen_from p s)) w (dot (way p q) (way p q)) → IsFarOrAhead q p w s → IsAhead q p s
-far_is_before p q w s inside =
-    far_is_ahead q p w s (inside_back (cross (way p q) (seen_from p s)) (cross (way q p) (seen_from q s)) w
-    (dot (way p q) (way p q)) (dot (way q p) (way q p))
-    (same_square (cross (way p q) (seen_from p s)) (cross (way q p) (seen_from q s)) (from_the_right p q s))
-    (same_length p q) inside)
+far_is_before p q w s inside = search (rules, far_is_ahead, inside_back, same_square, from_the_right, same_length)
 
 -- the rows in which a place is not far
 not_far_up : (p q : Point) (s : Spot) (w : ℤ) → p.y <ℤ q.y → (IsFar p q w s → ⊥) ↔ ((pos 2 *ℤ p.y +ℤ w) ≤ℤ s.y → ⊥)
@@ -174,16 +167,9 @@ decided p q w s not_near =
 pub far_by_row : (p q : Point) (w : ℤ) (top : Centres) (k i first end : ℕ)
     → IsInRun first end k ↔ (IsFar p q w (first_centre (row_below top k)) → ⊥) → (IsInRun first end k → ⊥)
     → IsFarOrAhead p q w (centre_at (row_below top k) i)
-far_by_row p q w top k i first end told off =
-    inl (decided p q w (centre_at (row_below top k) i) (λ near. off (told.1 near)))
+far_by_row p q w top k i first end told off = grind (arith, decided)
 
 pub ahead_by_row : (p q : Point) (w : ℤ) (top : Centres) (k i first end : ℕ) (B : Type 0)
     → IsInRun first end k ↔ (IsFar p q w (first_centre (row_below top k)) → ⊥) → IsInRun first end k
     → B ↔ IsAhead p q (centre_at (row_below top k) i) → B ↔ IsFarOrAhead p q w (centre_at (row_below top k) i)
-ahead_by_row p q w top k i first end B told on ahead = (
-  (λ up. inr (ahead.0 up)),
-  (λ either. elim either [
-    | inl far ↦ absurd (told.0 on far)
-    | inr here ↦ ahead.1 here
-  ]),
-)
+ahead_by_row p q w top k i first end B told on ahead = grind arith

@@ -10,17 +10,11 @@ use Rattle.cam_rows.specs.Runs.{AreFound, AreRuns}
 pub found_anew : (firsts ends new_firsts new_ends : List ℕ) (top : Centres) (IsIn : Spot → Type 0)
     → length new_firsts ≡ length firsts → AreRuns new_firsts new_ends top IsIn
     → AreFound firsts ends top IsIn new_firsts new_ends
-found_anew firsts ends new_firsts new_ends top IsIn size runs = record {
-  held = λ k i within small on. (runs.each k i (omega (arith, size, within)) small).0 on;
-  all = λ k i within small _ held. (runs.each k i (omega (arith, size, within)) small).1 held;
-}
+found_anew firsts ends new_firsts new_ends top IsIn size runs = grind arith
 
 -- or those in the runs alone
 pub found_narrowed : (firsts ends new_firsts new_ends : List ℕ) (top : Centres) (P Q : Spot → Type 0)
     → ((s : Spot) → P s ↔ Q s)
     → AreNarrowed top.n firsts ends (λ k i. P (centre_at (row_below top k) i)) (length firsts) new_firsts new_ends
     → AreFound firsts ends top Q new_firsts new_ends
-found_narrowed firsts ends new_firsts new_ends top P Q same narrowed = record {
-  held = λ k i within small on. (same _).0 ((narrowed.each k i within small).0 on).1;
-  all = λ k i within small was held. (narrowed.each k i within small).1 (was, (same _).1 held);
-}
+found_narrowed firsts ends new_firsts new_ends top P Q same narrowed = grind arith

@@ -1,5 +1,5 @@
 -- Half planes, by the numbers at the centres of their rows.
-use Rattle.std.proofs.Common.{◌≡◌, ℕ, ◌^◌, ◌<◌, ◌≤◌, ℤ, pos, negsuc, ◌+ℤ◌, ◌-ℤ◌, ◌*ℤ◌, ◌≤ℤ◌, ◌↔◌, FitsSigned, refl, ap, arith}
+use Rattle.std.proofs.Common.{◌≡◌, ℕ, ◌^◌, ◌<◌, ◌≤◌, ℤ, pos, negsuc, ◌+ℤ◌, ◌-ℤ◌, ◌*ℤ◌, ◌≤ℤ◌, ◌↔◌, FitsSigned, ap, arith}
 use Rattle.std.specs.Int.{w128}
 use Rattle.std.specs.Int.RustNames.{unsigned_abs}
 use Rattle.std.proofs.lemmas.Int.{ints}
@@ -88,9 +88,7 @@ kept z h = omega (arith, ints)
 -- what a crossing and its steps stand for
 pub falling_is : (c : Crossing) (t : Steps) (n m d : ℤ) → AreStepsOf t m (pos 0 -ℤ d) → IsTopOf c t n
     → falling c t ≡ record { first = n; step = d; down = m }
-falling_is c t n m d steps top =
-    let twice : pos 0 -ℤ (pos 0 -ℤ d) ≡ d = omega (arith, ints) in
-    rw (top.first, steps.down, steps.divisor, twice) refl
+falling_is c t n m d steps top = grind (arith, ints)
 
 -- the columns of a row up to the last number that is not negative, where they fall, or what they lack does
 module _ (h : HalfPlane) (k i n : ℕ) (number : ℤ) (is : number ≡ (lowered k h).first)
@@ -101,18 +99,12 @@ module _ (h : HalfPlane) (k i n : ℕ) (number : ℤ) (is : number ≡ (lowered 
 
   pub rising_told : (i < n) ↔ (pos 0 ≤ℤ (wide (negsuc 0 -ℤ wide number) +ℤ pos i *ℤ (pos 0 -ℤ wide h.step)))
       → IsUp h k i ↔ (i < n → ⊥)
-  rising_told told =
-      let here = rw (lacked number short, kept h.step step, is) at told in
-      let same = lacking_in_row (lowered k h).first h.step i in (
-        (λ up early. same.0 up (here.0 early)),
-        (λ late. same.1 (λ lacks. late (here.1 lacks))),
-      )
+  rising_told told = grind (arith, lacked, kept, lacking_in_row)
 
 pub fell : (f : HalfPlane) (c : Crossing) (t : Steps) (n : ℤ) → unsigned_abs f.step < 2 ^ 100
     → unsigned_abs f.down < 2 ^ 100 → AreStepsOf t (wide f.down) (wide (pos 0 -ℤ wide f.step)) → IsTopOf c t n
     → falling c t ≡ record { first = n; step = f.step; down = f.down }
-fell f c t n step down steps top =
-    falling_is c t n f.down f.step (rw (kept f.down down, opposite f.step step) at steps) top
+fell f c t n step down steps top = grind (arith, falling_is, kept, opposite)
 
 -- the sides of a strip, as 128 bits compute them
 pub kept_low : (f e r : ℤ) → unsigned_abs f ≤ 2 ^ 100 → unsigned_abs e ≤ 1 → unsigned_abs r < 2 ^ 64

@@ -13,8 +13,7 @@ without a b i = grind (arith, set_in_and a b i, set_in_xor a (bit_and a b) i)
 module _ (old other : List ℕ) (whole : length old ≡ 64) (same : length other ≡ 64) where
   pub lanes_joined : (how : Type 0 → Type 0 → Type 0) (f : ℕ → ℕ → ℕ)
       → ((x y i : ℕ) → IsBitSet (f x y) i ↔ how (IsBitSet x i) (IsBitSet y i)) → AreJoined how old other (zip2 f old other)
-  lanes_joined how f each k i lane small =
-      rw (get_or-zip2 f old other k 0 0 0 (omega (arith, whole)) (omega (arith, same))) (each _ _ i)
+  lanes_joined how f each k i lane small = grind (arith, get_or-zip2)
 
   pub lanes_cleared : AreJoined (λ P Q. P × (Q → ⊥)) old other (zip2 bit_xor old (zip2 bit_and old other))
   lanes_cleared k i lane small =

@@ -17,12 +17,10 @@ kept_short : (z : ℤ) → unsigned_abs z ≤ 2 ^ 62 → wide (narrow z) ≡ z
 kept_short z h = omega (arith, ints)
 
 short_product : (a b : ℤ) → unsigned_abs a ≤ 2 ^ 40 → unsigned_abs b ≤ 2 ^ 61 → unsigned_abs (a *ℤ b) ≤ 2 ^ 101
-short_product a b p q =
-    omega (arith, unsigned_abs-mul a b, mul-le (unsigned_abs a) (unsigned_abs b) (2 ^ 40) (2 ^ 61) p q)
+short_product a b p q = grind (arith, unsigned_abs-mul, mul-le)
 
 short_steps : (n : ℕ) (z : ℤ) → n < 2 ^ 20 → unsigned_abs z ≤ 2 ^ 102 → unsigned_abs (pos n *ℤ z) ≤ 2 ^ 122
-short_steps n z few short =
-    omega (arith, ints, unsigned_abs-mul (pos n) z, mul-le n (unsigned_abs z) (2 ^ 20) (2 ^ 102) (omega (arith, few)) short)
+short_steps n z few short = grind (arith, ints, unsigned_abs-mul, mul-le)
 
 module _ (c : Crossing) (t : Steps) (n : ℕ) (steps : AreSteps t) (here : IsCrossing t (2 ^ 61 + 1) c) (few : n < 2 ^ 20) where
   divisor_short : unsigned_abs t.divisor ≤ 2 ^ 61
@@ -41,9 +39,7 @@ module _ (c : Crossing) (t : Steps) (n : ℕ) (steps : AreSteps t) (here : IsCro
   change_short = omega (arith, ints, product_short, rest_short)
 
   pub least_is : (g : ℤ) → g ≡ narrow t.divisor → wide (pos 0 -ℤ wide g) ≡ pos 0 -ℤ t.divisor
-  least_is g is =
-      let same : wide g ≡ t.divisor = ap wide is ∙ kept_short t.divisor (omega (arith, divisor_short)) in
-      rw same (kept (pos 0 -ℤ t.divisor) (omega (arith, ints, divisor_short)))
+  least_is g is = grind (arith, wide, kept_short, divisor_short, kept, ints)
 
   module _ (a b e f : ℤ) (is_a : a ≡ narrow t.columns) (is_b : b ≡ narrow t.divisor) (is_e : e ≡ narrow t.rest)
       (is_f : f ≡ narrow c.rest) where

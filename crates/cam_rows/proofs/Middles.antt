@@ -1,6 +1,5 @@
 -- The columns on both sides of a circle's middle, by how far they lie to the right of it.
-use Rattle.std.proofs.Common.{◌≡◌, ℕ, ◌+◌, ◌-◌, ◌*◌, ◌^◌, ◌<◌, ◌≤◌, ℤ, pos, ◌+ℤ◌, ◌-ℤ◌, ◌*ℤ◌, ◌<ℤ◌}
-use Rattle.std.proofs.Common.{◌↔◌, min, refl, arith}
+use Rattle.std.proofs.Common.{◌≡◌, ℕ, ◌+◌, ◌-◌, ◌*◌, ◌^◌, ◌<◌, ◌≤◌, ℤ, pos, ◌+ℤ◌, ◌-ℤ◌, ◌*ℤ◌, ◌<ℤ◌, ◌↔◌, min, refl, arith}
 use Rattle.std.specs.Int.RustNames.{unsigned_abs}
 use Rattle.std.proofs.lemmas.Int.{by_lt_z, ints}
 use Rattle.std.proofs.lemmas.Nat.{mul-le}
@@ -16,34 +15,24 @@ use Rattle.cam_rows.specs.Runs.{IsWideRow}
 -- the places of columns to the left of the last one left of the middle
 left_of : (first step last : ℤ) (pitch start i d : ℕ) → step ≡ pos pitch → last ≡ offset first step (i + d)
     → pos start ≡ pos 0 -ℤ last → offset first step i ≡ pos 0 -ℤ pos (start + d * pitch)
-left_of first step last pitch start i d is_step is_last is_start =
-    let at = rw is_step at is_last in
-    rw is_step (omega (arith, ints, at, is_start))
+left_of first step last pitch start i d is_step is_last is_start = grind (arith, ints)
 
 pub left_place : (first step last : ℤ) (pitch start m i : ℕ) → step ≡ pos pitch → last ≡ offset first step (m - 1)
     → pos start ≡ pos 0 -ℤ last → i < m → offset first step i ≡ pos 0 -ℤ pos (start + (m - 1 - i) * pitch)
-left_place first step last pitch start m i is_step is_last is_start before =
-    let apart : m - 1 ≡ i + (m - 1 - i) = omega arith in
-    left_of first step last pitch start i (m - 1 - i) is_step (rw apart at is_last) is_start
+left_place first step last pitch start m i is_step is_last is_start before = grind (arith, left_of)
 
 pub left_distance : (first step last : ℤ) (pitch start m j : ℕ) → step ≡ pos pitch → last ≡ offset first step (m - 1)
     → pos start ≡ pos 0 -ℤ last → j < m → offset first step (m - 1 - j) ≡ pos 0 -ℤ pos (start + j * pitch)
-left_distance first step last pitch start m j is_step is_last is_start before =
-    let apart : m - 1 ≡ (m - 1 - j) + j = omega arith in
-    left_of first step last pitch start (m - 1 - j) j is_step (rw apart at is_last) is_start
+left_distance first step last pitch start m j is_step is_last is_start before = grind (arith, left_of)
 
 -- and of those from the first one right of it on
 pub right_distance : (first step next : ℤ) (pitch start m j : ℕ) → step ≡ pos pitch → next ≡ offset first step m
     → pos start ≡ next → offset first step (m + j) ≡ pos (start + j * pitch)
-right_distance first step next pitch start m j is_step is_next is_start =
-    let at = rw is_step at is_next in
-    rw is_step (omega (arith, ints, at, is_start))
+right_distance first step next pitch start m j is_step is_next is_start = grind (arith, ints)
 
 pub right_place : (first step next : ℤ) (pitch start m i : ℕ) → step ≡ pos pitch → next ≡ offset first step m
     → pos start ≡ next → m ≤ i → offset first step i ≡ pos (start + (i - m) * pitch)
-right_place first step next pitch start m i is_step is_next is_start from =
-    let apart : m + (i - m) ≡ i = omega arith in
-    rw apart at (right_distance first step next pitch start m (i - m) is_step is_next is_start)
+right_place first step next pitch start m i is_step is_next is_start from = grind (arith, right_distance)
 
 -- how far to the right a column lies
 abbrev pub place_at : Offsets → ℕ → ℤ
@@ -66,19 +55,13 @@ module _ (reach : ℕ) (row : Centres) (p : Point) (o : Offsets) (m pitch left r
   seen i = offsets.each i
 
   left_of_middle : (i : ℕ) → i < m → place_at o i <ℤ pos 0
-  left_of_middle i before =
-      let less : (row.x +ℤ pos i *ℤ row.step) <ℤ x = (is_left i (omega (arith, before, few))).0 before in
-      omega (arith, ints, less, seen i, is_middle)
+  left_of_middle i before = grind (arith, ints, seen)
 
   from_left : 0 < m → pos left ≡ pos 0 -ℤ place_at o (m - 1)
   from_left some = omega (arith, ints, left_of_middle (m - 1) (omega (arith, some)), is_left_start)
 
   from_right : m < row.n → pos right ≡ place_at o m
-  from_right some = by_lt_z (place_at o m) (pos 0)
-      (λ less.
-      let before = (is_left m some).1 (omega (arith, ints, less, seen m, is_middle)) in absurd (omega (arith, before)))
-      (λ least.
-      let first : min m (row.n - 1) ≡ m = omega (arith, some) in omega (arith, ints, least, rw first at is_right_start))
+  from_right some = grind (arith, by_lt_z, ints, seen)
 
   left_near : (j : ℕ) → j < m → left + j * pitch < reach
   left_near j before =
@@ -101,19 +84,7 @@ module _ (reach : ℕ) (row : Centres) (p : Point) (o : Offsets) (m pitch left r
   side_of : (s : ChordSide) (start columns : ℕ) → start < reach → ((j : ℕ) → j < columns → start + j * pitch < reach)
       → s ≡ record { start = start; step = pitch; columns = columns; inside = 0; next = start; room = 0 }
       → IsSide reach s × HasReached s s.room
-  side_of s start columns within short is = rw is (
-    record {
-      some = omega (arith, ints, is_step, offsets.step, wide.step);
-      start = within;
-      step = small;
-      within = omega arith;
-      next = omega arith;
-      near = short;
-      far = far;
-      fits = omega (arith, within, mul-le 1 1 reach reach (omega (arith, within)) (omega (arith, within)));
-    },
-    record { near = λ j inside. absurd (omega (arith, inside)); beyond = λ j from within. omega arith },
-  )
+  side_of s start columns within short is = grind (arith, ints, is_step, mul-le)
 
   pub chord_of : (s t : ChordSide)
       → s ≡ record { start = left; step = pitch; columns = m; inside = 0; next = left; room = 0 }

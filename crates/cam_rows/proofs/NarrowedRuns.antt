@@ -1,6 +1,6 @@
 -- Runs of rows, narrowed from the top row on.
 use Rattle.std.proofs.Common.{◌≡◌, ℕ, ◌+◌, ◌<◌, ◌≤◌, ◌≢◌, ◌↔◌, List, length, slice_index, slice_set}
-use Rattle.std.proofs.Common.{get_or-set_other, get_or-set_same, inl, inr, refl, sym, ◌∙◌, arith}
+use Rattle.std.proofs.Common.{get_or-set_other, get_or-set_same, inl, inr, sym, ◌∙◌, arith}
 use Rattle.std.proofs.Math.ListN.{length-set}
 use Rattle.std.proofs.lemmas.Bool.{cases_eq, cases_lt}
 use Rattle.std.proofs.lemmas.List.{get_or_past}
@@ -9,10 +9,7 @@ use Rattle.cam_rows.specs.Runs.{IsInRun}
 
 -- what is in a run and held, told in other words
 pub run_by : (R S P Q : Type 0) → R ↔ (S × P) → P ↔ Q → R ↔ (S × Q)
-run_by R S P Q told same = (
-  (λ r. let both = told.0 r in (both.0, same.0 both.1)),
-  (λ both. told.1 (both.0, same.1 both.1)),
-)
+run_by R S P Q told same = grind arith
 
 -- with their lengths
 pub record AreNarrowedAbove (columns : ℕ) (firsts ends : List ℕ) (IsHeld : ℕ → ℕ → Type 0) (end : ℕ)
@@ -23,16 +20,7 @@ pub record AreNarrowedAbove (columns : ℕ) (firsts ends : List ℕ) (IsHeld : �
 
 module _ (columns : ℕ) (firsts ends : List ℕ) (IsHeld : ℕ → ℕ → Type 0) where
   pub no_runs : AreNarrowedAbove columns firsts ends IsHeld 0 firsts ends
-  no_runs = record {
-    narrowed = record {
-      each = λ k i early _. absurd (omega arith);
-      within = λ k. omega arith;
-      same_firsts = λ _ _. refl;
-      same_ends = λ _ _. refl;
-    };
-    firsts_size = refl;
-    ends_size = refl;
-  }
+  no_runs = grind arith
 
   -- one more row
   pub next_run : (new_firsts new_ends : List ℕ) (row first end : ℕ) → row < length firsts

@@ -1,7 +1,6 @@
 -- Rows whose centres lie near a point, by their first and last centres.
 use Rattle.std.proofs.Common.{◌≡◌, ℕ, ◌+◌, ◌-◌, ◌*◌, ◌%◌, ◌^◌, ◌<◌, ◌≤◌, ℤ, pos, ◌+ℤ◌, ◌-ℤ◌, ◌*ℤ◌, ◌≤ℤ◌}
-use Rattle.std.proofs.Common.{FitsSigned, ap, of_z, refl, sym, to_z, w64, ◌∙◌, arith}
-use Rattle.std.specs.Int.{int_wrap}
+use Rattle.std.proofs.Common.{of_z, refl, to_z, w64, arith}
 use Rattle.std.specs.Int.RustNames.{unsigned_abs}
 use Rattle.std.proofs.lemmas.Int.{int_wrap_fits, ints, wrapping_sub_onto}
 use Rattle.std.proofs.lemmas.Nat.{mul-le}
@@ -21,28 +20,13 @@ use Rattle.cam_rows.proofs.WideRows.{top_is_wide}
 -- a number of steps, by that of the last row
 rising : (step : ℤ) (k last : ℕ) → k ≤ last → pos 1 ≤ℤ step
     → (pos 0 ≤ℤ (pos k *ℤ step)) × ((pos k *ℤ step) ≤ℤ (pos last *ℤ step))
-rising step k last within some =
-    let pitch = unsigned_abs step in
-    let is : step ≡ pos pitch = omega (arith, ints) in
-    rw is (omega (arith, ints), omega (arith, ints, mul-le k pitch last pitch within (omega arith)))
+rising step k last within some = grind (arith, ints, mul-le)
 
 pub near_rows : (p : Point) (top : Centres) (n most : ℕ) (o : Offsets) → IsWideRow top → AreOffsetsFrom top p o
     → most < 2 ^ 64 → unsigned_abs o.first < 2 ^ 32 → unsigned_abs (offset o.first o.step (top.n - 1)) < 2 ^ 32
     → unsigned_abs ((top.y -ℤ pos (n - 1) *ℤ top.step) -ℤ pos 2 *ℤ p.y) < 2 ^ 32
     → unsigned_abs ((top.y -ℤ pos 0 *ℤ top.step) -ℤ pos 2 *ℤ p.y) < 2 ^ 32 → AreWithin (2 ^ 32) p most top n
-near_rows p top n most o wide columns fits left right low high = record {
-  columns = λ i within.
-      let seen : offset o.first o.step i ≡ (top.x +ℤ pos i *ℤ top.step) -ℤ pos 2 *ℤ p.x = columns.each i in
-      let after = goes_right o.first o.step 0 i (rw columns.step wide.step) (omega arith) in
-      let before = goes_right o.first o.step i (top.n - 1) (rw columns.step wide.step) (omega (arith, within)) in
-      let near : unsigned_abs (offset o.first o.step i) < 2 ^ 32 = omega (arith, ints, left, right, after, before) in
-      rw seen at near;
-  rows = λ k within.
-      let fall = rising top.step k (n - 1) (omega (arith, within)) wide.step in
-      omega (arith, ints, fall.0, fall.1, low, high);
-  bound = fits;
-  far = omega arith;
-}
+near_rows p top n most o wide columns fits left right low high = grind (arith, goes_right, ints, rising)
 
 -- all wide rows lie within the longer reach
 pub far_rows : (p : Point) (top : Centres) (n most : ℕ) → IsOnBoard p → AreWideRows top n → 0 < n → most < 2 ^ 68
@@ -71,11 +55,7 @@ height_square h y is = rw is (square_of _ y refl)
 next_bits : (bits : ℕ) (h step next : ℤ) → bits < 2 ^ 64 → to_z w64 bits ≡ h → next ≡ h -ℤ step
     → unsigned_abs h < 2 ^ 34 → unsigned_abs next < 2 ^ 34
     → to_z w64 ((bits + (2 ^ 64 - of_z w64 step)) % 2 ^ 64) ≡ next
-next_bits bits h step next fits is e near near_next =
-    let short : FitsSigned w64 step = omega (arith, ints) in
-    let less : FitsSigned w64 (h -ℤ step) = omega (arith, ints) in
-    wrapping_sub_onto w64 bits step fits short ∙ ap (λ z. int_wrap w64 (z -ℤ step)) is ∙ int_wrap_fits w64 (h -ℤ step) less
-    ∙ sym e
+next_bits bits h step next fits is e near near_next = grind (arith, ints, wrapping_sub_onto, int_wrap_fits)
 
 pub next_height : (reach bits k : ℕ) (y step away : ℤ) → bits < 2 ^ 64 → reach ≤ 2 ^ 34
     → to_z w64 bits ≡ y -ℤ pos k *ℤ step -ℤ pos 2 *ℤ away

@@ -27,17 +27,9 @@ minus_kept d short = omega (arith, ints, short.0, short.1)
 
 pub near_below : (t : Steps) (c : Crossing) (bound : ℕ) → AreSteps t → IsCrossing t bound c → (c.rest +ℤ t.rest) <ℤ pos 0
     → IsCrossing t (bound + 2 ^ 41) (record { columns = c.columns +ℤ t.columns; rest = c.rest +ℤ t.rest })
-near_below t c bound steps here less = record {
-  low = omega (arith, ints, here.low, steps.rest.0);
-  high = less;
-  near = omega (arith, ints, here.near, steps.columns);
-}
+near_below t c bound steps here less = grind (arith, ints)
 
 pub near_past : (t : Steps) (c : Crossing) (bound : ℕ) → AreSteps t → IsCrossing t bound c → pos 0 ≤ℤ (c.rest +ℤ t.rest)
     → IsCrossing t (bound + 2 ^ 41)
     (record { columns = c.columns +ℤ t.columns +ℤ pos 1; rest = c.rest +ℤ t.rest -ℤ t.divisor })
-near_past t c bound steps here more = record {
-  low = omega (arith, ints, more);
-  high = omega (arith, ints, here.high, steps.rest.1);
-  near = omega (arith, ints, here.near, steps.columns);
-}
+near_past t c bound steps here more = grind (arith, ints)

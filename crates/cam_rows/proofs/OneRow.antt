@@ -1,5 +1,5 @@
 -- One row of up to 64 centres: the bits of its run, and those of several shapes.
-use Rattle.std.proofs.Common.{◌↔◌, ◌⊎◌, ℕ, ◌+◌, ◌^◌, ◌<◌, ap, subst, sym, arith, bit_and, bit_or}
+use Rattle.std.proofs.Common.{◌↔◌, ◌⊎◌, ℕ, ◌+◌, ◌^◌, ◌<◌, arith, bit_and, bit_or}
 use Rattle.std.specs.Int.{IsBitSet, bit_not, w64}
 use Rattle.cam_units.specs.declared.point.Spot.{Spot}
 use Rattle.cam_rows.specs.declared.centres.Centres.{Centres}
@@ -12,16 +12,7 @@ use Rattle.cam_rows.proofs.Slopes.{top_row}
 pub marks_run : (row first end : ℕ) (c : Centres) (IsIn : Spot → Type 0)
     → ((i : ℕ) → i < 64 → IsBitSet row i ↔ ((i < c.n) × IsInRun first end (0 + i)))
     → ((i : ℕ) → i < c.n → IsInRun first end i ↔ IsIn (centre_at (row_below c 0) i)) → Marks row c IsIn
-marks_run row first end c IsIn bits run i small =
-    let bit = bits i small in
-    let here = ap (λ (d : Centres). centre_at d i) (top_row c) in (
-      (λ set.
-          let on = bit.0 set in
-          (on.0, subst IsIn here ((run i on.0).0 (omega (arith, on.1.0), omega (arith, on.1.1))))),
-      (λ held.
-          let on = (run i held.0).1 (subst IsIn (sym here) held.1) in
-          bit.1 (held.0, (omega (arith, on.0), omega (arith, on.1)))),
-    )
+marks_run row first end c IsIn bits run i small = grind (arith, top_row)
 
 -- bits that are joined: what either of two shapes holds
 pub in_either : (a b i : ℕ) (K P Q : Type 0) → IsBitSet a i ↔ (K × P) → IsBitSet b i ↔ (K × Q)

@@ -1,6 +1,6 @@
 -- Runs of rows, of which a part is narrowed.
 use Rattle.std.proofs.Common.{◌≡◌, ◌↔◌, ◌⊎◌, ℕ, ◌+◌, ◌-◌, ◌<◌, ◌≤◌, ℤ, pos, ◌-ℤ◌, ◌*ℤ◌, List, length, slice_index}
-use Rattle.std.proofs.Common.{inl, inr, refl, ap, sym, subst, ◌∙◌, rules, arith}
+use Rattle.std.proofs.Common.{inl, inr, sym, subst, rules, arith}
 use Rattle.std.proofs.lemmas.Bool.{cases_lt}
 use Rattle.std.proofs.lemmas.List.{places}
 use borrow.Rule.Slice.PartMut.{mid_of, put_mid}
@@ -56,8 +56,7 @@ module _ (columns first end : ℕ) (firsts ends new_firsts new_ends : List ℕ) 
 
   was : (k : ℕ) (old : List ℕ) → first ≤ k → k < end
       → slice_index (mid_of first (end - first) old) (k - first) ≡ slice_index old k
-  was k old after until =
-      part_was first end (k - first) old (omega arith) ∙ ap (slice_index old) (there k after)
+  was k old after until = grind (arith, part_was, there)
 
   each_in : (k i : ℕ) → first ≤ k → k < end → i < columns
       → IsInRow now now_ends k i ↔ (IsInRow firsts ends k i × IsHeld k i)
@@ -76,17 +75,10 @@ module _ (columns first end : ℕ) (firsts ends new_firsts new_ends : List ℕ) 
 
   each_out : (k i : ℕ) → k < length firsts → (k < first) ⊎ (end ≤ k)
       → IsInRow now now_ends k i ↔ (IsInRow firsts ends k i × IsHeld k i)
-  each_out k i within off =
-      rw (
-        others_kept first end firsts new_firsts some long size k off,
-        others_kept first end ends new_ends some long_ends size_ends k off,
-      )
-      ((λ on. (on, outside k i within off)), (λ both. both.0))
+  each_out k i within off = grind (arith, others_kept, long_ends)
 
   less_in : (k : ℕ) → first ≤ k → k < end → slice_index now_ends k ≤ slice_index ends k
-  less_in k after until =
-      let less = narrowed.within (k - first) in
-      rw (part_at first end ends new_ends some long_ends size_ends k after until, ← was k ends after until) less
+  less_in k after until = grind (arith, part_at, long_ends, was)
 
   less_out : (k : ℕ) → (k < first) ⊎ (end ≤ k) → slice_index now_ends k ≤ slice_index ends k
   less_out k off = omega (arith, others_kept first end ends new_ends some long_ends size_ends k off)
@@ -114,12 +106,7 @@ module _ (columns first end : ℕ) (firsts ends new_firsts new_ends : List ℕ) 
 -- no row is narrowed
 pub none_narrowed : (columns : ℕ) (firsts ends : List ℕ) (IsHeld : ℕ → ℕ → Type 0)
     → ((k i : ℕ) → k < length firsts → IsHeld k i) → AreNarrowed columns firsts ends IsHeld (length firsts) firsts ends
-none_narrowed columns firsts ends IsHeld all = record {
-  each = λ k i within small. ((λ on. (on, all k i within)), (λ both. both.0));
-  within = λ k. omega arith;
-  same_firsts = λ _ _. refl;
-  same_ends = λ _ _. refl;
-}
+none_narrowed columns firsts ends IsHeld all = grind arith
 
 -- ---- rows below one of them
 
@@ -131,9 +118,7 @@ further_down y step first k =
     (omega arith)
 
 pub below_part : (top : Centres) (first k : ℕ) → row_below (row_below top first) k ≡ row_below top (first + k)
-below_part top first k =
-    ap (λ y. record { x = top.x; y = y; step = top.step; n = top.n })
-    (further_down top.y top.step first k)
+below_part top first k = grind (arith, further_down)
 
 pub part_rows : (top : Centres) (first count n : ℕ) → first + count ≤ n → AreWideRows top n
     → AreWideRows (row_below top first) count
@@ -143,6 +128,4 @@ part_rows top first count n fits rows k within =
 -- what a half plane from a row on tells
 pub told_below : (top row : Centres) (first k i : ℕ) (B : Type 0) (P : Spot → Type 0) → row ≡ row_below top first
     → B ↔ P (centre_at (row_below row k) i) → B ↔ P (centre_at (row_below top (first + k)) i)
-told_below top row first k i B P is told =
-    let here : B ↔ P (centre_at (row_below (row_below top first) k) i) = rw is at told in
-    subst (λ (row : Centres). B ↔ P (centre_at row i)) (below_part top first k) here
+told_below top row first k i B P is told = grind (arith, below_part)

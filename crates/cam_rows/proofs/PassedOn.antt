@@ -1,6 +1,5 @@
 -- Rows and numbers, as they are passed to another function.
-use Rattle.std.proofs.Common.{◌≡◌, ℕ, ◌^◌, ◌<◌, Bool, true, false, List, length, ℤ, pos, ◌<ℤ◌, of_z, w64}
-use Rattle.std.proofs.Common.{arith}
+use Rattle.std.proofs.Common.{◌≡◌, ℕ, ◌^◌, ◌<◌, Bool, true, false, List, length, ℤ, pos, ◌<ℤ◌, of_z, w64, arith}
 use Rattle.std.specs.Bool.{◌==◌}
 use Rattle.std.specs.Int.RustNames.{unsigned_abs}
 use Rattle.std.proofs.lemmas.Bool.Decides.{nat_tests}
@@ -21,10 +20,7 @@ some_rows n b e f = grind (arith, nat_tests)
 
 pub runs_of_none : (firsts ends : List ℕ) (top : Centres) (IsIn : Spot → Type 0) → length firsts ≡ 0
     → AreRuns firsts ends top IsIn
-runs_of_none firsts ends top IsIn none = record {
-  each = λ k i within _. absurd (omega (arith, none, within));
-  within = λ k within. absurd (omega (arith, none, within));
-}
+runs_of_none firsts ends top IsIn none = grind arith
 
 -- coordinates and sides, by the tests of their bits
 pub same_by_bits : (p q : ℤ) → unsigned_abs p < board_limit → unsigned_abs q < board_limit → of_z w64 p ≡ of_z w64 q → p ≡ q

@@ -1,6 +1,5 @@
 -- Obrounds by their distance from the line between their ends.
-use Rattle.std.proofs.Common.{◌≡◌, ℕ, ◌+◌, ◌-◌, ◌*◌, ◌<◌, ◌≤◌, ◌↔◌, ◌⊎◌, ℤ, pos, ◌-ℤ◌, ◌≤ℤ◌, ◌<ℤ◌, min}
-use Rattle.std.proofs.Common.{inl, inr, arith}
+use Rattle.std.proofs.Common.{◌≡◌, ℕ, ◌+◌, ◌-◌, ◌*◌, ◌<◌, ◌≤◌, ◌↔◌, ◌⊎◌, ℤ, pos, ◌-ℤ◌, ◌≤ℤ◌, ◌<ℤ◌, min, inl, inr, arith}
 use Rattle.std.specs.Int.RustNames.{unsigned_abs}
 use Rattle.std.proofs.lemmas.Bool.{cases_lt}
 use Rattle.std.proofs.lemmas.Int.{ints, by_lt_z}
@@ -20,26 +19,18 @@ IsNearStretch x y n r = past n x * past n x + y * y ≤ r * r
 
 within_is : (v : Vector) (r x y : ℕ) → unsigned_abs v.x ≡ x → unsigned_abs v.y ≡ y
     → IsNoLonger v (pos r) ↔ (x * x + y * y ≤ r * r)
-within_is v r x y e f =
-    let squares = rw (e, f) at (dot_is v) in
-    ((λ h. omega (arith, ints, h, squares)), (λ h. omega (arith, ints, h, squares)))
+within_is v r x y e f = grind (arith, dot_is, ints)
 
 within_by : (v : Vector) (r x y : ℕ) → x ≤ unsigned_abs v.x → unsigned_abs v.y ≡ y → IsNoLonger v (pos r)
     → x * x + y * y ≤ r * r
-within_by v r x y least f near =
-    let most = (within_is v r (unsigned_abs v.x) y (omega arith) f).0 near in
-    omega (arith, most, mul-le x x (unsigned_abs v.x) (unsigned_abs v.x) least least)
+within_by v r x y least f near = grind (arith, within_is, mul-le)
 
 beside_stretch : (x y n r : ℕ) → x ≤ n → y ≤ r → IsNearStretch x y n r
-beside_stretch x y n r short near =
-    let none : past n x ≡ 0 = omega arith in
-    rw none (omega (arith, mul-le y y r r near near))
+beside_stretch x y n r short near = grind (arith, mul-le)
 
 near_stretch : (v : Vector) (n r : ℕ) → IsAlong v (pos n) (pos r)
     → IsNearStretch (unsigned_abs v.x) (unsigned_abs v.y) n r
-near_stretch v n r (inl between) =
-    beside_stretch (unsigned_abs v.x) (unsigned_abs v.y) n r (omega (arith, ints, between.across))
-    (omega (arith, ints, between.along))
+near_stretch v n r (inl between) = grind (arith, beside_stretch, ints)
 near_stretch v n r (inr (inl near)) =
     within_by (from_left_end v (pos n)) r (past n (unsigned_abs v.x)) (unsigned_abs v.y) (omega (arith, ints))
     (omega arith) near
@@ -53,21 +44,11 @@ by_sign z = by_lt_z z (pos 0) (λ less. inl less) (λ least. inr least)
 -- past an end of the stretch, that end is near
 past_end : (v : Vector) (n r : ℕ) → n < unsigned_abs v.x → IsNearStretch (unsigned_abs v.x) (unsigned_abs v.y) n r
     → IsAlong v (pos n) (pos r)
-past_end v n r far near =
-    elim (by_sign v.x) [
-      | inl left ↦
-          inr (inl ((within_is (from_left_end v (pos n)) r (past n (unsigned_abs v.x)) (unsigned_abs v.y)
-          (omega (arith, ints)) (omega arith)).1 near))
-      | inr right ↦
-          inr (inr ((within_is (from_right_end v (pos n)) r (past n (unsigned_abs v.x)) (unsigned_abs v.y)
-          (omega (arith, ints)) (omega arith)).1 near))
-    ]
+past_end v n r far near = grind (arith, by_sign, within_is, ints)
 
 beside : (v : Vector) (n r : ℕ) → unsigned_abs v.x ≤ n → IsNearStretch (unsigned_abs v.x) (unsigned_abs v.y) n r
     → IsAlong v (pos n) (pos r)
-beside v n r short near =
-    let least : unsigned_abs v.y ≤ r = squares_order (unsigned_abs v.y) r (omega arith) in
-    inl (record { across = omega (arith, ints); along = omega (arith, ints) })
+beside v n r short near = grind (arith, squares_order, ints)
 
 along_is : (v : Vector) (n r : ℕ)
     → IsAlong v (pos n) (pos r) ↔ IsNearStretch (unsigned_abs v.x) (unsigned_abs v.y) n r
@@ -78,16 +59,10 @@ along_is v n r = (
 
 -- the stretch of a wide obround lies along x, and that of a high one along y
 wide_quarter : (x y w h : ℕ) → h ≤ w → IsInQuarter x y w h ↔ IsNearStretch x y (w - h) h
-wide_quarter x y w h wide =
-    let shorter : min w h ≡ h = omega arith in
-    let whole : past (h - h) y ≡ y = omega arith in
-    rw (shorter, whole) ((λ p. p), (λ p. p))
+wide_quarter x y w h wide = grind arith
 
 high_quarter : (x y w h : ℕ) → w < h → IsInQuarter x y w h ↔ IsNearStretch y x (h - w) w
-high_quarter x y w h high =
-    let shorter : min w h ≡ w = omega arith in
-    let whole : past (w - w) x ≡ x = omega arith in
-    rw (shorter, whole) ((λ p. omega arith), (λ p. omega arith))
+high_quarter x y w h high = grind arith
 
 wide_is : (v : Vector) (w h : ℕ) → h ≤ w → IsRounded v (pos w) (pos h) ↔ IsAlong v (pos (w - h)) (pos h)
 wide_is v w h wide =
@@ -135,19 +110,9 @@ obround_is s o w h over wide high e f g =
 
 -- a row above or below an obround holds none of it
 pub over_obround : (x over w h : ℕ) → h < over → IsInQuarter x over w h → ⊥
-over_obround x over w h far inside =
-    let r = min w h in
-    let beyond : r + 1 ≤ past (h - r) over = omega arith in
-    omega (arith, inside, mul-le (r + 1) (r + 1) (past (h - r) over) (past (h - r) over) beyond beyond)
+over_obround x over w h far inside = grind (arith, mul-le)
 
 -- the reach of an end
 pub round_reach : (x over w h m p room half : ℕ) → m ≡ min w h → p ≡ over - (h - m) → room ≡ m * m - p * p → over ≤ h
     → half * half ≤ room → room < (half + 1) * (half + 1) → (x ≤ w - m + half) ↔ IsInQuarter x over w h
-round_reach x over w h m p room half e f g low least greatest =
-    let short : p ≤ m = omega arith in
-    let some = mul-le p p m m short short in
-    let root = below_root (past (w - m) x) room half least greatest in
-    rw (← e, ← f) (
-      (λ near. let squares = root.1 (omega arith) in omega arith),
-      (λ inside. let near = root.0 (omega arith) in omega arith),
-    )
+round_reach x over w h m p room half e f g low least greatest = grind (arith, mul-le, below_root)

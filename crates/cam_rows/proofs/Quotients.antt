@@ -1,6 +1,6 @@
 -- Quotients that are rounded down, and what they leave, as 128 bits compute them.
-use Rattle.std.proofs.Common.{◌≡◌, ℕ, suc, ◌/◌, ◌^◌, ◌<◌, ◌≤◌, ℤ, pos, negsuc, ◌+ℤ◌, ◌-ℤ◌, ◌*ℤ◌, ◌≤ℤ◌, ◌<ℤ◌}
-use Rattle.std.proofs.Common.{FitsSigned, to_z, arith}
+use Rattle.std.proofs.Common.{rules, ◌≡◌, ℕ, suc, ◌/◌, ◌^◌, ◌<◌, ◌≤◌, ℤ, pos, negsuc, ◌+ℤ◌, ◌-ℤ◌, ◌*ℤ◌, ◌≤ℤ◌, ◌<ℤ◌, FitsSigned}
+use Rattle.std.proofs.Common.{to_z, arith}
 use Rattle.std.specs.Int.{w128}
 use Rattle.std.specs.Int.RustNames.{unsigned_abs}
 use Rattle.std.proofs.lemmas.Int.{fits_signed_from_abs, ints}
@@ -18,18 +18,10 @@ greatest_natural a b q some e = rw e (omega (arith, ints))
 
 -- and where it is
 lost : (q b : ℕ) → (negsuc 0 -ℤ pos q) *ℤ pos b ≡ pos 0 -ℤ (pos q +ℤ pos 1) *ℤ pos b
-lost q b =
-    equal
-    (Product (Difference (Atom (negsuc 0)) (Atom (pos q))) (Atom (pos b)))
-    (Difference (Atom (pos 0)) (Product (Sum (Atom (pos q)) (Atom (pos 1))) (Atom (pos b))))
-    (omega arith)
+lost q b = grind (arith, equal, Product, Difference, Atom, Sum)
 
 lost_less : (q b : ℕ) → (negsuc 0 -ℤ pos q +ℤ pos 1) *ℤ pos b ≡ pos 0 -ℤ pos q *ℤ pos b
-lost_less q b =
-    equal
-    (Product (Sum (Difference (Atom (negsuc 0)) (Atom (pos q))) (Atom (pos 1))) (Atom (pos b)))
-    (Difference (Atom (pos 0)) (Product (Atom (pos q)) (Atom (pos b))))
-    (omega arith)
+lost_less q b = grind (arith, equal, Product, Sum, Difference, Atom)
 
 opposite_of_more : (a : ℕ) (z : ℤ) → pos a <ℤ z → (pos 0 -ℤ z) ≤ℤ negsuc a
 opposite_of_more a z h = omega (arith, ints)
@@ -38,12 +30,10 @@ opposite_of_most : (a : ℕ) (z : ℤ) → z ≤ℤ pos a → negsuc a <ℤ (pos
 opposite_of_most a z h = omega (arith, ints)
 
 least_negative : (a b q : ℕ) → 0 < b → q ≡ a / b → ((negsuc 0 -ℤ pos q) *ℤ pos b) ≤ℤ negsuc a
-least_negative a b q some e =
-    rw (lost q b) (opposite_of_more a ((pos q +ℤ pos 1) *ℤ pos b) (greatest_natural a b q some e))
+least_negative a b q some e = search (rules, lost, opposite_of_more, greatest_natural)
 
 greatest_negative : (a b q : ℕ) → 0 < b → q ≡ a / b → negsuc a <ℤ ((negsuc 0 -ℤ pos q +ℤ pos 1) *ℤ pos b)
-greatest_negative a b q some e =
-    rw (lost_less q b) (opposite_of_most a (pos q *ℤ pos b) (least_natural a b q some e))
+greatest_negative a b q some e = grind (arith, lost_less, opposite_of_most, least_natural)
 
 -- as 128 bits compute it
 magnitude : (a : ℕ) → a < 2 ^ 127 → unsigned_abs (wide (pos a)) ≡ a
@@ -59,8 +49,7 @@ long_negative : (a : ℕ) → FitsSigned w128 (negsuc a) → a < 2 ^ 127
 long_negative a fits = omega (arith, ints)
 
 short_quotient : (a b q : ℕ) → 0 < b → a < 2 ^ 127 → q ≡ a / b → q < 2 ^ 127
-short_quotient a b q some h e =
-    rw e (omega (arith, mul-le 1 (a / b) b (a / b) some (omega arith)))
+short_quotient a b q some h e = grind (arith, mul-le)
 
 kept : (q : ℕ) → q < 2 ^ 127 → to_z w128 q ≡ pos q
 kept q h = omega (arith, ints)
@@ -88,14 +77,8 @@ pub record IsFloor (q n d : ℤ) : Type 0 where
 
 pub floor_up : (n d : ℤ) (q : ℕ) → IsDivisor d → FitsSigned w128 n → pos 0 ≤ℤ n → IsQuotient q n d
     → IsFloor (to_z w128 q) n d
-floor_up (pos a) (pos b) q h fits up e =
-    let some = divisor_some b h in
-    let long = long_natural a fits in
-    let told = rw (magnitude a long, magnitude b (divisor_long b h)) at e in
-    rw (kept q (short_quotient a b q some long told))
-    (record { least = least_natural a b q some told; greatest = greatest_natural a b q some told })
-floor_up (negsuc a) d q h fits up e = absurd (omega (arith, ints))
-floor_up (pos a) (negsuc b) q h fits up e = absurd (omega (arith, ints, h.0))
+floor_up n d q h fits up e =
+    grind (arith, divisor_some, long_natural, magnitude, divisor_long, kept, short_quotient, least_natural, greatest_natural)
 
 pub floor_down : (n d : ℤ) (q : ℕ) → IsDivisor d → FitsSigned w128 n → n <ℤ pos 0 → IsQuotientBelow q n d
     → IsFloor (wide (negsuc 0 -ℤ to_z w128 q)) n d
@@ -110,8 +93,7 @@ floor_down (negsuc a) (negsuc b) q h fits down e = absurd (omega (arith, ints, h
 
 -- what is left of a number
 next_product : (q d : ℤ) → (q +ℤ pos 1) *ℤ d ≡ q *ℤ d +ℤ d
-next_product q d =
-    equal (Product (Sum (Atom q) (Atom (pos 1))) (Atom d)) (Sum (Product (Atom q) (Atom d)) (Atom d)) (omega arith)
+next_product q d = search (rules, equal, Product, Sum, Atom)
 
 rest_within : (n p d : ℤ) → p ≤ℤ n → n <ℤ (p +ℤ d) → IsRest (n -ℤ p) d
 rest_within n p d least greatest = (omega (arith, ints), omega (arith, ints))
@@ -137,10 +119,7 @@ difference_fits n p h k = omega (arith, ints)
 
 pub floor_of : (q n d : ℤ) → unsigned_abs n ≤ 2 ^ 101 → IsDivisor d → (q *ℤ wide d) ≤ℤ wide n
     → wide n <ℤ ((q +ℤ pos 1) *ℤ wide d) → IsFloor q n d
-floor_of q n d short h least greatest =
-    let same = kept_divisor d h in
-    let number = kept_number n (omega arith) in
-    record { least = rw (same, number) at least; greatest = rw (same, number) at greatest }
+floor_of q n d short h least greatest = grind (arith, kept_divisor, kept_number)
 
 below_next : (q n d : ℤ) → IsFloor q n d → n <ℤ (q *ℤ d +ℤ d)
 below_next q n d at = rw (← next_product q d) at.greatest
@@ -150,21 +129,15 @@ product_short q n d short h at = product_bound n (q *ℤ d) d short h at.least (
 
 rest_is : (q n d : ℤ) → unsigned_abs n ≤ 2 ^ 101 → IsDivisor d → FitsSigned w128 q → IsFloor q n d
     → wide (wide n -ℤ wide (wide q *ℤ wide d)) ≡ n -ℤ q *ℤ d
-rest_is q n d short h fits at =
-    rw (kept_fitting q fits, kept_divisor d h)
-    (kept_difference n (q *ℤ d) short (product_short q n d short h at))
+rest_is q n d short h fits at = grind (arith, kept_fitting, kept_divisor, kept_difference, product_short)
 
 pub product_fits : (q n d : ℤ) → unsigned_abs n ≤ 2 ^ 101 → IsDivisor d → FitsSigned w128 q → IsFloor q n d
     → FitsSigned w128 (wide q *ℤ wide d)
-product_fits q n d short h fits at =
-    let bound = product_short q n d short h at in
-    rw (kept_fitting q fits, kept_divisor d h) (fits_signed_from_abs w128 (q *ℤ d) (omega arith))
+product_fits q n d short h fits at = grind (arith, product_short, kept_fitting, kept_divisor, fits_signed_from_abs)
 
 pub rest_fits : (q n d : ℤ) → unsigned_abs n ≤ 2 ^ 101 → IsDivisor d → FitsSigned w128 q → IsFloor q n d
     → FitsSigned w128 (wide n -ℤ wide (wide q *ℤ wide d))
-rest_fits q n d short h fits at =
-    rw (kept_fitting q fits, kept_divisor d h)
-    (difference_fits n (q *ℤ d) short (product_short q n d short h at))
+rest_fits q n d short h fits at = grind (arith, kept_fitting, kept_divisor, difference_fits, product_short)
 
 pub whole_again : (q n d : ℤ) → unsigned_abs n ≤ 2 ^ 101 → IsDivisor d → FitsSigned w128 q → IsFloor q n d
     → whole (wide q) d (wide (wide n -ℤ wide (wide q *ℤ wide d))) ≡ n
@@ -189,6 +162,4 @@ negative_part a b r some below short = omega (arith, ints, mul-le a 1 a b (omega
 
 pub short_part : (q d r : ℤ) → IsDivisor d → IsRest r d → unsigned_abs (whole q d r) ≤ 2 ^ 101
     → unsigned_abs q ≤ 2 ^ 102
-short_part (pos a) (pos b) r h rest short = natural_part a b r (divisor_some b h) rest.0 short
-short_part (negsuc a) (pos b) r h rest short = negative_part a b r (divisor_some b h) rest.1 short
-short_part q (negsuc b) r h rest short = absurd (omega (arith, ints, h.0))
+short_part q d r h rest short = grind (arith, natural_part, divisor_some, negative_part, ints)

@@ -18,24 +18,14 @@ abbrev IsByRoot : ℕ → ℕ → ℕ → ℕ → Type 0
 IsByRoot p q s root = (q + s ≤ p + root) × (p ≤ q + s + root)
 
 gap_within : (p q s root : ℕ) → (unsigned_abs (pos p -ℤ pos q -ℤ pos s) ≤ root) ↔ IsByRoot p q s root
-gap_within p q s root = (
-  (λ h. (omega (arith, ints), omega (arith, ints))),
-  (λ h. omega (arith, ints, h.0, h.1)),
-)
+gap_within p q s root = grind (arith, ints)
 
 square_within : (z : ℤ) (n : ℕ) → (square z ≤ℤ pos n) ↔ (unsigned_abs z * unsigned_abs z ≤ n)
 square_within z n = rw (square_is z) ((λ h. omega (arith, ints)), (λ h. omega (arith, ints)))
 
 between_by_root : (p q s root : ℕ) → IsRoot root (4 * s * q)
     → (square (pos p -ℤ pos q -ℤ pos s) ≤ℤ pos (4 * s * q)) ↔ IsByRoot p q s root
-between_by_root p q s root is =
-    let z = pos p -ℤ pos q -ℤ pos s in
-    let root_of = below_root (unsigned_abs z) (4 * s * q) root is.0 is.1 in
-    let within = square_within z (4 * s * q) in
-    let gap = gap_within p q s root in (
-      (λ h. gap.0 (root_of.0 (within.0 h))),
-      (λ h. within.1 (root_of.1 (gap.1 h))),
-    )
+between_by_root p q s root is = grind (arith, below_root, square_within, gap_within)
 
 near_by_root : (p q s root : ℕ) (r : ℤ) → pos s ≡ square r → IsRoot root (4 * s * q)
     → IsNearCircle (pos p) (pos q) r ↔ ((p + q ≤ s) ⊎ IsByRoot p q s root)
@@ -68,21 +58,11 @@ long_root q s root order is =
 
 full_ring : (p q s root : ℕ) → q ≤ s → IsRoot root (4 * s * q)
     → ((p + q ≤ s) ⊎ IsByRoot p q s root) ↔ ((0 ≤ p) × (p < q + s + root + 1))
-full_ring p q s root order is =
-    let long = long_root q s root order is in (
-      (λ h. elim h [ inl sum ↦ (omega arith, omega arith) | inr near ↦ (omega arith, omega arith) ]),
-      (λ h. elim (cases_lt s (p + q)) [
-        | inl more ↦ inr (omega arith, omega arith)
-        | inr sum ↦ inl sum
-      ]),
-    )
+full_ring p q s root order is = grind (arith, long_root, cases_lt)
 
 open_ring : (p q s root : ℕ) → s < q
     → ((p + q ≤ s) ⊎ IsByRoot p q s root) ↔ ((q + s - root ≤ p) × (p < q + s + root + 1))
-open_ring p q s root order = (
-  (λ h. elim h [ inl sum ↦ absurd (omega arith) | inr near ↦ (omega arith, omega arith) ]),
-  (λ h. inr (omega arith, omega arith)),
-)
+open_ring p q s root order = grind arith
 
 through : {A B C : Type 0} → (A ↔ B) → (B ↔ C) → A ↔ C
 through f g = ((λ a. g.0 (f.0 a)), (λ c. f.1 (g.1 c)))

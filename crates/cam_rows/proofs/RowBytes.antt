@@ -1,7 +1,6 @@
 -- The bytes of a row whose bits are turned over in each byte: runs of four bits are exchanged, of two, and single ones.
-use Rattle.std.proofs.Common.{◌≡◌, ℕ, zero, suc, ◌+◌, ◌*◌, ◌-◌, ◌/◌, ◌%◌, ◌^◌, ◌<◌, ◌≤◌, ◌↔◌, ◌⊎◌}
-use Rattle.std.proofs.Common.{Bool, true, ◌&&◌, List, slice_index, nat_eq, refl, ap, sym, inl, inr, ◌∙◌, arith}
-use Rattle.std.proofs.Common.{bit_and, bit_or, subst}
+use Rattle.std.proofs.Common.{rules, ◌≡◌, ℕ, zero, suc, ◌+◌, ◌*◌, ◌-◌, ◌/◌, ◌%◌, ◌^◌, ◌<◌, ◌≤◌, ◌↔◌, ◌⊎◌, Bool, true, ◌&&◌, List}
+use Rattle.std.proofs.Common.{slice_index, nat_eq, refl, ap, sym, inl, inr, ◌∙◌, arith, bit_and, bit_or, subst}
 use Rattle.std.specs.Int.{IsBitSet, bit_at, byte_at, bytes_low_first, to_le_bytes, w64}
 use Rattle.std.proofs.lemmas.Bool.{and_parts, cases_lt, eqb-true}
 use Rattle.std.proofs.lemmas.Nat.{pow-add, shr-shr}
@@ -20,23 +19,7 @@ IsExchanged row lower places result i =
 pub exchanged_bit : (row lower places i : ℕ) → i < 64
     → IsExchanged row lower places
     (bit_or (bit_and (row / 2 ^ places) lower) (bit_and row lower * 2 ^ places % 2 ^ 64)) i
-exchanged_bit row lower places i within =
-    let up = set_in_and (row / 2 ^ places) lower i in
-    let from_above = set_in_shr row places i in
-    let down = set_in_shl (bit_and row lower) places i within in
-    let from_below = set_in_and row lower (i - places) in
-    let either = set_in_or (bit_and (row / 2 ^ places) lower) (bit_and row lower * 2 ^ places % 2 ^ 64) i in (
-      (λ h. elim (either.0 h) [
-        | inl above ↦ inl ((up.0 above).1, from_above.0 (up.0 above).0)
-        | inr below ↦
-            (let kept = from_below.0 (down.0 below).1 in
-            inr ((down.0 below).0, kept.1, kept.0))
-      ]),
-      (λ h. either.1 (elim h [
-        | inl above ↦ inl (up.1 (from_above.1 above.1, above.0))
-        | inr below ↦ inr (down.1 (below.0, from_below.1 (below.2, below.1)))
-      ])),
-    )
+exchanged_bit row lower places i within = search (rules, set_in_and, set_in_shr, set_in_shl, set_in_or)
 
 -- ---- runs of bits that are exchanged, in a byte after all
 
@@ -75,9 +58,7 @@ parity n = elim (cases_lt (n % 2) 1) [ inl low ↦ inl (omega arith) | inr high 
 
 -- a run further down
 run_before : (i run : ℕ) → 0 < run → run ≤ i → i / run ≡ (i - run) / run + 1
-run_before i run some past =
-    let back : i - run + run ≡ i = omega arith in
-    ap (λ n. n / run) (sym back) ∙ add-div_right (i - run) some
+run_before i run some past = grind (arith, add-div_right)
 
 from_other : (row lower run result i : ℕ) → 0 < run → holds_below (has_lower_runs lower run) 64 ≡ true → i < 64
     → IsExchanged row lower run result i → IsBitSet result i ↔ IsBitSet row (other run i)
@@ -120,8 +101,7 @@ bytes_as_bits (suc place) =
 
 -- a byte by its place above the lowest one
 byte_of_place : (n place : ℕ) → byte_at place n ≡ n / 2 ^ (8 * place) % 2 ^ 8
-byte_of_place n zero = omega arith
-byte_of_place n (suc place) = ap (λ m. n / m % 2 ^ 8) (sym (bytes_as_bits (suc place)))
+byte_of_place n place = grind (arith, bytes_as_bits)
 
 byte_from_lowest : (first count n j : ℕ) → j < count
     → slice_index (bytes_low_first first count n) j ≡ byte_at (first + j) n
@@ -142,9 +122,7 @@ bit_of_byte n place bit within low =
 
 -- where a bit goes as runs of four are exchanged, of two, and single bits
 turned_back : (i : ℕ) → i < 64 → other 4 (other 2 (other 1 (8 * (i / 8) + (7 - i % 8)))) ≡ i
-turned_back i within =
-    eqb-true (other 4 (other 2 (other 1 (8 * (i / 8) + (7 - i % 8))))) i
-    (holds_at (λ i. nat_eq (other 4 (other 2 (other 1 (8 * (i / 8) + (7 - i % 8))))) i) 64 i refl within)
+turned_back i within = grind (arith, eqb-true, holds_at)
 
 pub bits_of_bytes : (row fours twos ones i : ℕ) (bytes : List ℕ)
     → ((k : ℕ) → k < 64 → IsExchanged row 0x0f0f_0f0f_0f0f_0f0f 4 fours k)

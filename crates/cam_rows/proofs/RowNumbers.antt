@@ -20,34 +20,27 @@ kept_change z h = omega (arith, ints)
 -- the change from the top row, and the number itself
 pub change_fits : (n : ℕ) (first down : ℤ) → Fits w64 n → unsigned_abs first < 2 ^ 100 → unsigned_abs down < 2 ^ 100
     → unsigned_abs (first +ℤ pos n *ℤ down) < 2 ^ 100 → FitsSigned w128 (to_z w128 n *ℤ wide down)
-change_fits n first down fits h k short =
-    let bound : unsigned_abs (pos n *ℤ down) < 2 ^ 101 = change_short first (pos n *ℤ down) h short in
-    rw (kept_steps n fits, kept_sum down k) (fits_signed_from_abs w128 (pos n *ℤ down) (omega arith))
+change_fits n first down fits h k short = grind (arith, change_short, kept_steps, kept_sum, fits_signed_from_abs)
 
 same_change : (n : ℕ) (first down : ℤ) → Fits w64 n → unsigned_abs first < 2 ^ 100 → unsigned_abs down < 2 ^ 100
     → unsigned_abs (first +ℤ pos n *ℤ down) < 2 ^ 100 → wide (to_z w128 n *ℤ wide down) ≡ pos n *ℤ down
-same_change n first down fits h k short =
-    rw (kept_steps n fits, kept_sum down k) (kept_change _ (change_short first (pos n *ℤ down) h short))
+same_change n first down fits h k short = grind (arith, kept_steps, kept_sum, kept_change, change_short)
 
 pub number_fits : (n : ℕ) (first down : ℤ) → Fits w64 n → unsigned_abs first < 2 ^ 100 → unsigned_abs down < 2 ^ 100
     → unsigned_abs (first +ℤ pos n *ℤ down) < 2 ^ 100 → FitsSigned w128 (wide first +ℤ wide (to_z w128 n *ℤ wide down))
-number_fits n first down fits h k short =
-    rw (kept_sum first h, same_change n first down fits h k short) (sum_fits _ short)
+number_fits n first down fits h k short = grind (arith, kept_sum, same_change, sum_fits)
 
 pub same_number : (n : ℕ) (first down : ℤ) → Fits w64 n → unsigned_abs first < 2 ^ 100 → unsigned_abs down < 2 ^ 100
     → unsigned_abs (first +ℤ pos n *ℤ down) < 2 ^ 100
     → wide (wide first +ℤ wide (to_z w128 n *ℤ wide down)) ≡ first +ℤ pos n *ℤ down
-same_number n first down fits h k short =
-    rw (kept_sum first h, same_change n first down fits h k short) (kept_sum _ short)
+same_number n first down fits h k short = grind (arith, kept_sum, same_change)
 
 -- how much greater a number is so many columns further on, and the number there
 kept_columns : (n : ℕ) → n < 2 ^ 16 → to_z w128 n ≡ pos n
 kept_columns n h = omega (arith, ints)
 
 columns_short : (n : ℕ) (step : ℤ) → n < 2 ^ 16 → unsigned_abs step < 2 ^ 100 → unsigned_abs (pos n *ℤ step) < 2 ^ 116
-columns_short n step h k =
-    let product = mul-lt n (unsigned_abs step) (2 ^ 16) (2 ^ 100) h k in
-    omega (arith, unsigned_abs-mul (pos n) step, product)
+columns_short n step h k = grind (arith, mul-lt, unsigned_abs-mul)
 
 kept_long : (z : ℤ) → unsigned_abs z < 2 ^ 116 → wide z ≡ z
 kept_long z h = omega (arith, ints)
@@ -63,6 +56,4 @@ columns_fit n step h k =
 
 pub number_there_fits : (n : ℕ) (z step : ℤ) → n < 2 ^ 16 → unsigned_abs z < 2 ^ 100 → unsigned_abs step < 2 ^ 100
     → FitsSigned w128 (wide z +ℤ wide (to_z w128 n *ℤ wide step))
-number_there_fits n z step h hz k =
-    let bound : unsigned_abs (pos n *ℤ step) < 2 ^ 116 = columns_short n step h k in
-    rw (kept_columns n h, kept_sum step k, kept_sum z hz, kept_long (pos n *ℤ step) bound) (sum_long z (pos n *ℤ step) hz bound)
+number_there_fits n z step h hz k = grind (arith, columns_short, kept_columns, kept_sum, kept_long, sum_long)

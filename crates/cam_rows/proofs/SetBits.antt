@@ -87,16 +87,4 @@ whole_run end i whole = rw whole (run_below 64 i)
 pub between_shifts : (first end i : ℕ) → end ≤ 64 → i < 64
     → IsBitSet (bit_and ((2 ^ 64 - 1) * 2 ^ first % 2 ^ 64) ((2 ^ 64 - 1) / 2 ^ (64 - end))) i
     ↔ ((first ≤ i) × (i < end))
-between_shifts first end i fits within =
-    let both = set_in_and ((2 ^ 64 - 1) * 2 ^ first % 2 ^ 64) ((2 ^ 64 - 1) / 2 ^ (64 - end)) i in
-    let up = set_in_shl (2 ^ 64 - 1) first i within in
-    let down = set_in_shr (2 ^ 64 - 1) (64 - end) i in
-    let high = whole_run 64 (i - first) refl in
-    let low = whole_run 64 (i + (64 - end)) refl in (
-      (λ set. let on = both.0 set in
-          ((up.0 on.0).0, omega (arith, fits, low.0 (down.0 on.1)))),
-      (λ run. both.1 (
-        up.1 (run.0, high.1 (omega (arith, within))),
-        down.1 (low.1 (omega (arith, fits, run.1))),
-      )),
-    )
+between_shifts first end i fits within = grind (arith, set_in_and, set_in_shl, set_in_shr, whole_run)

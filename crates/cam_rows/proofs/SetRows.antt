@@ -1,5 +1,5 @@
 -- Lists that are written from their start on, one number after another.
-use Rattle.std.proofs.Common.{◌≡◌, ◌↔◌, ℕ, ◌+◌, ◌<◌, ◌≤◌, ◌≢◌, List, length, slice_index, slice_set}
+use Rattle.std.proofs.Common.{◌≡◌, ◌↔◌, ℕ, ◌+◌, ◌<◌, ◌≤◌, List, length, slice_index, slice_set}
 use Rattle.std.proofs.Common.{get_or-set_other, get_or-set_same, inl, inr, refl, sym, ◌∙◌, arith}
 use Rattle.std.proofs.Math.ListN.{length-set}
 use Rattle.std.proofs.lemmas.Bool.{cases_lt}
@@ -18,16 +18,7 @@ module _ (IsFor : ℕ → ℕ → Type 0) (old : List ℕ) where
 
   pub next_set : (new : List ℕ) (row n : ℕ) → row < length old → AreSetAbove IsFor old row new → IsFor row n
       → AreSetAbove IsFor old (row + 1) (slice_set new row n)
-  next_set new row n within before here =
-      let inside : row < length new = omega (arith, before.size, within) in
-      record {
-        above = λ k early. elim (cases_lt k row) [
-          | inl less ↦ let apart : k ≢ row = omega arith in rw get_or-set_other (before.above k less)
-          | inr most ↦ let is : k ≡ row = omega arith in rw (is, get_or-set_same) here
-        ];
-        same = λ k late. let apart : k ≢ row = omega arith in rw get_or-set_other (before.same k (omega arith));
-        size = length-set new row _ ∙ before.size;
-      }
+  next_set new row n within before here = grind (arith, cases_lt, get_or-set_other, get_or-set_same, length-set)
 
 -- ---- runs that are cut
 
@@ -80,10 +71,7 @@ same_counted columns n count IsHeld told = record {
 -- and written for each row
 pub counted_alike : (columns n : ℕ) (IsHeld : ℕ → ℕ → Type 0) (end same : ℕ → ℕ)
     → ((k : ℕ) → k < n → same k ≡ end k) → AreCounted columns IsHeld n end → AreCounted columns IsHeld n same
-counted_alike columns n IsHeld end same alike counted = record {
-  each = λ k i within small. rw (alike k within) (counted.each k i within small);
-  within = λ k within. rw (alike k within) (counted.within k within);
-}
+counted_alike columns n IsHeld end same alike counted = grind arith
 
 -- ends of runs from the leftmost column on, of the columns that are held
 pub all_counted : (columns n : ℕ) (old new : List ℕ) (IsHeld : ℕ → ℕ → Type 0) (row : ℕ) → n ≤ row

@@ -1,6 +1,5 @@
 -- The columns on one side of a circle's middle, counted outwards.
-use Rattle.std.proofs.Common.{◌≡◌, ℕ, ◌+◌, ◌-◌, ◌*◌, ◌<◌, ◌≤◌, arith}
-use Rattle.std.proofs.Common.{◌^◌, ◌↔◌, inl, inr, refl}
+use Rattle.std.proofs.Common.{rules, ◌≡◌, ℕ, ◌+◌, ◌-◌, ◌*◌, ◌<◌, ◌≤◌, arith, ◌^◌, ◌↔◌}
 use Rattle.std.proofs.lemmas.Bool.{cases_lt}
 use Rattle.std.proofs.lemmas.Nat.{mul-le}
 use Rattle.cam_rows.specs.declared.chord.side.ChordSide.{ChordSide}
@@ -17,10 +16,7 @@ beyond_on start step room i j order beyond =
 -- the column before the next one
 pub last_is : (reach : ℕ) (s : ChordSide) (last : ℕ) → IsSide reach s → 0 < s.inside → last ≡ s.next - s.step
     → last ≡ distance_at s (s.inside - 1)
-last_is reach s last side some is =
-    let inside : s.inside ≡ (s.inside - 1) + 1 = omega arith in
-    let next : s.next ≡ distance_at s ((s.inside - 1) + 1) = rw inside at side.next in
-    omega (arith, next, is)
+last_is reach s last side some is = search rules
 
 pub last_near : (reach : ℕ) (s : ChordSide) → IsSide reach s → 0 < s.inside → s.next - s.step < reach
 last_near reach s side some =
@@ -30,42 +26,14 @@ last_near reach s side some =
 
 -- by places: the one behind the last column, and the next one
 pub end_fits : (reach : ℕ) (s : ChordSide) → IsSide reach s → s.start + s.columns * s.step < 2 ^ 64
-end_fits reach s side = elim (cases_lt 0 s.columns) [
-  | inl some ↦
-      let last : s.columns ≡ (s.columns - 1) + 1 = omega arith in
-      let near = side.near (s.columns - 1) (omega (arith, some)) in
-      rw last (omega (arith, near, side.far, side.step))
-  | inr none ↦
-      let no : s.columns ≡ 0 = omega (arith, none) in
-      rw no (omega (arith, side.start, side.far))
-]
+end_fits reach s side = grind (arith, cases_lt)
 
 pub before_end : (reach columns : ℕ) (s t : ChordSide) → IsSide reach t → IsSameSide s t → columns ≡ s.columns
     → (t.next < s.start + columns * s.step) ↔ (t.inside < t.columns)
-before_end reach columns s t side same is =
-    let end : s.start + columns * s.step ≡ t.start + t.columns * t.step =
-    rw (same.start, same.columns, same.step, is) refl in
-    rw end (
-      (λ before. elim (cases_lt t.inside t.columns) [
-        | inl h ↦ h
-        | inr h ↦ absurd (omega (arith, before, side.next, mul-le t.columns t.step t.inside t.step h (omega arith)))
-      ]),
-      (λ h.
-          let farther = mul-le (t.inside + 1) t.step t.columns t.step (omega (arith, h)) (omega arith) in
-          omega (arith, side.next, side.some, farther)),
-    )
+before_end reach columns s t side same is = grind (arith, cases_lt, mul-le)
 
 pub past_start : (reach : ℕ) (s : ChordSide) → IsSide reach s → (s.start < s.next) ↔ (0 < s.inside)
-past_start reach s side = (
-  (λ past. elim (cases_lt 0 s.inside) [
-    | inl h ↦ h
-    | inr h ↦
-        let no : s.inside ≡ 0 = omega (arith, h) in
-        let next : s.next ≡ s.start + 0 * s.step = rw no at side.next in
-        absurd (omega (arith, past, next))
-  ]),
-  (λ h. omega (arith, side.next, side.some, mul-le 1 s.step s.inside s.step (omega (arith, h)) (omega arith))),
-)
+past_start reach s side = grind (arith, cases_lt, mul-le)
 
 -- where a walk outwards ends
 pub reached_outwards : (reach : ℕ) (s : ChordSide) (room : ℕ) → IsSide reach s → AreNear s room

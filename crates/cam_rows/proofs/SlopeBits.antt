@@ -1,5 +1,6 @@
 -- How many columns there are up to the last number that is not negative, where they fall.
-use Rattle.std.proofs.Common.{◌≡◌, ℕ, suc, zero, ◌+◌, ◌≤◌, ◌<◌, ◌↔◌, ℤ, pos, negsuc, ◌+ℤ◌, ◌-ℤ◌, ◌*ℤ◌, ◌≤ℤ◌, ◌<ℤ◌, ap, subst, sym, ◌∙◌, ◌⊎◌, inl, inr, max, min, arith}
+use Rattle.std.proofs.lemmas.Grind.{common_steps}
+use Rattle.std.proofs.Common.{◌≡◌, ℕ, suc, ◌+◌, ◌≤◌, ◌<◌, ◌↔◌, ℤ, pos, negsuc, ◌+ℤ◌, ◌-ℤ◌, ◌*ℤ◌, ◌≤ℤ◌, ◌<ℤ◌, ap, subst, sym, ◌∙◌, ◌⊎◌, inl, inr, max, min, arith}
 use Rattle.std.proofs.lemmas.Bool.{cases_lt}
 use Rattle.std.proofs.lemmas.Int.{by_lt_z, ints}
 use Rattle.std.proofs.lemmas.Nat.{mul-le}
@@ -22,14 +23,7 @@ none_whole a b r h = omega (arith, ints)
 
 positive_quotient : (q d r : ℤ) → pos 1 ≤ℤ d → (pos 0 -ℤ d) ≤ℤ r → r <ℤ pos 0
     → (pos 0 <ℤ q) ↔ (pos 0 ≤ℤ whole q d r)
-positive_quotient (pos zero) (pos b) r h low high =
-    ((λ up. absurd (omega (arith, ints))), (λ up. absurd (omega (arith, ints))))
-positive_quotient (pos (suc a)) (pos b) r h low high = ((λ _. some_whole a b r low), (λ _. omega (arith, ints)))
-positive_quotient (negsuc a) (pos b) r h low high = (
-  (λ up. absurd (omega (arith, ints))),
-  (λ up. let less = none_whole a b r high in absurd (omega (arith, ints, less))),
-)
-positive_quotient q (negsuc b) r h low high = absurd (omega (arith, ints, h))
+positive_quotient q d r h low high = grind (arith, common_steps, ints, some_whole, none_whole)
 
 left_whole : (e d r : ℤ) (i : ℕ) → whole e d r +ℤ pos i *ℤ (pos 0 -ℤ d) ≡ whole (e -ℤ pos i) d r
 left_whole e d r i =
@@ -52,8 +46,7 @@ up_to_last e d r i h low high =
 -- by a crossing
 pub crossing_tells : (c : Crossing) (t : Steps) (bound i : ℕ) → AreSteps t → IsCrossing t bound c
     → (pos i <ℤ c.columns) ↔ (pos 0 ≤ℤ number_on (falling c t) i)
-crossing_tells c t bound i steps here =
-    up_to_last c.columns t.divisor c.rest i steps.divisor.0 here.low here.high
+crossing_tells c t bound i steps here = grind (arith, up_to_last)
 
 -- ---- a crossing that lies in one column in some rows
 
@@ -76,10 +69,7 @@ lower_whole e d r change k =
 rest_between : (r d change : ℤ) (k last : ℕ) → k ≤ last → (pos 0 -ℤ d) ≤ℤ r → r <ℤ pos 0
     → (pos 0 -ℤ d) ≤ℤ (r +ℤ pos last *ℤ change) → (r +ℤ pos last *ℤ change) <ℤ pos 0
     → ((pos 0 -ℤ d) ≤ℤ (r +ℤ pos k *ℤ change)) × ((r +ℤ pos k *ℤ change) <ℤ pos 0)
-rest_between r d change k last within low high last_low last_high = elim (steps_within change k last within) [
-  | inl on ↦ (omega (arith, ints, on.0, low), omega (arith, ints, on.1, last_high))
-  | inr back ↦ (omega (arith, ints, back.0, last_low), omega (arith, ints, back.1, high))
-]
+rest_between r d change k last within low high last_low last_high = grind (arith, steps_within, ints)
 
 pub stays_tells : (c : Crossing) (t : Steps) (bound k last i : ℕ) → AreSteps t → IsCrossing t bound c → k ≤ last
     → IsRestAfter last c t → (pos i <ℤ c.columns) ↔ IsUp (falling c t) k i
@@ -103,10 +93,7 @@ stays_counted c t bound k last columns count i steps here within stays told =
 -- ends that are cut to one number of columns
 pub end_cut_to : (end new columns most i : ℕ) (Early IsHeld : Type 0) → new ≡ min end columns → end ≤ most
     → (i < columns) ↔ ((i < most) × Early) → Early ↔ IsHeld → (i < new) ↔ ((i < end) × IsHeld)
-end_cut_to end new columns most i Early IsHeld is all before same = (
-  (λ on. (omega (arith, is, on), same.0 (before.0 (omega (arith, is, on))).1)),
-  (λ both. let less = before.1 (omega (arith, both.0, all), same.1 both.1) in omega (arith, is, both.0, less)),
-)
+end_cut_to end new columns most i Early IsHeld is all before same = grind arith
 
 -- by a quotient that is rounded down
 pub quotient_tells : (q d r n : ℤ) (i : ℕ) → pos 1 ≤ℤ d → IsRest r d → whole q d r ≡ n
@@ -129,10 +116,7 @@ lacking_number f t i =
     (omega arith)
 
 negative_lacks : (z : ℤ) → (pos 0 ≤ℤ z) ↔ (pos 0 ≤ℤ (negsuc 0 -ℤ z) → ⊥)
-negative_lacks z = (
-  (λ up down. absurd (omega (arith, ints, up, down))),
-  (λ off. by_lt_z z (pos 0) (λ down. absurd (off (omega (arith, ints, down)))) (λ up. up)),
-)
+negative_lacks z = grind (arith, ints, by_lt_z)
 
 pub lacking_in_row : (f t : ℤ) (i : ℕ)
     → (pos 0 ≤ℤ (f +ℤ pos i *ℤ t)) ↔ (pos 0 ≤ℤ ((negsuc 0 -ℤ f) +ℤ pos i *ℤ (pos 0 -ℤ t)) → ⊥)

@@ -1,6 +1,5 @@
 -- Numbers at the centres of rows, one row below another.
-use Rattle.std.proofs.Common.{◌≡◌, ℕ, ◌+◌, ℤ, pos, ◌+ℤ◌, ◌-ℤ◌, ◌*ℤ◌}
-use Rattle.std.proofs.Common.{ap, sym, ◌∙◌, arith}
+use Rattle.std.proofs.Common.{rules, ◌≡◌, ℕ, ◌+◌, ℤ, pos, ◌+ℤ◌, ◌-ℤ◌, ◌*ℤ◌, ap, sym, ◌∙◌, arith}
 use Rattle.std.proofs.lemmas.Int.{ints}
 use Rattle.cam_units.proofs.Ring.{Atom, Difference, Product, Sum, equal}
 use Rattle.cam_rows.specs.declared.centres.Centres.{Centres}
@@ -13,12 +12,7 @@ pub no_steps : (x step : ℤ) → x +ℤ pos 0 *ℤ step ≡ x
 no_steps x step = equal (Sum (Atom x) (Product (Atom (pos 0)) (Atom step))) (Atom x) (omega arith)
 
 one_more_step : (x step : ℤ) (k : ℕ) → (x +ℤ pos k *ℤ step) +ℤ pos 1 *ℤ step ≡ x +ℤ pos (k + 1) *ℤ step
-one_more_step x step k =
-    let next : pos (k + 1) ≡ pos k +ℤ pos 1 = omega (arith, ints) in
-    rw next (equal
-    (Sum (Sum (Atom x) (Product (Atom (pos k)) (Atom step))) (Product (Atom (pos 1)) (Atom step)))
-    (Sum (Atom x) (Product (Sum (Atom (pos k)) (Atom (pos 1))) (Atom step)))
-    (omega arith))
+one_more_step x step k = search (rules, ints, equal, Sum, Atom, Product)
 
 -- the same numbers but for the first one
 from_first : HalfPlane → ℤ → HalfPlane

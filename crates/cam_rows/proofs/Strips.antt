@@ -1,6 +1,6 @@
 -- Strips along lines, by where they begin and end in each row.
-use Rattle.std.proofs.Common.{◌≡◌, ◌↔◌, ◌⊎◌, ℕ, ◌<◌, ℤ, pos, negsuc, ◌+ℤ◌, ◌-ℤ◌, ◌≤ℤ◌, List, None, length}
-use Rattle.std.proofs.Common.{slice_index, inl, inr, ap, refl, ◌∙◌, arith}
+use Rattle.std.proofs.Common.{◌≡◌, ◌↔◌, ◌⊎◌, ℕ, ℤ, pos, negsuc, ◌+ℤ◌, ◌-ℤ◌, ◌≤ℤ◌, List, None, length}
+use Rattle.std.proofs.Common.{inl, inr, ap, refl, ◌∙◌, arith}
 use Rattle.std.proofs.lemmas.Bool.{cases_lt}
 use Rattle.std.proofs.lemmas.Int.{by_lt_z, ints}
 use Rattle.cam_units.specs.declared.point.Spot.{Spot}
@@ -54,9 +54,7 @@ module _ (h f : HalfPlane) (low high : HalfPlane) (reach e : ℤ)
   taken : (k i : ℕ) → ((f ≡ h) × (e ≡ pos 0))
       ⊎ ((f ≡ lacking h) × (e ≡ pos 1))
       → IsTaken (number_on (lowered k f) i) e (number_on (lowered k h) i)
-  taken k i (inl same) = inl (ap (λ (s : HalfPlane). number_on (lowered k s) i) same.0, same.1)
-  taken k i (inr lacks) =
-      inr (ap (λ (s : HalfPlane). number_on (lowered k s) i) lacks.0 ∙ lacking_sloped h k i, lacks.1)
+  taken k i it = grind (arith, lacking_sloped)
 
   pub strip_within : (k i : ℕ) → ((f ≡ h) × (e ≡ pos 0))
       ⊎ ((f ≡ lacking h) × (e ≡ pos 1))
@@ -77,21 +75,4 @@ pub strip_runs : (firsts ends : List ℕ) (n : ℕ) (top : Centres) (h : HalfPla
     → ((k i : ℕ) → number_on (lowered k h) i ≡ number (centre_at (row_below top k) i))
     → IsStripIn n low high t reach h → length firsts ≡ n → AreCounted top.n (IsUp (falling low t)) n (end_in None firsts)
     → AreCounted top.n (IsUp (falling high t)) n (end_in None ends) → AreRuns firsts ends top (λ s. IsWithinReach (number s) reach)
-strip_runs firsts ends n top h low high t reach number told strip size starts stops = record {
-  each = λ k i within small.
-      let row : k < n = omega (arith, within, size) in
-      let start = starts.each k i row small in
-      let stop = stops.each k i row small in
-      rw (← told k i) (
-        (λ on. (strip.within k i).1 ((λ up. absurd (omega (arith, on.0, start.1 up))), stop.0 on.1)),
-        (λ near.
-            let both = (strip.within k i).0 near in (
-              elim (cases_lt i (slice_index firsts k)) [
-                | inl early ↦ absurd (both.0 (start.0 early))
-                | inr late ↦ late
-              ],
-              stop.1 both.1,
-            )),
-      );
-  within = λ k within. stops.within k (omega (arith, within, size));
-}
+strip_runs firsts ends n top h low high t reach number told strip size starts stops = grind (arith, cases_lt)

@@ -1,6 +1,5 @@
 -- Sweeps by the products of the ways to their ends.
-use Rattle.std.proofs.Common.{◌≡◌, ◌<◌, ◌^◌, Bool, true, false}
-use Rattle.std.proofs.Common.{ℤ, pos, ◌+ℤ◌, ◌≤ℤ◌, ◌<ℤ◌, ◌&&◌, int_eq, inl, inr, sym, ◌∙◌, arith}
+use Rattle.std.proofs.Common.{◌≡◌, ◌<◌, ◌^◌, Bool, true, false, ℤ, pos, ◌+ℤ◌, ◌≤ℤ◌, ◌<ℤ◌, ◌&&◌, int_eq, inl, inr, sym, ◌∙◌, arith}
 use Rattle.std.specs.Int.RustNames.{unsigned_abs}
 use Rattle.std.specs.Int.Signed.{le_z, lt_z}
 use Rattle.std.proofs.lemmas.Int.{by_lt_z, ints}
@@ -51,5 +50,4 @@ narrow_by_turn s e turn is natural back =
     (λ straight. let none : turn ≡ pos 0 = omega (arith, ints) in inr (sym is ∙ none, back none))
 
 pub straight_ahead : (s e : Vector) (turn : ℤ) → turn ≡ cross s e → turn ≡ pos 0 → pos 0 ≤ℤ dot s e → IsNarrow s e → ⊥
-straight_ahead s e turn is none ahead (inl left) = omega (arith, ints)
-straight_ahead s e turn is none ahead (inr back) = omega (arith, ints, back.1)
+straight_ahead s e turn is none ahead it = grind (arith, ints)

@@ -1,5 +1,5 @@
 -- Sweeps by the sides of their ends.
-use Rattle.std.proofs.Common.{◌≡◌, ◌↔◌, ℤ, pos, ◌-ℤ◌, ◌*ℤ◌, ◌≤ℤ◌, ◌<ℤ◌, inl, inr, ap, arith}
+use Rattle.std.proofs.Common.{◌≡◌, ◌↔◌, ℤ, pos, ◌-ℤ◌, ◌*ℤ◌, ◌≤ℤ◌, ◌<ℤ◌, ap, arith}
 use Rattle.std.proofs.lemmas.Int.{ints}
 use Rattle.cam_units.specs.declared.point.Point.{Point}
 use Rattle.cam_units.proofs.TurnLaws.{same_point}
@@ -19,19 +19,7 @@ same_way c p q e =
 -- z and w are the sides
 pub narrow_sweep : (s e v : Vector) (z w : ℤ) → z ≡ cross s v → w ≡ cross v e → (s ≡ e → ⊥) → IsNarrow s e
     → IsInSweep s e v ↔ ((pos 0 ≤ℤ z) × (pos 0 ≤ℤ w))
-narrow_sweep s e v z w f g other narrow = rw (f, g) (
-  (λ h. elim h [
-    | inl same ↦ absurd (other same)
-    | inr rest ↦ elim rest [
-      | inl both ↦ (both.1, both.2)
-      | inr turned ↦ absurd (narrow_not_wide s e turned.0 narrow)
-    ]
-  ]),
-  (λ both. inr (inl (narrow, both.0, both.1))),
-)
+narrow_sweep s e v z w f g other narrow = grind (arith, narrow_not_wide)
 
 pub no_sweep : (s e v : Vector) → (s ≡ e → ⊥) → (IsNarrow s e → ⊥) → (cross s e <ℤ pos 0 → ⊥) → IsInSweep s e v → ⊥
-no_sweep s e v other not_narrow not_wide h = elim h [
-  | inl same ↦ other same
-  | inr rest ↦ elim rest [ inl both ↦ not_narrow both.0 | inr either ↦ not_wide either.0 ]
-]
+no_sweep s e v other not_narrow not_wide h = grind arith

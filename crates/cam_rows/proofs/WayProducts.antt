@@ -1,5 +1,5 @@
 -- Products of ways with the ways to the centres of rows, as 128 bits compute them.
-use Rattle.std.proofs.Common.{◌≡◌, ◌^◌, ◌<◌, ℕ, ℤ, pos, ◌+ℤ◌, ◌-ℤ◌, ◌*ℤ◌, FitsSigned, refl, ◌∙◌, w64, arith}
+use Rattle.std.proofs.Common.{◌≡◌, ◌^◌, ◌<◌, ℕ, ℤ, pos, ◌+ℤ◌, ◌-ℤ◌, ◌*ℤ◌, FitsSigned, w64, arith}
 use Rattle.std.specs.Int.{w128}
 use Rattle.std.specs.Int.RustNames.{unsigned_abs}
 use Rattle.std.proofs.lemmas.Int.{ints, unsigned_abs-mul, fits_signed_from_abs}
@@ -26,24 +26,16 @@ below_word : (z : ℤ) → FitsSigned w64 z → unsigned_abs z < 2 ^ 64
 below_word z h = omega (arith, ints)
 
 step_bound : (a s : ℤ) → unsigned_abs a < 2 ^ 33 → FitsSigned w64 s → unsigned_abs (a *ℤ s) < 2 ^ 97
-step_bound a s h fits =
-    let product = mul-lt (unsigned_abs a) (unsigned_abs s) (2 ^ 33) (2 ^ 64) h (below_word s fits) in
-    omega (arith, unsigned_abs-mul a s, product)
+step_bound a s h fits = grind (arith, mul-lt, below_word, unsigned_abs-mul)
 
 step_factors : (a s r t : ℤ) → unsigned_abs a < 2 ^ 33 → FitsSigned w64 s → r ≡ narrow a → t ≡ narrow s
     → wide r *ℤ wide t ≡ a *ℤ s
-step_factors a s r t h fits e f =
-    let ea : wide r ≡ a = omega (arith, ints, e) in
-    let es : t ≡ s = f ∙ kept_narrow s fits in
-    let below : unsigned_abs s < 2 ^ 64 = below_word s fits in
-    rw (ea, es, kept_wide s (omega arith)) refl
+step_factors a s r t h fits e f = grind (arith, wide, ints, kept_narrow, below_word, kept_wide)
 
 -- the product of a coordinate of a way and the distance of neighbours
 pub step_product : (a s r t : ℤ) → unsigned_abs a < 2 ^ 33 → FitsSigned w64 s → r ≡ narrow a → t ≡ narrow s
     → wide (wide r *ℤ wide t) ≡ a *ℤ s
-step_product a s r t h fits e f =
-    let bound : unsigned_abs (a *ℤ s) < 2 ^ 97 = step_bound a s h fits in
-    rw (step_factors a s r t h fits e f) (kept_wide (a *ℤ s) (omega arith))
+step_product a s r t h fits e f = grind (arith, step_bound, step_factors, kept_wide)
 
 pub step_short : (a s : ℤ) → unsigned_abs a < 2 ^ 33 → FitsSigned w64 s → unsigned_abs (a *ℤ s) < 2 ^ 100
 step_short a s h fits = let bound : unsigned_abs (a *ℤ s) < 2 ^ 97 = step_bound a s h fits in omega arith
@@ -63,17 +55,11 @@ sum_passed z r v h k e = omega (arith, ints, e)
 
 -- the leftmost centre is in reach
 pub first_in_reach : (c : Centres) → IsWideRow c → IsInReach (first_centre c)
-first_in_reach c row =
-    let p : IsInReach (centre_at c 0) = row.centres 0 (omega (arith, row.count.0)) in
-    record { x = omega (arith, ints, p.x); y = p.y }
+first_in_reach c row = grind (arith, ints)
 
 -- as 64 bits pass it
 pub passed_centre : (c : Centres) → IsWideRow c → ◌≡◌ {A = Spot} (record { x = narrow c.x; y = narrow c.y }) (first_centre c)
-passed_centre c row =
-    let near = first_in_reach c row in
-    let across : narrow c.x ≡ c.x = omega (arith, ints, near.x) in
-    let along : narrow c.y ≡ c.y = omega (arith, ints, near.y) in
-    λ i. record { x = across i; y = along i }
+passed_centre c row = grind (arith, first_in_reach, narrow, ints)
 
 -- the numbers are products of a way with the ways to the centres
 pub dots_are : (w : Vector) (p : Point) (c : Centres) (reach : ℤ) (k i : ℕ)

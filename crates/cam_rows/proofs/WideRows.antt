@@ -1,7 +1,6 @@
 -- Wide rows and their runs.
-use Rattle.std.proofs.Common.{◌≡◌, ℕ, ◌+◌, ◌-◌, ◌<◌, ◌≤◌, ◌≢◌, ◌↔◌, List, length, slice_index, slice_set}
-use Rattle.std.proofs.Common.{ℤ, pos, ◌-ℤ◌, ◌*ℤ◌, ◌≤ℤ◌, ◌<ℤ◌}
-use Rattle.std.proofs.Common.{get_or-set_other, get_or-set_same, inl, inr, refl, subst, arith}
+use Rattle.std.proofs.Common.{rules, ◌≡◌, ℕ, ◌+◌, ◌-◌, ◌<◌, ◌≤◌, ◌≢◌, ◌↔◌, List, length, slice_index, slice_set, ℤ, pos, ◌-ℤ◌}
+use Rattle.std.proofs.Common.{◌*ℤ◌, ◌≤ℤ◌, ◌<ℤ◌, get_or-set_other, get_or-set_same, inl, inr, subst, arith}
 use Rattle.std.proofs.lemmas.Bool.{cases_lt}
 use Rattle.std.proofs.lemmas.Int.{ints}
 use Rattle.cam_units.specs.Board.{IsOnBoard}
@@ -30,21 +29,10 @@ top_is_wide top n some rows = subst IsWideRow (top_row top) (rows 0 some)
 module _ (row : Centres) (p : Point) (first step : ℤ) (wide : IsWideRow row) (e : first ≡ row.x -ℤ pos 2 *ℤ p.x)
     (f : step ≡ row.step) where
   pub offsets_from : AreOffsetsFrom row p (record { first = first; step = step; count = row.n })
-  offsets_from = record {
-    each = λ i. offset_is row.x row.step (pos 2 *ℤ p.x) first step i e f;
-    step = f;
-    count = refl;
-  }
+  offsets_from = grind (arith, offset_is)
 
   pub wide_offsets : IsOnBoard p → AreWideOffsets (record { first = first; step = step; count = row.n })
-  wide_offsets on =
-      let start = (wide.centres 0 (omega (arith, wide.count))).x in
-      record {
-        step = rw f wide.step;
-        short = λ i within.
-            offset_short row.x row.step (pos 2 *ℤ p.x) first step i e f (omega (arith, ints, on.x))
-            (omega (arith, ints, start)) (wide.centres i within).x;
-      }
+  wide_offsets on = grind (arith, offset_short, ints)
 
 -- ---- runs that are narrowed
 
@@ -54,41 +42,18 @@ IsAny s = 0 ≤ 0
 
 pub whole_runs : (firsts ends : List ℕ) (top : Centres) → ((k : ℕ) → k < length firsts → slice_index firsts k ≡ 0)
     → ((k : ℕ) → k < length firsts → slice_index ends k ≡ top.n) → AreRuns firsts ends top IsAny
-whole_runs firsts ends top begin end = record {
-  each = λ k i within small. (
-    (λ _. omega arith),
-    (λ _. (omega (arith, begin k within), omega (arith, end k within, small))),
-  );
-  within = λ k within. omega (arith, end k within);
-}
+whole_runs firsts ends top begin end = grind arith
 
 pub runs_kept : (firsts ends new_firsts new_ends : List ℕ) (top : Centres) (P Q : Spot → Type 0)
     → AreRuns firsts ends top P
     → AreNarrowed top.n firsts ends (λ k i. Q (centre_at (row_below top k) i)) (length firsts) new_firsts new_ends
     → length new_firsts ≡ length firsts → AreRuns new_firsts new_ends top (λ s. P s × Q s)
-runs_kept firsts ends new_firsts new_ends top P Q runs narrowed size = record {
-  each = λ k i within small.
-      let before : k < length firsts = omega (arith, within, size) in
-      let here = narrowed.each k i before small in
-      let was = runs.each k i before small in (
-        (λ on. let both = here.0 on in (was.0 both.0, both.1)),
-        (λ both. here.1 (was.1 both.0, both.1)),
-      );
-  within = λ k within.
-      let before : k < length firsts = omega (arith, within, size) in
-      omega (arith, narrowed.within k, runs.within k before);
-}
+runs_kept firsts ends new_firsts new_ends top P Q runs narrowed size = grind arith
 
 -- none of the columns is held
 pub empty_runs : (firsts ends : List ℕ) (top : Centres) (P : Spot → Type 0)
     → ((k : ℕ) → k < length firsts → slice_index ends k ≡ 0) → ((s : Spot) → P s → ⊥) → AreRuns firsts ends top P
-empty_runs firsts ends top P end none = record {
-  each = λ k i within small. (
-    (λ on. absurd (omega (arith, on.1, end k within))),
-    (λ held. absurd (none (centre_at (row_below top k) i) held)),
-  );
-  within = λ k within. omega (arith, end k within);
-}
+empty_runs firsts ends top P end none = grind arith
 
 -- to a half plane, by its numbers
 pub half_narrowed : (columns : ℕ) (firsts ends new_firsts new_ends : List ℕ) (top : Centres) (Q : Spot → Type 0)
@@ -104,13 +69,7 @@ half_narrowed columns firsts ends new_firsts new_ends top Q h half narrowed = re
 
 pub runs_like : (firsts ends : List ℕ) (top : Centres) (P Q : Spot → Type 0) → ((s : Spot) → P s ↔ Q s)
     → AreRuns firsts ends top P → AreRuns firsts ends top Q
-runs_like firsts ends top P Q same runs = record {
-  each = λ k i within small.
-      let told = same (centre_at (row_below top k) i) in
-      let was = runs.each k i within small in
-      ((λ on. told.0 (was.0 on)), (λ held. was.1 (told.1 held)));
-  within = runs.within;
-}
+runs_like firsts ends top P Q same runs = grind arith
 
 -- ---- runs that are found one after another
 
@@ -119,10 +78,7 @@ pub record AreRunsAbove (firsts ends : List ℕ) (top : Centres) (IsIn : Spot �
   pub within : (k : ℕ) → k < end → slice_index ends k ≤ top.n
 
 pub no_run : (firsts ends : List ℕ) (top : Centres) (IsIn : Spot → Type 0) → AreRunsAbove firsts ends top IsIn 0
-no_run firsts ends top IsIn = record {
-  each = λ k i early _. absurd (omega arith);
-  within = λ k early. absurd (omega arith);
-}
+no_run firsts ends top IsIn = grind arith
 
 pub one_more_run : (firsts ends : List ℕ) (top : Centres) (IsIn : Spot → Type 0) (row first end : ℕ)
     → row < length firsts → row < length ends → AreRunsAbove firsts ends top IsIn row
@@ -145,10 +101,7 @@ one_more_run firsts ends top IsIn row first end in_firsts in_ends above here fit
 
 pub all_found : (firsts ends : List ℕ) (top : Centres) (IsIn : Spot → Type 0) (end : ℕ) → length firsts ≤ end
     → AreRunsAbove firsts ends top IsIn end → AreRuns firsts ends top IsIn
-all_found firsts ends top IsIn end all above = record {
-  each = λ k i within small. above.each k i (omega arith) small;
-  within = λ k within. above.within k (omega arith);
-}
+all_found firsts ends top IsIn end all above = grind arith
 
 -- ---- circles
 
@@ -159,23 +112,14 @@ in_no_run first end i P none off = ((λ on. absurd (omega (arith, on.1, none))),
 pub near_column : (top : Centres) (p : Point) (o : Offsets) (k i height room bound : ℕ) → AreOffsetsFrom top p o
     → pos height ≡ square (seen_from p (first_centre (row_below top k))).y → room ≡ bound - height
     → (square (offset o.first o.step i) <ℤ pos room) ↔ IsNearer p bound (centre_at (row_below top k) i)
-near_column top p o k i height room bound columns e is =
-    rw (is, columns.each i) (seen_in_chord (seen_from p (centre_at (row_below top k) i)) height bound e)
+near_column top p o k i height room bound columns e is = search (rules, seen_in_chord)
 
 -- ---- boxes
 
 -- a column between the sides of a box, in a row so high
 pub in_box_run : (B R : Type 0) (low high s : Spot) (left right y : ℤ) → left ≡ low.x → right ≡ high.x → y ≡ s.y
     → R ↔ ((left ≤ℤ s.x) × (s.x ≤ℤ right)) → B ↔ (R × (low.y ≤ℤ y) × (y ≤ℤ high.y)) → B ↔ IsInBox low high s
-in_box_run B R low high s left right y e f g strip high_enough =
-    let across = rw (e, f) at strip in
-    let told = rw g at high_enough in (
-      (λ on.
-          let held = told.0 on in
-          let sides = across.0 held.0 in
-          record { left = sides.0; right = sides.1; below = held.1; above = held.2 }),
-      (λ inside. told.1 (across.1 (inside.left, inside.right), inside.below, inside.above)),
-    )
+in_box_run B R low high s left right y e f g strip high_enough = grind arith
 
 -- what two facts say alike
 pub by_strip : (B S N : Type 0) → B ↔ S → N ↔ S → B ↔ N

@@ -1,20 +1,14 @@
-use Rattle.std.proofs.Common.{sym, ◌∙◌, inl, inr, to_z}
+use Rattle.std.proofs.Common.{arith, to_z}
 use Rattle.std.specs.Int.{w128}
 use Rattle.cam_shapes.specs.Plane.{way}
 use Rattle.cam_rows.proofs.CapSides.{IsTie, left_side, other_tie, right_side}
 use Rattle.cam_rows.proofs.cap.side.Goals as goal
-use Rattle.cam_rows.proofs.cap.side.Goals.{Joined-leads_down_or_right, then-leads_down_or_right}
-use Rattle.cam_rows.proofs.cap.side.Goals.{else-leads_down_or_right}
+use Rattle.cam_rows.proofs.cap.side.Goals.{Joined-leads_down_or_right}
 
 -- the tie, on either way to it
 decided : (c : Joined-leads_down_or_right)
     → IsTie (way c.args.cap.now.from c.args.cap.now.to) (to_z w128 c.if-leads_down_or_right.tie-bits)
-decided c =
-    let leads = sym c.leads_down_or_right.ensures in
-    elim c.if-leads_down_or_right.branch [
-      | then-leads_down_or_right w ↦ inl (leads ∙ w.if-leads_down_or_right.true, w.tie-is)
-      | else-leads_down_or_right w ↦ inr (leads ∙ w.if-leads_down_or_right.false, w.tie-is)
-    ]
+decided c = grind arith
 
 pub returns-then-cap : goal.returns-then-cap
 returns-then-cap c =

@@ -1,13 +1,10 @@
-use Rattle.std.proofs.Common.{◌≡◌, ℕ, ◌-◌, pos, ◌-ℤ◌, ◌*ℤ◌, ◌<◌, ◌≤◌, ◌^◌, arith}
+use Rattle.std.proofs.Common.{◌≡◌, ◌-◌, pos, ◌-ℤ◌, ◌*ℤ◌, ◌<◌, ◌^◌, arith}
 use Rattle.std.proofs.lemmas.Bool.{ltb-true}
 use Rattle.std.proofs.lemmas.Int.{ints}
 use Rattle.std.specs.Int.RustNames.{unsigned_abs}
 use Rattle.cam_rows.proofs.NearRows.{near_rows}
 use Rattle.cam_rows.proofs.WideRows.{top_is_wide}
 use Rattle.cam_rows.proofs.chord.is_nearby.Goals as goal
-
-last_column : (n m : ℕ) → m ≡ n → 1 ≤ n → n - 1 < m
-last_column n m e some = omega arith
 
 pub rise_below-lowest-requires-clause-rows : goal.rise_below-lowest-requires-clause-rows
 rise_below-lowest-requires-clause-rows c = λ k within. c.requires.rows k (omega (arith, within, c.requires.some))
@@ -38,13 +35,6 @@ offsets_from-columns-requires-clause-row c = top_is_wide c.args.top.now c.args.r
 
 pub overflow_sub-top : goal.overflow_sub-top
 overflow_sub-top c = (top_is_wide c.args.top.now c.args.rows c.requires.some c.requires.rows).count.0
-
-pub at-rightmost-requires : goal.at-rightmost-requires
-at-rightmost-requires c =
-    let told = c.offsets_from-columns.ensures in
-    told.wide.short (c.args.top.now.n - 1)
-    (last_column c.args.top.now.n c.offsets_from-columns.result.count told.each.count
-    (top_is_wide c.args.top.now c.args.rows c.requires.some c.requires.rows).count.0)
 
 pub rise_below-highest-requires-clause-rows : goal.rise_below-highest-requires-clause-rows
 rise_below-highest-requires-clause-rows c = λ k within. c.requires.rows k (omega (arith, within, c.requires.some))

@@ -1,4 +1,4 @@
-use Rattle.std.proofs.Common.{◌≡◌, ℕ, IsTrue, List, None, Option, Some, slice_index, refl, subst, sym, ◌∙◌, arith}
+use Rattle.std.proofs.Common.{◌≡◌, ℕ, IsTrue, List, Option, slice_index, subst, sym, ◌∙◌, arith}
 use Rattle.std.specs.Option.{unwrap_or}
 use Rattle.cam_shapes.specs.Edge.{crosses_ray, edge}
 use Rattle.cam_rows.specs.Rows.{row_below}
@@ -10,8 +10,7 @@ use Rattle.cam_rows.proofs.edge.edge_row.Goals as goal
 
 -- the end of the one row
 end_is : (one : Option ℕ) (ends : List ℕ) → end_in one ends 0 ≡ unwrap_or one (slice_index ends 0)
-end_is None ends = refl
-end_is (Some end) ends = refl
+end_is one ends = grind arith
 
 pub edge_runs-requires-clause-rows : goal.edge_runs-requires-clause-rows
 edge_runs-requires-clause-rows c k within =

@@ -1,9 +1,8 @@
 use Rattle.std.proofs.Common.{arith}
-use Rattle.cam_macros.proofs.QuotientLemmas.{quotient_back, quotient_forth}
 use Rattle.cam_macros.proofs.expansion.arithmetic.quotient.Goals as goal
 
 pub returns-then-right-lt0 : goal.returns-then-right-lt0
-returns-then-right-lt0 c = grind (arith, quotient_back)
+returns-then-right-lt0 c = grind arith
 
 pub returns : goal.returns
-returns c = grind (arith, quotient_forth)
+returns c = grind arith

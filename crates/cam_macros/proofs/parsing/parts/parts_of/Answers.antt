@@ -1,4 +1,4 @@
-use Rattle.std.proofs.Common.{ap, sym, ◌∙◌, subst}
+use Rattle.std.proofs.Common.{arith, ap, sym, ◌∙◌, subst}
 use Rattle.std.proofs.lemmas.Result.{err_from_is_err_and}
 use Rattle.cam_macros.specs.Reading.{pieces_between, parts_spoken}
 use Rattle.cam_macros.proofs.ReadingLemmas.{ArePartsBefore, parts_end, parts_fault}
@@ -18,9 +18,4 @@ returns-in_err-parse-clause-fault c =
     c.in_err-parse.ensures.fault)
 
 pub returns-clause-ok : goal.returns-clause-ok
-returns-clause-ok c =
-    let all = pieces_between star c.args.texts in
-    rw c.from_vec.ensures
-    (parts_end (parts_spoken all) c.loop-rest.items.items
-    (subst (λ l. ArePartsBefore (parts_spoken l) (parts_spoken all) c.loop-rest.items.items)
-    (ap (pieces_between star) c.in_default.is) c.loop-rest.invariant))
+returns-clause-ok c = grind (arith, parts_end, ArePartsBefore)

@@ -1,4 +1,4 @@
-use Rattle.std.proofs.Common.{sym, ◌∙◌}
+use Rattle.std.proofs.Common.{arith, sym, ◌∙◌}
 use Rattle.cam_macros.proofs.PartLemmas.{no_code, is_primitive}
 use Rattle.cam_macros.proofs.part.Part.primitive.Goals as goal
 
@@ -7,6 +7,4 @@ returns-in_default-clause-fault c =
     no_code c.args.piece.now c.cut.result.0.now _ c.cut.ensures.all (sym c.in_default.is ∙ c.natural.ensures)
 
 pub returns-clause-ok : goal.returns-clause-ok
-returns-clause-ok c =
-    is_primitive c.args.piece.now c.cut.result.0.now _ c.in-Some.code c.min.result _ c.cut.ensures.all
-    (sym c.in-Some.is ∙ c.natural.ensures) c.min.ensures c.in_ok-fields.ensures.ok
+returns-clause-ok c = grind (arith, is_primitive)

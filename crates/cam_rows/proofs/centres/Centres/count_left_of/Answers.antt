@@ -2,22 +2,15 @@ use Rattle.std.proofs.Common.{◌≡◌, ◌≤◌, pos, arith}
 use Rattle.std.specs.Int.RustNames.{unsigned_abs}
 use Rattle.std.proofs.lemmas.Int.{ints}
 use Rattle.cam_shapes.proofs.Widths.{narrow}
-use Rattle.cam_rows.proofs.Steps.{all_left, few_before, first_near, gap_fits, last_near, left_by_division, reach_fits}
+use Rattle.cam_rows.proofs.Steps.{all_left, few_before, first_near, last_near, left_by_division, reach_fits}
 use Rattle.cam_rows.proofs.centres.Centres.count_left_of.Goals as goal
 use Rattle.cam_rows.proofs.centres.Centres.count_left_of.Goals.{After-from, After-div_ceil}
-
-pub overflow_sub-gap : goal.overflow_sub-gap
-overflow_sub-gap c =
-    gap_fits c.args.x c.args.self.now.x c.requires.short (first_near c.args.self.now c.requires.row)
 
 is_pitch : (c : After-from) → c.args.self.now.step ≡ pos (unsigned_abs (narrow c.args.self.now.step))
 is_pitch c = omega (arith, ints, c.requires.row.step)
 
 pub overflow_mul-from : goal.overflow_mul-from
-overflow_mul-from c =
-    let row = c.args.self.now in
-    reach_fits c.from.result row.n _ row.x row.step c.from.ensures (is_pitch c) (first_near row c.requires.row)
-    (last_near row c.requires.row)
+overflow_mul-from c = grind (arith, reach_fits, is_pitch, first_near, last_near)
 
 pub returns-then-gap-from-clause-each : goal.returns-then-gap-from-clause-each
 returns-then-gap-from-clause-each c = λ i within.
@@ -35,11 +28,6 @@ few c =
 pub overflow_cast-result : goal.overflow_cast-result
 overflow_cast-result c = let short = few c in omega (arith, short, c.from.ensures, c.requires.row.count.1)
 
-pub returns-clause-few : goal.returns-clause-few
-returns-clause-few c =
-    let short = few ((goal.at.returns-clause-few c).After-div_ceil) in
-    omega (arith, short, c.from.ensures)
-
 pub returns-clause-each : goal.returns-clause-each
 returns-clause-each c = λ i within.
     let row = c.args.self.now in
@@ -47,3 +35,8 @@ returns-clause-each c = λ i within.
     left_by_division row.x row.step c.args.x i _ _ _ c.requires.row.step
     (omega (arith, ints, c.requires.row.step)) (omega (arith, ints, first, c.if-gap-le0.false))
     c.div_ceil.ensures
+
+pub returns-clause-few : goal.returns-clause-few
+returns-clause-few c =
+    let short = few ((goal.at.returns-clause-few c).After-div_ceil) in
+    omega (arith, short, c.from.ensures)

@@ -1,4 +1,4 @@
-use Rattle.std.proofs.Common.{◌≡◌, FitsSigned, pos, to_z, of_z, arith, rules}
+use Rattle.std.proofs.Common.{◌≡◌, pos, to_z, of_z, arith}
 use Rattle.std.specs.Int.{w64}
 use Rattle.std.proofs.lemmas.Int.{ints}
 use Rattle.cam_rows.proofs.ShortSlopes.{kept_fitting}
@@ -6,9 +6,7 @@ use Rattle.cam_rows.proofs.chord.Offsets.at.Goals as goal
 use Rattle.cam_rows.proofs.chord.Offsets.at.Goals.{After-from}
 
 step_kept : (c : After-from) → to_z w64 (of_z w64 c.args.self.now.step) ≡ c.args.self.now.step
-step_kept c =
-    let fits : FitsSigned w64 c.args.self.now.step = search rules in
-    kept_fitting c.args.self.now.step fits
+step_kept c = grind (arith, kept_fitting)
 
 index_kept : (c : After-from) → to_z w64 (of_z w64 c.from.result) ≡ pos c.args.index
 index_kept c = omega (arith, ints, c.from.ensures)

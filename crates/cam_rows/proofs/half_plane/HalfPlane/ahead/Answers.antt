@@ -1,4 +1,4 @@
-use Rattle.std.proofs.Common.{◌≡◌, ◌<◌, ◌^◌, ◌∙◌, ap, pos, ◌+ℤ◌, ◌-ℤ◌, ◌*ℤ◌, FitsSigned, w64, refl, rules, arith}
+use Rattle.std.proofs.Common.{◌≡◌, ◌<◌, ◌^◌, pos, ◌+ℤ◌, ◌-ℤ◌, ◌*ℤ◌, FitsSigned, w64, refl, rules, arith}
 use Rattle.std.specs.Int.RustNames.{unsigned_abs}
 use Rattle.std.proofs.lemmas.Int.{ints}
 use Rattle.cam_shapes.specs.Plane.{dot, seen_from}
@@ -17,28 +17,17 @@ fits c = search rules
 -- the numbers, as 128 bits compute them
 first : (c : After-from-4) → wide c.dot.result +ℤ wide c.args.reach
     ≡ dot c.args.way (seen_from c.args.from.now (first_centre c.args.top.now)) +ℤ c.args.reach
-first c =
-    let from = c.args.from.now in
-    let seen : c.seen_from.result ≡ seen_from from (first_centre c.args.top.now) =
-    c.seen_from.ensures.value ∙ ap (seen_from from) (passed_centre c.args.top.now c.requires.row) in
-    sum_passed c.dot.result c.args.reach _ c.dot.ensures.bound c.requires.reach
-    (c.dot.ensures.value ∙ ap (dot c.args.way) seen)
+first c = grind (arith, passed_centre, sum_passed)
 
 short : (c : After-from-4) → unsigned_abs (dot c.args.way (seen_from c.args.from.now (first_centre c.args.top.now)) +ℤ c.args.reach)
     < 2 ^ 100
-short c =
-    dot_fits c.args.way c.args.from.now (first_centre c.args.top.now) c.args.reach c.requires.way c.requires.from
-    (first_in_reach c.args.top.now c.requires.row) c.requires.reach
+short c = search (rules, dot_fits, first_in_reach)
 
 across : (c : After-from-4) → wide (wide c.from.result *ℤ wide c.from-2.result) ≡ c.args.way.x *ℤ c.args.top.now.step
-across c =
-    step_product c.args.way.x c.args.top.now.step c.from.result c.from-2.result c.requires.way.x (fits c)
-    c.from.ensures c.from-2.ensures
+across c = search (rules, step_product, fits)
 
 fall : (c : After-from-4) → wide (wide c.from-3.result *ℤ wide c.from-4.result) ≡ c.args.way.y *ℤ c.args.top.now.step
-fall c =
-    step_product c.args.way.y c.args.top.now.step c.from-3.result c.from-4.result c.requires.way.y (fits c)
-    c.from-3.ensures c.from-4.ensures
+fall c = search (rules, step_product, fits)
 
 fall_short : (c : After-from-4) → unsigned_abs (pos 0 -ℤ c.args.way.y *ℤ c.args.top.now.step) < 2 ^ 100
 fall_short c = opposite_short (c.args.way.y *ℤ c.args.top.now.step) (step_short c.args.way.y c.args.top.now.step c.requires.way.y (fits c))

@@ -6,12 +6,6 @@ use Rattle.cam_rows.proofs.HalfPlanes.{falling_told}
 use Rattle.cam_rows.proofs.SetRows.{next_set}
 use Rattle.cam_rows.proofs.half_plane.HalfPlane.count_columns.Goals as goal
 
-pub returns-in-Some : goal.returns-in-Some
-returns-in-Some c =
-    subst (λ (numbers : HalfPlane). AreCounted c.args.columns (IsUp numbers) (length c.args.ends.now)
-    (end_in c.count_ends.result c.count_ends.new.ends))
-    (c.in-Some.ensures.falls c.requires.falls) c.count_ends.ensures
-
 pub loop-k-preserved : goal.loop-k-preserved
 loop-k-preserved c =
     let number = c.number_below in record {
@@ -25,3 +19,9 @@ loop-k-preserved c =
             c.columns_up_to.ensures.within,
           );
     }
+
+pub returns-in-Some : goal.returns-in-Some
+returns-in-Some c =
+    subst (λ (numbers : HalfPlane). AreCounted c.args.columns (IsUp numbers) (length c.args.ends.now)
+    (end_in c.count_ends.result c.count_ends.new.ends))
+    (c.in-Some.ensures.falls c.requires.falls) c.count_ends.ensures

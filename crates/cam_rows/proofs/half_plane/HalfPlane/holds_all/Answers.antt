@@ -4,16 +4,10 @@ use Rattle.cam_rows.proofs.RowNumbers.{columns_fit, number_there_fits}
 use Rattle.cam_rows.proofs.half_plane.HalfPlane.holds_all.Goals as goal
 
 pub overflow_mul-result : goal.overflow_mul-result
-overflow_mul-result c =
-    columns_fit c.least_of-column.result c.args.self.now.step
-    (omega (arith, c.least_of-column.ensures.within, c.requires.few)) c.requires.short.plane.step
+overflow_mul-result c = grind (arith, columns_fit)
 
 pub overflow_add-result : goal.overflow_add-result
-overflow_add-result c =
-    number_there_fits c.least_of-column.result c.number_below.result c.args.self.now.step
-    (omega (arith, c.least_of-column.ensures.within, c.requires.few))
-    (rw c.number_below.ensures (c.requires.short.rows c.least_of-row.result c.least_of-row.ensures.within))
-    c.requires.short.plane.step
+overflow_add-result c = grind (arith, number_there_fits)
 
 pub returns : goal.returns
 returns c =

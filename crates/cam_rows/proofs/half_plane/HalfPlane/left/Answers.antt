@@ -1,4 +1,4 @@
-use Rattle.std.proofs.Common.{◌≡◌, ℕ, ℤ, ◌∙◌, ap, ◌+ℤ◌, ◌*ℤ◌}
+use Rattle.std.proofs.Common.{arith, ◌≡◌, ℕ, ◌∙◌, ap, ◌+ℤ◌}
 use Rattle.cam_shapes.specs.Plane.{cross, seen_from, way}
 use Rattle.cam_shapes.proofs.Widths.{wide}
 use Rattle.cam_rows.specs.Machinery.Slopes.{lowered, number_on}
@@ -20,12 +20,4 @@ numbers c k i =
     ∙ ap (λ z. cross along seen +ℤ z) (kept_reach c.args.reach c.requires.reach)
 
 pub returns : goal.returns
-returns c = record {
-  holds = record {
-    tells = λ k i. rw (numbers c k i) ((λ held. held), (λ held. held));
-    short = c.ahead.ensures.holds.short;
-  };
-  numbers = numbers c;
-  step = c.ahead.ensures.step ∙ ap (λ (z : ℤ). z *ℤ c.args.top.now.step)
-      (turned_x (way c.args.from.now c.args.to.now) c.between-way.result c.between-way.ensures.value c.between-way.ensures.short);
-}
+returns c = grind (arith, numbers, turned_x)

@@ -1,4 +1,4 @@
-use Rattle.std.proofs.Common.{arith}
+use Rattle.std.proofs.Common.{rules, arith}
 use Rattle.std.proofs.lemmas.Int.{ints}
 use Rattle.cam_rows.specs.Machinery.Narrowing.{IsUp}
 use Rattle.cam_rows.specs.Machinery.Slopes.{falling}
@@ -27,9 +27,4 @@ returns-in-Some-2 c =
     c.cut_firsts.ensures
 
 pub loop-k-preserved : goal.loop-k-preserved
-loop-k-preserved c = record {
-  narrowed =
-      next_run c.args.columns c.args.firsts.now c.args.ends.now (IsUp c.args.self.now) c.loop-k.firsts
-      c.loop-k.ends c.loop-k.k c.narrowed-part.result.first c.narrowed-part.result.end (omega arith) c.requires.ends
-      c.loop-k.invariant.narrowed c.narrowed-part.ensures.each c.narrowed-part.ensures.within;
-}
+loop-k-preserved c = search (rules, next_run)

@@ -11,8 +11,7 @@ use Rattle.cam_rows.proofs.SweepRows.{right_by_test, straight_ahead}
 use Rattle.cam_rows.proofs.Sweeps.{no_sweep, same_way}
 use Rattle.cam_rows.proofs.WideRows.{IsAny, empty_runs, runs_like, runs_kept, whole_runs}
 use Rattle.cam_rows.proofs.runs.arc.turn_runs.Goals as goal
-use Rattle.cam_rows.proofs.runs.arc.turn_runs.Goals.{After-counterclockwise, After-cross-turn}
-use Rattle.cam_rows.proofs.runs.arc.turn_runs.Goals.{else-turn-eq0-via-else-turn-eq0}
+use Rattle.cam_rows.proofs.runs.arc.turn_runs.Goals.{After-counterclockwise, After-cross-turn, else-turn-eq0-via-else-turn-eq0}
 use Rattle.cam_rows.proofs.runs.arc.turn_runs.Goals.{else-turn-eq0-via-then-turn-eq0+else-dot-ge0}
 
 -- all columns

@@ -1,4 +1,4 @@
-use Rattle.std.proofs.Common.{◌≡◌, ◌↔◌, ℕ, ◌+◌, ◌-◌, ◌<◌, ◌∙◌, ◌≤ℤ◌, ◌+ℤ◌, pos, length, to_z, of_z, inl, inr, arith}
+use Rattle.std.proofs.Common.{rules, ◌≡◌, ◌↔◌, ℕ, ◌+◌, ◌-◌, ◌<◌, ◌∙◌, ◌≤ℤ◌, ◌+ℤ◌, pos, length, to_z, of_z, inl, inr, arith}
 use Rattle.std.specs.Int.{w64}
 use Rattle.std.proofs.lemmas.Int.{ints}
 use Rattle.cam_units.specs.declared.point.Point.{Point}
@@ -38,13 +38,10 @@ returns-then-end-first c =
     (not_far (goal.at.returns-then-end-first c).After-rows_not_far-first k within) (λ on. omega (arith, on.0, on.1, c.if-end-first.true)))
 
 pub wide_below-requires-clause-top : goal.wide_below-requires-clause-top
-wide_below-requires-clause-top c =
-    top_is_wide c.args.top.now (length c.args.firsts.now) c.requires.some c.requires.rows
+wide_below-requires-clause-top c = search (rules, top_is_wide)
 
 pub wide_below-requires-clause-row : goal.wide_below-requires-clause-row
-wide_below-requires-clause-row c =
-    c.requires.rows c.rows_not_far-first.result.0
-    (omega (arith, c.if-end-first.false, c.rows_not_far-first.ensures.within))
+wide_below-requires-clause-row c = search rules
 
 pub ahead-requires-clause-row : goal.ahead-requires-clause-row
 ahead-requires-clause-row c =

@@ -1,22 +1,18 @@
-use Rattle.std.proofs.Common.{◌<◌, ◌^◌, length, arith}
+use Rattle.std.proofs.Common.{rules, ◌<◌, ◌^◌, length, arith}
 use Rattle.std.specs.Int.RustNames.{unsigned_abs}
 use Rattle.std.proofs.lemmas.Int.{ints, clamps}
 use Rattle.cam_units.specs.Boxes.{IsInBox}
 use Rattle.cam_shapes.specs.declared.swept.Swept.{Swept}
 use Rattle.cam_shapes.specs.Swept.{IsSoundSwept, high_corner, low_corner}
 use Rattle.cam_rows.specs.Rows.{centre_at, row_below}
-use Rattle.cam_rows.proofs.PassedOn.{no_rows, runs_of_none, some_rows}
+use Rattle.cam_rows.proofs.PassedOn.{some_rows}
 use Rattle.cam_rows.proofs.WideRows.{all_found, in_box_run, one_more_run, top_is_wide}
 use Rattle.cam_rows.proofs.runs.boxes.box_runs.Goals as goal
 
 -- the corners lie near the board
 corners_near : (r : Swept) → IsSoundSwept r
     → (unsigned_abs (low_corner r).x < 2 ^ 61) × (unsigned_abs (high_corner r).x < 2 ^ 61)
-corners_near r sound =
-    let from = sound.from.x in
-    let to = sound.to.x in
-    let wide = sound.width in
-    (omega (arith, ints, clamps, from, to, wide.0, wide.1), omega (arith, ints, clamps, from, to, wide.0, wide.1))
+corners_near r sound = grind (arith, ints, clamps)
 
 pub wide_below-requires-clause-top : goal.wide_below-requires-clause-top
 wide_below-requires-clause-top c = top_is_wide c.args.top.now (length c.args.firsts.now) (omega arith) c.requires.rows
@@ -59,12 +55,5 @@ pub columns_between-all-requires-clause-right : goal.columns_between-all-require
 columns_between-all-requires-clause-right c =
     let near = corners_near c.args.swept.now c.requires.swept in rw c.high_corner-high.ensures (omega (arith, ints, near.1))
 
-pub returns-then-is_empty : goal.returns-then-is_empty
-returns-then-is_empty c =
-    runs_of_none c.args.firsts.now c.args.ends.now c.args.top.now _
-    (no_rows _ _ c.is_empty.ensures c.if-is_empty.true)
-
 pub columns_between-all-requires-clause-row : goal.columns_between-all-requires-clause-row
-columns_between-all-requires-clause-row c =
-    top_is_wide c.args.top.now (length c.args.firsts.now) (some_rows _ _ c.is_empty.ensures c.if-is_empty.false)
-    c.requires.rows
+columns_between-all-requires-clause-row c = search (rules, top_is_wide, some_rows)

@@ -1,21 +1,10 @@
 use Rattle.std.proofs.Common.{IsTrue, length, sym, ◌∙◌}
 use Rattle.cam_shapes.specs.Cap.{is_in_cap, is_in_circle, is_on_side}
 use Rattle.cam_shapes.specs.Plane.{seen_from, way}
-use Rattle.cam_rows.proofs.CapRows.{all_of_circle, part_of_circle}
-use Rattle.cam_rows.proofs.PassedOn.{no_rows, runs_of_none, some_rows}
+use Rattle.cam_rows.proofs.CapRows.{part_of_circle}
+use Rattle.cam_rows.proofs.PassedOn.{some_rows}
 use Rattle.cam_rows.proofs.WideRows.{runs_like, half_narrowed, runs_kept, top_is_wide}
 use Rattle.cam_rows.proofs.runs.cap.cap_runs.Goals as goal
-
-pub narrow-requires-clause-short : goal.narrow-requires-clause-short
-narrow-requires-clause-short c =
-    rw c.circle_runs.auto.firsts (c.side.ensures.short _ c.requires.rows)
-
-pub returns-then-eq : goal.returns-then-eq
-returns-then-eq c =
-    let cap = c.args.cap.now in
-    runs_like c.circle_runs.new.firsts c.circle_runs.new.ends c.args.top.now
-    (λ s. IsTrue (is_in_circle (way cap.centre cap.from) (seen_from cap.centre s))) (λ s. IsTrue (is_in_cap s cap))
-    (λ s. all_of_circle s cap (sym c.eq.ensures ∙ c.if-eq.true)) c.circle_runs.ensures
 
 pub returns : goal.returns
 returns c =
@@ -30,23 +19,17 @@ returns c =
     c.circle_runs.ensures
     (half_narrowed _ _ _ _ _ top (λ s. IsTrue (is_on_side s cap)) c.side.result c.side.ensures c.narrow.ensures) c.narrow.auto.firsts)
 
-pub returns-then-is_empty : goal.returns-then-is_empty
-returns-then-is_empty c =
-    runs_of_none c.args.firsts.now c.args.ends.now c.args.top.now _
-    (no_rows _ _ c.is_empty.ensures c.if-is_empty.true)
-
 pub circle_runs-requires-clause-some : goal.circle_runs-requires-clause-some
 circle_runs-requires-clause-some c = some_rows _ _ c.is_empty.ensures c.if-is_empty.false
+
+pub narrow-requires-clause-ends : goal.narrow-requires-clause-ends
+narrow-requires-clause-ends c = rw (c.circle_runs.auto.ends, c.circle_runs.auto.firsts) c.requires.ends
+
+pub narrow-requires-clause-short : goal.narrow-requires-clause-short
+narrow-requires-clause-short c =
+    rw c.circle_runs.auto.firsts (c.side.ensures.short _ c.requires.rows)
 
 pub side-requires-clause-row : goal.side-requires-clause-row
 side-requires-clause-row c =
     top_is_wide c.args.top.now (length c.args.firsts.now) (some_rows _ _ c.is_empty.ensures c.if-is_empty.false)
     c.requires.rows
-
-pub narrow-requires-clause-few : goal.narrow-requires-clause-few
-narrow-requires-clause-few c =
-    (top_is_wide c.args.top.now (length c.args.firsts.now) (some_rows _ _ c.is_empty.ensures c.if-is_empty.false)
-    c.requires.rows).count.1
-
-pub narrow-requires-clause-ends : goal.narrow-requires-clause-ends
-narrow-requires-clause-ends c = rw (c.circle_runs.auto.ends, c.circle_runs.auto.firsts) c.requires.ends

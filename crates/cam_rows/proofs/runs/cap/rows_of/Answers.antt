@@ -1,4 +1,4 @@
-use Rattle.std.proofs.Common.{length, IsTrue, sym, arith}
+use Rattle.std.proofs.Common.{rules, IsTrue, sym, arith}
 use Rattle.cam_shapes.specs.Cap.{is_in_circle}
 use Rattle.cam_shapes.specs.Plane.{seen_from, way}
 use Rattle.cam_rows.specs.Rows.{centre_at, row_below}
@@ -7,8 +7,7 @@ use Rattle.cam_rows.proofs.WideRows.{all_found, no_run, one_more_run, top_is_wid
 use Rattle.cam_rows.proofs.runs.cap.rows_of.Goals as goal
 
 pub at_middle-chord-requires-clause-row : goal.at_middle-chord-requires-clause-row
-at_middle-chord-requires-clause-row g c =
-    top_is_wide c.args.top.now (length c.args.firsts.now) c.requires.some c.requires.rows
+at_middle-chord-requires-clause-row g c = search (rules, top_is_wide)
 
 pub at_middle-chord-requires-clause-far : goal.at_middle-chord-requires-clause-far
 at_middle-chord-requires-clause-far g c = c.requires.within.far
@@ -16,26 +15,11 @@ at_middle-chord-requires-clause-far g c = c.requires.within.far
 pub rise_below-requires-clause-rows : goal.rise_below-requires-clause-rows
 rise_below-requires-clause-rows g c = λ k within. c.requires.rows k (omega (arith, within, c.requires.some))
 
-pub room_at-requires-clause-height : goal.room_at-requires-clause-height
-room_at-requires-clause-height g c =
-    let within = c.requires.within in
-    height_within g.row.REACH _ _ within.far (within.rows 0 c.requires.some) c.rise_below.ensures
-
 pub rise_below-requires-in-loop-k-clause-rows : goal.rise_below-requires-in-loop-k-clause-rows
 rise_below-requires-in-loop-k-clause-rows g c = λ k within. c.requires.rows k (omega (arith, within, c.loop-k-test.true))
 
 pub run_at-run-requires-clause-height : goal.run_at-run-requires-clause-height
-run_at-run-requires-clause-height g c =
-    let within = c.requires.within in
-    height_within g.row.REACH _ _ within.far (within.rows c.loop-k.k (omega (arith, c.loop-k-test.true)))
-    c.rise_below-in-loop-k.ensures
-
-pub loop-k-init : goal.loop-k-init
-loop-k-init g c = record {
-  chord = c.leap.ensures.chord;
-  offsets = rw c.leap.ensures.same c.at_middle-chord.ensures.offsets;
-  found = no_run _ _ _ _;
-}
+run_at-run-requires-clause-height g c = grind (arith, height_within)
 
 pub loop-k-preserved : goal.loop-k-preserved
 loop-k-preserved g c =
@@ -64,3 +48,15 @@ returns g c =
     all_found c.loop-k.firsts c.loop-k.ends c.args.top.now
     (λ s. IsTrue (is_in_circle (way c.args.cap.now.centre c.args.cap.now.from) (seen_from c.args.cap.now.centre s)))
     c.loop-k.k (omega (arith, c.loop-k-test.false)) c.loop-k.invariant.found
+
+pub room_at-requires-clause-height : goal.room_at-requires-clause-height
+room_at-requires-clause-height g c =
+    let within = c.requires.within in
+    height_within g.row.REACH _ _ within.far (within.rows 0 c.requires.some) c.rise_below.ensures
+
+pub loop-k-init : goal.loop-k-init
+loop-k-init g c = record {
+  chord = c.leap.ensures.chord;
+  offsets = rw c.leap.ensures.same c.at_middle-chord.ensures.offsets;
+  found = no_run _ _ _ _;
+}

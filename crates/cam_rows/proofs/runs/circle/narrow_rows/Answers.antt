@@ -1,4 +1,4 @@
-use Rattle.std.proofs.Common.{◌+◌, ◌<◌, ◌∙◌, length, refl, arith}
+use Rattle.std.proofs.Common.{rules, ◌+◌, ◌<◌, ◌∙◌, length, refl, arith}
 use Rattle.cam_rows.specs.Machinery.Narrowing.{IsNearer}
 use Rattle.cam_rows.specs.Rows.{centre_at, row_below}
 use Rattle.cam_rows.proofs.NarrowedRuns.{all_runs, next_run, no_runs, run_by}
@@ -10,27 +10,7 @@ pub rise_below-height-requires-clause-rows : goal.rise_below-height-requires-cla
 rise_below-height-requires-clause-rows g c = λ k within. c.requires.rows k (omega (arith, within, c.requires.some))
 
 pub room_at-room-requires-clause-height : goal.room_at-room-requires-clause-height
-room_at-room-requires-clause-height g c =
-    let within = c.requires.within in
-    let before : c.loop-k.k < length c.args.firsts.now =
-    omega (arith, c.loop-k-test.true, c.loop-k.invariant.narrowed.firsts_size) in
-    rw (c.loop-k.invariant.height before) (within.rows c.loop-k.k before)
-
-pub part-part-requires-clause-sides : goal.part-part-requires-clause-sides
-part-part-requires-clause-sides g c =
-    let sides = c.requires.sides in
-    let inv = c.loop-k.invariant in
-    record { none_left = λ off. inv.left ∙ sides.none_left off; none_right = λ off. inv.right ∙ sides.none_right off }
-
-pub loop-k-init : goal.loop-k-init
-loop-k-init g c = record {
-  chord = c.requires.chord;
-  offsets = c.requires.offsets;
-  left = refl;
-  right = refl;
-  height = λ some. height_passed g.row.REACH _ _ c.requires.within.far (c.requires.within.rows 0 some) c.rise_below-height.ensures;
-  narrowed = no_runs _ _ _ _;
-}
+room_at-room-requires-clause-height g c = grind arith
 
 pub loop-k-preserved : goal.loop-k-preserved
 loop-k-preserved g c =
@@ -60,8 +40,20 @@ loop-k-preserved g c =
     }
 
 pub returns : goal.returns
-returns g c =
-    let inv = c.loop-k.invariant.narrowed in
-    all_runs c.args.top.now.n c.args.firsts.now c.args.ends.now
-    (λ k i. IsNearer c.args.point.now c.args.bound (centre_at (row_below c.args.top.now k) i)) c.loop-k.firsts
-    c.loop-k.ends c.loop-k.k (omega (arith, inv.firsts_size, c.loop-k-test.false)) c.requires.ends inv
+returns g c = search (rules, all_runs)
+
+pub part-part-requires-clause-sides : goal.part-part-requires-clause-sides
+part-part-requires-clause-sides g c =
+    let sides = c.requires.sides in
+    let inv = c.loop-k.invariant in
+    record { none_left = λ off. inv.left ∙ sides.none_left off; none_right = λ off. inv.right ∙ sides.none_right off }
+
+pub loop-k-init : goal.loop-k-init
+loop-k-init g c = record {
+  chord = c.requires.chord;
+  offsets = c.requires.offsets;
+  left = refl;
+  right = refl;
+  height = λ some. height_passed g.row.REACH _ _ c.requires.within.far (c.requires.within.rows 0 some) c.rise_below-height.ensures;
+  narrowed = no_runs _ _ _ _;
+}

@@ -1,11 +1,10 @@
-use Rattle.std.proofs.Common.{length, arith}
+use Rattle.std.proofs.Common.{rules, arith}
 use Rattle.cam_rows.proofs.NearRows.{height_within}
 use Rattle.cam_rows.proofs.WideRows.{top_is_wide}
 use Rattle.cam_rows.proofs.runs.circle.narrow_sides.Goals as goal
 
 pub at_middle-chord-requires-clause-row : goal.at_middle-chord-requires-clause-row
-at_middle-chord-requires-clause-row g c =
-    top_is_wide c.args.top.now (length c.args.firsts.now) c.requires.some c.requires.rows
+at_middle-chord-requires-clause-row g c = search (rules, top_is_wide)
 
 pub at_middle-chord-requires-clause-far : goal.at_middle-chord-requires-clause-far
 at_middle-chord-requires-clause-far g c = c.requires.within.far

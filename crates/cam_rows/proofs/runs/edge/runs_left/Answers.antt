@@ -1,7 +1,6 @@
 use Rattle.std.proofs.Common.{◌↔◌, ℤ, pos, negsuc, ◌+ℤ◌, ◌-ℤ◌, ◌*ℤ◌, ◌≤ℤ◌, ◌<ℤ◌, length, arith}
 use Rattle.std.proofs.lemmas.Int.{ints}
-use Rattle.cam_shapes.specs.Plane.{cross, seen_from, way}
-use Rattle.cam_rows.specs.Runs.{end_in}
+use Rattle.cam_shapes.specs.Plane.{way}
 use Rattle.cam_rows.proofs.CountedRuns.{counted_ends, falls_right}
 use Rattle.cam_rows.proofs.WideRows.{top_is_wide}
 use Rattle.cam_rows.proofs.runs.edge.runs_left.Goals as goal
@@ -17,20 +16,13 @@ pub count_columns-requires-clause-short : goal.count_columns-requires-clause-sho
 count_columns-requires-clause-short c = c.left.ensures.holds.short _ c.requires.rows
 
 pub returns : goal.returns
-returns c =
-    let from = c.args.from.now in
-    let to = c.args.to.now in
-    counted_ends (end_in c.count_columns.result c.count_columns.new.ends) (length c.args.ends.now) c.args.top.now
-    (λ s. pos 0 ≤ℤ (cross (way from to) (seen_from from s) +ℤ negsuc 0))
-    (λ s. pos 0 <ℤ cross (way from to) (seen_from from s)) c.left.result c.left.ensures.holds
-    (λ s. less_natural (cross (way from to) (seen_from from s))) c.count_columns.ensures
+returns c = grind (arith, counted_ends, less_natural)
 
 pub left-requires-clause-row : goal.left-requires-clause-row
 left-requires-clause-row c = top_is_wide c.args.top.now (length c.args.ends.now) c.requires.some c.requires.rows
 
 pub count_columns-requires-clause-few : goal.count_columns-requires-clause-few
-count_columns-requires-clause-few c =
-    (top_is_wide c.args.top.now (length c.args.ends.now) c.requires.some c.requires.rows).count.1
+count_columns-requires-clause-few c = grind (arith, top_is_wide)
 
 pub count_columns-requires-clause-falls : goal.count_columns-requires-clause-falls
 count_columns-requires-clause-falls c =

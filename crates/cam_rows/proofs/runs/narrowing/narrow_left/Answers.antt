@@ -1,4 +1,4 @@
-use Rattle.std.proofs.Common.{length}
+use Rattle.std.proofs.Common.{arith, length}
 use Rattle.cam_rows.specs.Machinery.HalfPlanes.{IsLeft}
 use Rattle.cam_rows.proofs.PassedOn.{kept_reach, passed_reach}
 use Rattle.cam_rows.proofs.WideRows.{half_narrowed, top_is_wide}
@@ -11,8 +11,7 @@ pub left-requires-clause-reach : goal.left-requires-clause-reach
 left-requires-clause-reach c = passed_reach c.args.reach c.requires.reach
 
 pub narrow-requires-clause-few : goal.narrow-requires-clause-few
-narrow-requires-clause-few c =
-    (top_is_wide c.args.top.now (length c.args.firsts.now) c.requires.some c.requires.rows).count.1
+narrow-requires-clause-few c = grind (arith, top_is_wide)
 
 pub narrow-requires-clause-short : goal.narrow-requires-clause-short
 narrow-requires-clause-short c = c.left.ensures.holds.short _ c.requires.rows

@@ -10,8 +10,7 @@ use Rattle.cam_rows.proofs.PassedOn.{none_by_bits}
 use Rattle.cam_rows.proofs.Quarters.{obround_is, over_obround}
 use Rattle.cam_rows.proofs.WideRows.{by_strip, in_no_run}
 use Rattle.cam_rows.proofs.runs.obround.obround_run.Goals as goal
-use Rattle.cam_rows.proofs.runs.obround.obround_run.Goals.{After-unsigned_abs-over}
-use Rattle.cam_rows.proofs.runs.obround.obround_run.Goals.{then-width-eq0-via-then-width-eq0}
+use Rattle.cam_rows.proofs.runs.obround.obround_run.Goals.{After-unsigned_abs-over, then-width-eq0-via-then-width-eq0}
 use Rattle.cam_rows.proofs.runs.obround.obround_run.Goals.{then-width-eq0-via-else-width-eq0+then-height-eq0}
 
 -- how far the row lies above or below the middle

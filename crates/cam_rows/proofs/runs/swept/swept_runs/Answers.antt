@@ -15,8 +15,7 @@ use Rattle.cam_rows.proofs.WideRows.{empty_runs, runs_like, runs_kept}
 use Rattle.cam_rows.proofs.runs.swept.swept_runs.Goals as goal
 use Rattle.cam_rows.proofs.runs.swept.swept_runs.Goals.{After-box_runs, After-from-reach}
 use Rattle.cam_rows.proofs.runs.swept.swept_runs.Goals.{then-from-to-via-else-from-to+then-from-to-2}
-use Rattle.cam_rows.proofs.runs.swept.swept_runs.Goals.{then-from-to-via-then-from-to}
-use Rattle.cam_rows.proofs.runs.swept.swept_runs.Goals.{then-width-eq0-via-then-width-eq0}
+use Rattle.cam_rows.proofs.runs.swept.swept_runs.Goals.{then-from-to-via-then-from-to, then-width-eq0-via-then-width-eq0}
 use Rattle.cam_rows.proofs.runs.swept.swept_runs.Goals.{then-width-eq0-via-else-width-eq0+then-height-eq0}
 
 wide : (c : After-box_runs) → pos 0 <ℤ c.args.swept.now.width.0

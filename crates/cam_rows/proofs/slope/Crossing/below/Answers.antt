@@ -1,16 +1,11 @@
-use Rattle.std.proofs.Common.{pos, ◌+ℤ◌, ◌<ℤ◌, ◌≤ℤ◌, ◌∙◌, arith}
+use Rattle.std.proofs.Common.{rules, pos, ◌+ℤ◌, ◌<ℤ◌, ◌≤ℤ◌, arith}
 use Rattle.std.proofs.lemmas.Int.{ints}
 use Rattle.cam_rows.proofs.NextCrossings.{columns_kept, minus_kept, near_below, near_past, next_kept, past_kept, rest_kept}
 use Rattle.cam_rows.proofs.SlopeParts.{few_whole, next_whole}
 use Rattle.cam_rows.proofs.slope.Crossing.below.Goals as goal
 
 pub returns-then-past-steps-clause-lowered : goal.returns-then-past-steps-clause-lowered
-returns-then-past-steps-clause-lowered c =
-    let s = c.args.self in
-    let t = c.args.steps.now in
-    let columns = columns_kept s.columns t.columns c.requires.here.near c.requires.steps.columns in
-    let rest = rest_kept s.rest t.rest t.divisor c.requires.here.low c.requires.here.high c.requires.steps.divisor c.requires.steps.rest in
-    rw (columns, rest) (few_whole s.columns s.rest t.divisor t.columns t.rest)
+returns-then-past-steps-clause-lowered c = search (rules, columns_kept, rest_kept, few_whole)
 
 pub returns-then-past-steps-clause-near : goal.returns-then-past-steps-clause-near
 returns-then-past-steps-clause-near c bound here =
@@ -25,13 +20,7 @@ returns-then-past-steps-clause-near c bound here =
     rw (columns, rest) (near_below t s bound c.requires.steps here less)
 
 pub returns-clause-lowered : goal.returns-clause-lowered
-returns-clause-lowered c =
-    let s = c.args.self in
-    let t = c.args.steps.now in
-    let columns = next_kept s.columns t.columns c.requires.here.near c.requires.steps.columns in
-    let rest = past_kept s.rest t.rest t.divisor c.requires.here.low c.requires.here.high c.requires.steps.divisor c.requires.steps.rest in
-    rw (columns, rest) (next_whole (s.columns +ℤ t.columns) (s.rest +ℤ t.rest) t.divisor
-    ∙ few_whole s.columns s.rest t.divisor t.columns t.rest)
+returns-clause-lowered c = grind (arith, next_kept, past_kept, next_whole, few_whole)
 
 pub returns-clause-near : goal.returns-clause-near
 returns-clause-near c bound here =

@@ -23,9 +23,7 @@ overflow_mul-last c =
     _ _ _ _ c.from.ensures c.from-2.ensures c.from-3.ensures refl
 
 pub overflow_add-last : goal.overflow_add-last
-overflow_add-last c =
-    sum_fits c.args.self c.args.steps.now (c.args.rows - 1) c.requires.steps c.requires.here (omega (arith, c.requires.few))
-    _ _ _ _ c.from.ensures c.from-2.ensures c.from-3.ensures c.from-4.ensures
+overflow_add-last c = grind (arith, sum_fits)
 
 pub returns-then-from-last : goal.returns-then-from-last
 returns-then-from-last c =

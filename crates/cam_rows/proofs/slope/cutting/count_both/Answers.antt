@@ -1,4 +1,4 @@
-use Rattle.std.proofs.Common.{◌-◌, sym, refl, length, slice_index, arith}
+use Rattle.std.proofs.Common.{rules, ◌-◌, refl, length, slice_index, arith}
 use Rattle.cam_rows.specs.Machinery.Narrowing.{IsUp}
 use Rattle.cam_rows.specs.Machinery.Slopes.{falling}
 use Rattle.cam_rows.proofs.SetRows.{all_counted, counted_alike, next_set, none_set, same_counted}
@@ -7,14 +7,7 @@ use Rattle.cam_rows.proofs.Slopes.{lowered_none}
 use Rattle.cam_rows.proofs.slope.cutting.count_both.Goals as goal
 
 pub loop-k-init : goal.loop-k-init
-loop-k-init c = record {
-  low = sym (lowered_none _);
-  high = sym (lowered_none _);
-  near_low = c.requires.low;
-  near_high = c.requires.high;
-  firsts = none_set _ _;
-  ends = none_set _ _;
-}
+loop-k-init c = search (rules, lowered_none, none_set)
 
 pub loop-k-preserved : goal.loop-k-preserved
 loop-k-preserved c =

@@ -27,12 +27,6 @@ loop-k-preserved c =
 pub loop-row-init : goal.loop-row-init
 loop-row-init c = none_set _ _
 
-pub loop-row-preserved : goal.loop-row-preserved
-loop-row-preserved c =
-    let was = c.loop-row.invariant in
-    next_set _ c.args.ends.now c.loop-row.ends c.loop-row.row _ (omega arith) was
-    (rw (was.same c.loop-row.row (omega arith)) at c.min.ensures)
-
 pub returns-then-stays : goal.returns-then-stays
 returns-then-stays c = λ k i within.
     let top = c.args.top in

@@ -3,8 +3,4 @@ use Rattle.cam_macros.proofs.ScannerLemmas.{few_less}
 use Rattle.cam_macros.proofs.parsing.scanner.Scanner.charge.Goals as goal
 
 pub invariant_of-self : goal.invariant_of-self
-invariant_of-self c = record {
-  deep = c.self.invariant.deep;
-  few = omega arith;
-  each = few_less c.self.inside.budget _ c.self.inside.outer.items (omega arith) c.self.invariant.each;
-}
+invariant_of-self c = grind (arith, few_less)

@@ -5,32 +5,10 @@ use Rattle.cam_rows.proofs.chord.side.ChordSide.narrow.Goals as goal
 use Rattle.cam_rows.proofs.chord.side.ChordSide.narrow.Goals.{then-loop-self-test+else-is_last_beyond, else-loop-self-test}
 
 pub is_last_beyond-requires-clause-some : goal.is_last_beyond-requires-clause-some
-is_last_beyond-requires-clause-some g c =
-    (past_start g.row.REACH c.loop-self.self c.loop-self.invariant.side).0 c.loop-self-test.true
+is_last_beyond-requires-clause-some g c = grind (arith, past_start)
 
 pub loop-self-preserved : goal.loop-self-preserved
-loop-self-preserved g c =
-    let s = c.loop-self.self in
-    let side = c.loop-self.invariant.side in
-    let same = c.loop-self.invariant.same in
-    let within = side.within in
-    let some = (past_start g.row.REACH s side).0 c.loop-self-test.true in
-    record {
-      side = record {
-        some = side.some;
-        step = side.step;
-        within = omega arith;
-        next = last_is _ s _ side (omega (arith, some)) (omega arith);
-        start = side.start;
-        fits = side.fits;
-        near = side.near;
-        far = side.far;
-      };
-      beyond = λ j from _.
-          beyond_from _ s c.args.room side (omega (arith, some)) (c.is_last_beyond.ensures.0 c.if-is_last_beyond.true) j
-          from;
-      same = record { start = same.start; step = same.step; columns = same.columns };
-    }
+loop-self-preserved g c = grind (arith, past_start, last_is, beyond_from)
 
 pub returns-clause-reached : goal.returns-clause-reached
 returns-clause-reached g c =

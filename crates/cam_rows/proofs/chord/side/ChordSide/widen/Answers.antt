@@ -1,41 +1,16 @@
-use Rattle.std.proofs.Common.{◌^◌, ◌<◌, arith, rules}
+use Rattle.std.proofs.Common.{arith}
 use Rattle.cam_rows.proofs.Sides.{before_end, end_fits, reached_outwards}
 use Rattle.cam_rows.proofs.chord.side.ChordSide.widen.Goals as goal
 use Rattle.cam_rows.proofs.chord.side.ChordSide.widen.Goals.{then-loop-self-test+else-not-is_beyond, else-loop-self-test}
 
 pub overflow_mul-end : goal.overflow_mul-end
-overflow_mul-end g c =
-    let fits = end_fits g.row.REACH c.args.self.now c.requires.side in rw c.from.ensures (omega (arith, fits))
+overflow_mul-end g c = grind (arith, end_fits)
 
 pub overflow_add-end : goal.overflow_add-end
-overflow_add-end g c =
-    let fits = end_fits g.row.REACH c.args.self.now c.requires.side in rw c.from.ensures (omega (arith, fits))
-
-pub is_beyond-requires-clause-near : goal.is_beyond-requires-clause-near
-is_beyond-requires-clause-near g c =
-    let s = c.loop-self.self in
-    let side = c.loop-self.invariant.side in
-    let some = (before_end g.row.REACH _ c.args.self.now s side c.loop-self.invariant.same c.from.ensures).0
-    c.loop-self-test.true in
-    rw side.next (side.near s.inside some)
-
-pub overflow_add-self : goal.overflow_add-self
-overflow_add-self g c =
-    let s = c.loop-self.self in
-    let side = c.loop-self.invariant.side in
-    let some = (before_end g.row.REACH _ c.args.self.now s side c.loop-self.invariant.same c.from.ensures).0
-    c.loop-self-test.true in
-    let few : c.from.result < 2 ^ 32 = search rules in
-    omega (arith, some, few, c.from.ensures, c.loop-self.invariant.same.columns)
+overflow_add-end g c = grind (arith, end_fits)
 
 pub overflow_add-self-in-loop-self : goal.overflow_add-self-in-loop-self
-overflow_add-self-in-loop-self g c =
-    let s = c.loop-self.self in
-    let side = c.loop-self.invariant.side in
-    let some = (before_end g.row.REACH _ c.args.self.now s side c.loop-self.invariant.same c.from.ensures).0
-    c.loop-self-test.true in
-    let near : s.next < g.row.REACH = rw side.next (side.near s.inside some) in
-    omega (arith, near, side.far, side.step)
+overflow_add-self-in-loop-self g c = grind (arith, before_end)
 
 pub returns-clause-reached : goal.returns-clause-reached
 returns-clause-reached g c =
@@ -48,3 +23,11 @@ returns-clause-reached g c =
       | else-loop-self-test w ↦ absurd (omega (arith, before.1 some, w.loop-self-test.false))
     ]) in
     record { near = reached.near; beyond = reached.beyond }
+
+pub is_beyond-requires-clause-near : goal.is_beyond-requires-clause-near
+is_beyond-requires-clause-near g c =
+    let s = c.loop-self.self in
+    let side = c.loop-self.invariant.side in
+    let some = (before_end g.row.REACH _ c.args.self.now s side c.loop-self.invariant.same c.from.ensures).0
+    c.loop-self-test.true in
+    rw side.next (side.near s.inside some)
