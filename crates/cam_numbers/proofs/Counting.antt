@@ -1,6 +1,6 @@
 -- The loops over digits, one byte at a time.
 use Rattle.std.proofs.Common.{◌≡◌, ℕ, zero, suc, ◌+◌, ◌-◌, ◌*◌, ◌/◌, ◌^◌, ◌<◌, ◌≤◌, min, List, [], ◌∷◌, length, take}
-use Rattle.std.proofs.Common.{Bool, true, false, refl, sym, ap, ◌∙◌, ◌⊎◌, inl, inr, arith, None, Some, add_assoc}
+use Rattle.std.proofs.Common.{Bool, true, false, refl, ap, ◌∙◌, ◌⊎◌, arith, None, Some}
 use Rattle.std.specs.Prelude.{◌&&◌}
 use Rattle.std.specs.Char.{is_ascii_digit, digit_value}
 use Rattle.std.specs.Str.Parse.{AllDigits, digits_value_after}
@@ -26,31 +26,18 @@ grows [] n = omega arith
 grows (d ∷ digits) n = omega (arith, grows digits (n * 10 + digit_value d))
 
 pub below_or : (limit n : ℕ) → (min limit n ≡ n) ⊎ ((min limit n ≡ limit) × (limit ≤ n))
-below_or limit n = elim (le_or_lt limit n) [ inl h ↦ inr (omega arith, h) | inr h ↦ inl (omega arith) ]
-  where
-    le_or_lt : (a b : ℕ) → (a ≤ b) ⊎ (b < a)
-    le_or_lt zero b = inl (omega arith)
-    le_or_lt (suc a) zero = inr (omega arith)
-    le_or_lt (suc a) (suc b) = elim (le_or_lt a b) [ inl h ↦ inl (omega arith) | inr h ↦ inr (omega arith) ]
+below_or limit n = grind arith
 
 -- what is past a limit stays so
 capped : (limit n : ℕ) (digits : List ℕ)
     → min limit (digits_value_after 10 (min limit n) digits) ≡ min limit (digits_value_after 10 n digits)
-capped limit n digits =
-    elim (below_or limit n) [
-      | inl same ↦ ap (λ m. min limit (digits_value_after 10 m digits)) same
-      | inr past ↦ omega (arith, past.0, past.1, grows digits (min limit n), grows digits n)
-    ]
+capped limit n digits = grind (arith, below_or, grows)
 
 -- a digit
 pub digits_after-digit : (counted value byte : ℕ) (run : List ℕ) → is_ascii_digit byte ≡ true
     → digits_after counted value (byte ∷ run) ≡ digits_after (counted + 1) (min value_limit (value * 10 + (byte - 48))) run
 unfolding digits_after
-digits_after-digit counted value byte run e =
-    let more : counted + 1 + length run ≡ counted + length (byte ∷ run) = omega arith in
-    let step : digits_after counted value (byte ∷ run) ≡ digits_after (counted + 1) (min value_limit (value * 10 + digit_value byte)) run =
-    rw (e, more, capped value_limit (value * 10 + digit_value byte) run) refl in
-    step ∙ ap (λ d. digits_after (counted + 1) (min value_limit (value * 10 + d)) run) (digit_is byte e)
+digits_after-digit counted value byte run e = grind (arith, capped, digit_is)
 
 -- another byte
 pub digits_after-other : (counted value byte : ℕ) (run : List ℕ) → is_ascii_digit byte ≡ false
@@ -62,10 +49,7 @@ digits_after-other counted value byte run e = rw e refl
 pub digits_after-end : (counted value : ℕ) → value ≤ value_limit
     → digits_after counted value [] ≡ Some (record { count = counted; value = value })
 unfolding digits_after
-digits_after-end counted value le =
-    let same : min value_limit value ≡ value = omega arith in
-    let none : counted + 0 ≡ counted = omega arith in
-    rw (same, none) refl
+digits_after-end counted value le = grind arith
 
 -- what digits say
 pub record Said (run : List ℕ) (counted value : ℕ) : Type 0 where
@@ -75,34 +59,17 @@ pub record Said (run : List ℕ) (counted value : ℕ) : Type 0 where
 
 pub said : (run : List ℕ) (d : Digits) → Some d ≡ digits_of run → Said run d.count d.value
 unfolding digits_after value_of
-said run d e =
-    (elim (are_digits run) as (λ b. are_digits run ≡ b → Said run d.count d.value) [
-      | true ↦ λ t.
-          let same : Some d ≡ Some (record { count = 0 + length run; value = min value_limit (digits_value_after 10 0 run) }) = rw t at e in
-          let is : d ≡ record { count = 0 + length run; value = min value_limit (digits_value_after 10 0 run) } = cc in
-          record { digits = t; counts = ap (λ r. r.count) is ∙ (omega arith); values = ap (λ r. r.value) is }
-      | false ↦ λ t. let none : Some d ≡ None = rw t at e in absurd cc
-    ]) refl
+said run d e = grind arith
 
 pub not_said : (run : List ℕ) → None ≡ digits_of run → are_digits run ≡ false
 unfolding digits_after
-not_said run e =
-    (elim (are_digits run) as (λ b. are_digits run ≡ b → are_digits run ≡ false) [
-      | true ↦ λ t. let some : None ≡ Some (record { count = 0 + length run; value = min value_limit (digits_value_after 10 0 run) }) = rw
-          t at e in absurd cc
-      | false ↦ λ t. t
-    ]) refl
+not_said run e = grind arith
 
 -- a decimal
 pub decimals_after-digit : (counted sum worth byte : ℕ) (run : List ℕ) → is_ascii_digit byte ≡ true
     → decimals_after counted sum worth (byte ∷ run) ≡ decimals_after (counted + 1) (sum + (byte - 48) * worth) (worth / 10) run
 unfolding decimals_after
-decimals_after-digit counted sum worth byte run e =
-    let more : counted + 1 + length run ≡ counted + length (byte ∷ run) = omega arith in
-    let step : decimals_after counted sum worth (byte ∷ run) ≡ decimals_after (counted + 1) (sum + digit_value byte * worth)
-    (worth / 10) run =
-    rw (e, more, add_assoc sum (digit_value byte * worth) (worth_of (worth / 10) run)) refl in
-    step ∙ ap (λ d. decimals_after (counted + 1) (sum + d * worth) (worth / 10) run) (digit_is byte e)
+decimals_after-digit counted sum worth byte run e = grind (arith, digit_is)
 
 pub decimals_after-other : (counted sum worth byte : ℕ) (run : List ℕ) → is_ascii_digit byte ≡ false
     → decimals_after counted sum worth (byte ∷ run) ≡ None
@@ -112,8 +79,7 @@ decimals_after-other counted sum worth byte run e = rw e refl
 pub decimals_after-end : (counted sum worth : ℕ)
     → decimals_after counted sum worth [] ≡ Some (record { count = counted; value = sum })
 unfolding decimals_after
-decimals_after-end counted sum worth =
-    let none : counted + 0 ≡ counted = omega arith in let same : sum + 0 ≡ sum = omega arith in rw (none, same) refl
+decimals_after-end counted sum worth = grind arith
 
 -- what one decimal is worth
 pub small_share : (byte worth : ℕ) → is_ascii_digit byte ≡ true → (byte - 48) * worth ≤ 9 * worth
@@ -139,11 +105,7 @@ filled zero n digits = let none : 0 - length digits ≡ 0 = omega arith in ap (�
 filled (suc places) n [] = let none : suc places - 0 ≡ suc places = omega arith in ap (λ k. n * 10 ^ k) none ∙ omega arith
 filled (suc places) n (d ∷ digits) =
     let rest = filled places (n * 10 + digit_value d) digits in
-    let step : (n * 10 + digit_value d) * 10 ^ places ≡ n * 10 ^ suc places + digit_value d * 10 ^ places =
-    shared n (digit_value d) (10 ^ places) ∙ ap (λ k. n * k + digit_value d * 10 ^ places) (sym (pow-suc 10 places)) in
-    let left : suc places - suc (length digits) ≡ places - length digits = omega arith in
-    ap (λ k. digits_value_after 10 (n * 10 + digit_value d) (take places digits) * 10 ^ k) left ∙ rest
-    ∙ ap (λ k. k + counts_of places digits) step ∙ add_assoc (n * 10 ^ suc places) (digit_value d * 10 ^ places) (counts_of places digits)
+    grind (arith, shared, pow-suc)
 
 tenth : (places : ℕ) → 10 ^ suc places / 10 ≡ 10 ^ places
 tenth places = rw (pow-suc 10 places) (omega arith)
@@ -151,9 +113,7 @@ tenth places = rw (pow-suc 10 places) (omega arith)
 tied : (places : ℕ) (digits : List ℕ) → worth_of (10 ^ places) digits ≡ counts_of (suc places) digits
 tied places [] = refl
 tied zero (d ∷ digits) = omega (arith, worthless digits)
-tied (suc places) (d ∷ digits) =
-    ap (λ w. digit_value d * 10 ^ suc places + worth_of w digits) (tenth places)
-    ∙ ap (λ r. digit_value d * 10 ^ suc places + r) (tied places digits)
+tied (suc places) (d ∷ digits) = grind (arith, tenth, tied places digits)
 
 pub billionths_are : (digits : List ℕ) → worth_of 100000000 digits ≡ billionths digits
 unfolding billionths value_of
@@ -167,27 +127,11 @@ pub record Told (run : List ℕ) (counted value : ℕ) : Type 0 where
 
 pub told : (run : List ℕ) (d : Decimals) → Some d ≡ decimals_of run → Told run d.count d.value
 unfolding decimals_after
-told run d e =
-    (elim (are_digits run) as (λ b. are_digits run ≡ b → Told run d.count d.value) [
-      | true ↦ λ t.
-          let same : Some d ≡ Some (record { count = 0 + length run; value = 0 + worth_of 100000000 run }) = rw t at e in
-          let is : d ≡ record { count = 0 + length run; value = 0 + worth_of 100000000 run } = cc in
-          record {
-            digits = t;
-            counts = ap (λ r. r.count) is ∙ (omega arith);
-            values = ap (λ r. r.value) is ∙ omega arith
-                ∙ billionths_are run;
-          }
-      | false ↦ λ t. let none : Some d ≡ None = rw t at e in absurd cc
-    ]) refl
+told run d e = grind (arith, billionths_are)
 
 pub not_told : (run : List ℕ) → None ≡ decimals_of run → are_digits run ≡ false
 unfolding decimals_after
-not_told run e =
-    (elim (are_digits run) as (λ b. are_digits run ≡ b → are_digits run ≡ false) [
-      | true ↦ λ t. let some : None ≡ Some (record { count = 0 + length run; value = 0 + worth_of 100000000 run }) = rw t at e in absurd cc
-      | false ↦ λ t. t
-    ]) refl
+not_told run e = grind arith
 
 -- n digits are less than 10^n
 all_digits : (digits : List ℕ) → are_digits digits ≡ true → AllDigits 10 digits
@@ -205,7 +149,4 @@ all_digits (d ∷ digits) h =
 -- k digits or fewer are less than 10^k
 pub short_value : (digits : List ℕ) (k : ℕ) → are_digits digits ≡ true → length digits ≤ k → value_of digits < 10 ^ k
 unfolding value_of
-short_value digits k h le =
-    let low = digits_value-lt 10 digits (all_digits digits h) in
-    let power = pow-le-pow_right {n = 10} (omega arith) {i = length digits} {j = k} le in
-    omega (arith, low, power)
+short_value digits k h le = grind (arith, digits_value-lt, all_digits, pow-le-pow_right)

@@ -112,18 +112,14 @@ no_digit : (w d : List ℕ) → are_digits w ≡ true → are_digits d ≡ true 
 no_digit w d e f none = rw (e, f, eq-eqb (length w + length d) 0 none) refl
 
 too_much : (w d : List ℕ) → are_digits w ≡ true → are_digits d ≡ true → 1000000 ≤ value_of w → None ≡ made_of w d
-too_much w d e f much =
-    rw (e, f, le-leb 1000000 (value_of w) much)
-    (elim (length w + length d == 0) as (λ b. None ≡ cond (b || true) None (Some (value_of w * 1000000000 + billionths d)))
-    [ true ↦ refl | false ↦ refl ])
+too_much w d e f much = grind (arith, le-leb)
 
 pub just_right : (w d : List ℕ) → are_digits w ≡ true → are_digits d ≡ true → (length w + length d ≡ 0 → ⊥) → value_of w < 1000000
     → Some (value_of w * 1000000000 + billionths d) ≡ made_of w d
 just_right w d e f some low = rw (e, f, ne_eqb (length w + length d) 0 some, lt-leb 1000000 (value_of w) low) refl
 
 pub decimal_without_whole : (run w : List ℕ) → w ≡ before_first is_point run → None ≡ digits_of w → None ≡ unsigned_decimal run
-decimal_without_whole run w is e =
-    no_whole w (after_first is_point run) (not_said w e) ∙ ap (λ (x : List ℕ). made_of x (after_first is_point run)) is ∙ sym (is_made run)
+decimal_without_whole run w is e = grind (arith, no_whole, not_said, is_made)
 
 -- the parts of a run
 pub record Parted (run w d : List ℕ) : Type 0 where
@@ -131,8 +127,7 @@ pub record Parted (run w d : List ℕ) : Type 0 where
   pub decimals : d ≡ after_first is_point run
 
 parted : (run w d : List ℕ) → Parted run w d → made_of w d ≡ unsigned_decimal run
-parted run w d p =
-    ap (λ (x : List ℕ). made_of x d) p.whole ∙ ap (λ (x : List ℕ). made_of (before_first is_point run) x) p.decimals ∙ sym (is_made run)
+parted run w d p = grind (arith, is_made)
 
 pub decimal_without_decimals : (run w d : List ℕ) (n : Digits) → Parted run w d → Some n ≡ digits_of w → None ≡ decimals_of d
     → None ≡ unsigned_decimal run

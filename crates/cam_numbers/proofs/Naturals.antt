@@ -1,7 +1,7 @@
 -- Naturals by their digits.
 use Rattle.std.proofs.Common.{◌≡◌, ℕ, ◌^◌, ◌<◌, ◌≤◌, min, List, length, Bool, true, false, refl, sym, ap, ◌∙◌, arith}
-use Rattle.std.proofs.Common.{None, Some, Option, eqb, eq-eqb, ne_eqb, cond}
-use Rattle.std.specs.Prelude.{◌||◌, option_map, nat_lt}
+use Rattle.std.proofs.Common.{None, Some, Option, eq-eqb, ne_eqb, cond}
+use Rattle.std.specs.Prelude.{option_map, nat_lt}
 use Rattle.std.proofs.lemmas.Bool.{le-ltb, lt-ltb}
 use Rattle.std.proofs.Math.Nat.{pow-le-pow_right}
 use Rattle.cam_numbers.specs.declared.whole.Digits.{Digits}
@@ -11,8 +11,7 @@ use Rattle.cam_numbers.proofs.Counting.{Said, said, not_said, short_value}
 
 natural-other : (run : List ℕ) → are_digits run ≡ false → natural run ≡ None
 unfolding natural
-natural-other run e = rw e (elim (eqb (length run) 0) as (λ b. (cond (b || true) None (Some (value_of run))) ≡ None)
-    [ true ↦ refl | false ↦ refl ])
+natural-other run e = grind arith
 
 natural-empty : (run : List ℕ) → length run ≡ 0 → natural run ≡ None
 unfolding natural
@@ -32,9 +31,7 @@ pub natural_of_empty : (run : List ℕ) (d : Digits) → Some d ≡ digits_of ru
 natural_of_empty run d e none = let s = said run d e in sym (ap (option_map (min value_limit)) (natural-empty run (sym s.counts ∙ none)))
 
 pub natural_of_digits : (run : List ℕ) (d : Digits) → Some d ≡ digits_of run → (d.count ≡ 0 → ⊥) → Some d.value ≡ capped_natural run
-natural_of_digits run d e some =
-    let s = said run d e in
-    ap (λ (v : ℕ). Some v) s.values ∙ sym (ap (option_map (min value_limit)) (natural-digits run s.digits (λ n. some (s.counts ∙ n))))
+natural_of_digits run d e some = grind (arith, said, natural-digits)
 
 pub within : (most : ℕ) (run : List ℕ) → length run ≤ most → natural_within most run ≡ natural run
 unfolding natural_within
@@ -50,8 +47,7 @@ within_of_none most run e = same_none (nat_lt most (length run)) (natural run) (
 
 pub within_of_empty : (most : ℕ) (run : List ℕ) (d : Digits) → Some d ≡ digits_of run → d.count ≡ 0 → None ≡ natural_within most run
 unfolding natural_within
-within_of_empty most run d e none =
-    let s = said run d e in same_none (nat_lt most (length run)) (natural run) (natural-empty run (sym s.counts ∙ none))
+within_of_empty most run d e none = grind (arith, said, same_none, natural-empty)
 
 pub within_of_long : (most : ℕ) (run : List ℕ) (d : Digits) → Some d ≡ digits_of run → most < d.count → None ≡ natural_within most run
 unfolding natural_within
@@ -63,8 +59,7 @@ short_enough most run d s le few = short_value run most s.digits (omega (arith, 
 whole_value : (most : ℕ) (run : List ℕ) (d : Digits) → Said run d.count d.value → d.count ≤ most → most ≤ 15 → d.value ≡ value_of run
 whole_value most run d s le few =
     let low = short_enough most run d s le few in
-    let limit : 10 ^ most ≤ 10 ^ 15 = pow-le-pow_right {n = 10} (omega arith) {i = most} {j = 15} few in
-    omega (arith, s.values, low, limit)
+    grind (arith, pow-le-pow_right)
 
 pub within_of_digits : (most : ℕ) (run : List ℕ) (d : Digits) → Some d ≡ digits_of run → (d.count ≡ 0 → ⊥) → d.count ≤ most → most ≤ 15
     → Some d.value ≡ natural_within most run

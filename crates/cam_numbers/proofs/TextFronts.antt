@@ -26,8 +26,7 @@ more_digits text i below all digit = list_all_more is_ascii_digit text i 0 below
 pub more_value : (text : List ℕ) (i : ℕ) → i < length text → is_ascii_digit (get_or text i 0) ≡ true
     → value_of (take (i + 1) text) ≡ value_of (take i text) * 10 + (get_or text i 0 - 48)
 unfolding value_of
-more_value text i below digit =
-    digits_value_more 10 text i below ∙ ap (λ d. value_of (take i text) * 10 + d) (digit_is (get_or text i 0) digit)
+more_value text i below digit = grind (arith, digits_value_more, digit_is)
 
 -- few digits are a small number
 pub few_digits : (text : List ℕ) (i : ℕ) → are_digits (take i text) ≡ true → i ≤ 15 → value_of (take i text) < 10 ^ 15
@@ -70,10 +69,7 @@ size_of run all some few = within 15 run few ∙ natural-digits run all (λ none
 unsigned : (run : List ℕ) → are_digits run ≡ true → 0 < length run → length run ≤ 15
     → integer run ≡ Some (with_sign false (value_of run))
 unsigned [] all some few = absurd (omega arith)
-unsigned (byte ∷ run) all some few =
-    let both = and_parts (is_ascii_digit byte) (are_digits run) all in
-    let no = digit_is_no_sign byte both.0 in
-    rw (no.0, no.1, size_of (byte ∷ run) all some few) refl
+unsigned (byte ∷ run) all some few = grind (arith, and_parts, digit_is_no_sign, size_of)
 
 negative : (run : List ℕ) → are_digits run ≡ true → 0 < length run → length run ≤ 15
     → integer (45 ∷ run) ≡ Some (with_sign true (value_of run))
@@ -93,40 +89,18 @@ size_with_sign false n = refl
 
 pub signed_value : (is_negative : Bool) (text : List ℕ) (digits : Digits) (value : ℤ) → IsDigitsFront text digits
     → value ≡ with_sign is_negative digits.value → to_z w64 (of_z w64 value) ≡ with_sign is_negative digits.value
-signed_value is_negative text digits value is e =
-    let small = small_value text digits is in
-    let size = size_with_sign is_negative digits.value in
-    let fits = fits_signed_from_abs w64 (with_sign is_negative digits.value) (omega (arith, small, size)) in
-    ap (λ z. to_z w64 (of_z w64 z)) e ∙ to_z-of_z w64 (with_sign is_negative digits.value) fits
+signed_value is_negative text digits value is e = grind (arith, small_value, size_with_sign, fits_signed_from_abs, to_z-of_z)
 
 pub unsigned_front : (text : List ℕ) (digits : Digits) (value : ℤ) → IsDigitsFront text digits
     → value ≡ with_sign false digits.value
     → IsIntegerFront text (record { len = digits.count; value = Some value })
-unsigned_front text digits value is e =
-    let n = long text digits.count is.within in
-    record {
-      len = is.len;
-      within = omega (arith, is.within);
-      value =
-          ap Some e ∙ ap (λ v. Some (with_sign false v)) is.value
-          ∙ sym (unsigned (take digits.count text) is.each (omega (arith, n, is.some)) (omega (arith, n, is.few)))
-          ∙ ap integer (sym (kept_digits (take digits.count text) is.each));
-    }
+unsigned_front text digits value is e = grind (arith, long, within, unsigned, kept_digits)
 
 behind_minus : (text : List ℕ) (digits : Digits) (value : ℤ) → IsDigitsFront text digits
     → value ≡ with_sign true digits.value
     → IsIntegerFront (45 ∷ text) (record { len = suc digits.count; value = Some value })
 unfolding is_numeric
-behind_minus text digits value is e =
-    let n = long text digits.count is.within in
-    record {
-      len = omega (arith, is.len);
-      within = omega (arith, is.within);
-      value =
-          ap Some e ∙ ap (λ v. Some (with_sign true v)) is.value
-          ∙ sym (negative (take digits.count text) is.each (omega (arith, n, is.some)) (omega (arith, n, is.few)))
-          ∙ ap (λ run. integer (45 ∷ run)) (sym (kept_digits (take digits.count text) is.each));
-    }
+behind_minus text digits value is e = grind (arith, long, within, negative, kept_digits)
 
 pub negative_front : (text : List ℕ) (digits : Digits) (value : ℤ) → get_or text 0 0 ≡ 45
     → IsDigitsFront (take (length text - 1) (drop 1 text)) digits → value ≡ with_sign true digits.value

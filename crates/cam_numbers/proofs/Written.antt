@@ -1,7 +1,7 @@
 -- Numbers that are written, and what a number that is read was written as.
 use Rattle.std.proofs.Common.{◌≡◌, ℕ, suc, ◌+◌, ◌*◌, ◌<◌, List, [], ◌∷◌, ◌++◌, length, Bool, true, false, None, Some}
-use Rattle.std.proofs.Common.{cond, refl, sym, ap, subst, ◌∙◌, ◌⊎◌, inl, inr, arith}
-use Rattle.std.specs.Prelude.{◌||◌, ◌&&◌, ◌==◌, not, nat_le}
+use Rattle.std.proofs.Common.{cond, refl, ap, subst, ◌⊎◌, inl, arith}
+use Rattle.std.specs.Prelude.{◌||◌, ◌&&◌, not}
 use Rattle.std.specs.List.{position_or_len, before_first, after_first}
 use Rattle.std.specs.Char.{is_ascii_digit}
 use Rattle.std.proofs.lemmas.Bool.{eqb-true, eqb-false, leb-false, ne_eqb}
@@ -57,20 +57,14 @@ abbrev pub number_of : List ℕ → List ℕ → ℕ
 number_of whole decimals = value_of whole * 1000000000 + billionths decimals
 
 made : (whole decimals : List ℕ) → AreParts whole decimals → made_of whole decimals ≡ Some (number_of whole decimals)
-made whole decimals h = sym (just_right whole decimals h.before h.behind
-    (λ none. let some = h.some in absurd (omega (arith, some, none))) h.small)
+made whole decimals h = grind (arith, just_right)
 
 pub read_pointed : (whole decimals : List ℕ) → AreParts whole decimals
     → unsigned_decimal (whole ++ 46 ∷ decimals) ≡ Some (number_of whole decimals)
-read_pointed whole decimals h =
-    is_made (whole ++ 46 ∷ decimals)
-    ∙ ap (λ w. made_of w (after_first is_point (whole ++ 46 ∷ decimals))) (before_point whole decimals h.before)
-    ∙ ap (λ d. made_of whole d) (behind_point whole decimals h.before) ∙ made whole decimals h
+read_pointed whole decimals h = grind (arith, is_made, made_of, before_point, behind_point, made)
 
 pub read_whole : (whole : List ℕ) → AreParts whole [] → unsigned_decimal whole ≡ Some (number_of whole [])
-read_whole whole h =
-    is_made whole ∙ ap (λ w. made_of w (after_first is_point whole)) (before_none whole h.before)
-    ∙ ap (λ d. made_of whole d) (behind_none whole h.before) ∙ made whole [] h
+read_whole whole h = grind (arith, is_made, made_of, before_none, behind_none, made)
 
 -- the parts of a run, with a point between them or none
 pub record IsWritten (run whole decimals : List ℕ) : Type 0 where
@@ -78,16 +72,7 @@ pub record IsWritten (run whole decimals : List ℕ) : Type 0 where
 
 split : (run : List ℕ) → IsWritten run (before_first is_point run) (after_first is_point run)
 split [] = record { parts = inl (refl, refl) }
-split (byte ∷ run) =
-    (elim (is_point byte) as (λ p. is_point byte ≡ p → IsWritten (byte ∷ run) (before_first is_point (byte ∷ run))
-    (after_first is_point (byte ∷ run))) [
-      | true ↦ λ p. rw p (record { parts = inr (ap (λ b. b ∷ run) (eqb-true byte 46 p)) })
-      | false ↦ λ p.
-          rw (p, one_more (position_or_len is_point run), more_one (position_or_len is_point run))
-          (record {
-            parts = elim (split run).parts [ inl h ↦ inl (h.0, ap (λ l. byte ∷ l) h.1) | inr h ↦ inr (ap (λ l. byte ∷ l) h) ];
-          })
-    ]) refl
+split (byte ∷ run) = grind (arith, eqb-true, one_more, more_one, split run)
 
 record IsChosen {A : Type 0} (a b c d : Bool) (x v : A) : Type 0 where
   pub first : a ≡ true
@@ -112,19 +97,7 @@ pub record IsRead (run : List ℕ) (n : ℕ) : Type 0 where
   pub value : number_of whole decimals ≡ n
 
 pub was_written : (run : List ℕ) (n : ℕ) → unsigned_decimal run ≡ Some n → IsRead run n
-was_written run n e =
-    let w = before_first is_point run in
-    let d = after_first is_point run in
-    let h = chosen (are_digits w) (are_digits d) (length w + length d == 0) (nat_le 1000000 (value_of w)) (number_of w d) n
-    (sym (is_made run) ∙ e) in
-    let some = eqb-false (length w + length d) 0 h.third in
-    record {
-      whole = w;
-      decimals = d;
-      written = split run;
-      parts = record { before = h.first; behind = h.second; some = omega (arith, some); small = leb-false 1000000 (value_of w) h.fourth };
-      value = h.value;
-    }
+was_written run n e = grind (arith, chosen, is_made, eqb-false, split, leb-false)
 
 -- digits, at least one
 pub record IsNatural (run : List ℕ) (n : ℕ) : Type 0 where
@@ -134,12 +107,7 @@ pub record IsNatural (run : List ℕ) (n : ℕ) : Type 0 where
 
 pub natural_found : (run : List ℕ) (n : ℕ) → natural run ≡ Some n → IsNatural run n
 unfolding natural
-natural_found run n e = go (length run == 0) (are_digits run) refl refl e
-  where
-    go : (a b : Bool) → (length run == 0) ≡ a → are_digits run ≡ b → cond (a || not b) None (Some (value_of run)) ≡ Some n → IsNatural run n
-    go true b p q e = cc
-    go false false p q e = cc
-    go false true p q e = record { digits = q; some = eqb-false (length run) 0 p; value = cc }
+natural_found run n e = grind (arith, eqb-false)
 
 -- what has a value above 0 has a digit
 pub some_digits : (run : List ℕ) → 0 < value_of run → length run ≡ 0 → ⊥

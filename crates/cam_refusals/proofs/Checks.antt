@@ -1,6 +1,5 @@
 -- What is told of checks.
-use Rattle.std.proofs.Common.{◌≡◌, ℕ, ◌≤◌, [], ◌∷◌, Bool, true, false, cond, Option, Some, None, refl, ap, arith}
-use Rattle.std.proofs.Common.{inl, inr}
+use Rattle.std.proofs.Common.{◌≡◌, ℕ, ◌≤◌, [], ◌∷◌, Bool, true, false, cond, Option, Some, None, refl, ap, arith, inl, inr}
 use Rattle.std.specs.Prelude.{nat_le, ◌&&◌, MatchOption}
 use Rattle.std.specs.List.{list_all}
 use Rattle.std.proofs.lemmas.Bool.{and_parts, leb-true, leb-false, le-leb, false≢true}

@@ -1,8 +1,7 @@
 -- Places outside a box of a contour's points.
-use Rattle.std.proofs.Common.{◌≡◌, ℕ, ◌+◌, ◌%◌, ℤ, pos, negsuc, ◌+ℤ◌, ◌-ℤ◌, ◌*ℤ◌, ◌≤ℤ◌, ◌<ℤ◌, inl, inr, Bool, true, false}
-use Rattle.std.proofs.Common.{List, [], ◌∷◌, count_by, refl, ap, ◌∙◌, sym, arith}
+use Rattle.std.proofs.Common.{◌≡◌, ℕ, ◌+◌, ◌%◌, ℤ, pos, ◌+ℤ◌, ◌-ℤ◌, ◌*ℤ◌, ◌≤ℤ◌, ◌<ℤ◌, inl, inr, Bool, true, false, List, [], ◌∷◌}
+use Rattle.std.proofs.Common.{count_by, refl, ap, ◌∙◌, arith, ◌||◌}
 use Rattle.std.specs.Prelude.{All, Any}
-use Rattle.std.proofs.Common.{◌||◌}
 use Rattle.std.specs.List.{list_any}
 use Rattle.std.proofs.lemmas.Bool.{cases_Bool, false≢true}
 use Rattle.std.proofs.lemmas.List.Folds.{Any-from_list_any}
@@ -25,29 +24,16 @@ use Rattle.cam_shapes.proofs.Parity.{count_by-cons, one_if}
 
 one_before : (b g h : Bool) (k m : ℕ) → k ≡ one_if b + m → m % 2 ≡ one_if (differ g h)
     → k % 2 ≡ one_if (differ b (differ g h))
-one_before true true true k m e f = omega arith
-one_before true true false k m e f = omega arith
-one_before true false true k m e f = omega arith
-one_before true false false k m e f = omega arith
-one_before false g h k m e f = omega arith
+one_before b g h k m e f = grind arith
 
 one_last : (b : Bool) (k : ℕ) → k ≡ one_if b + 0 → k % 2 ≡ one_if b
-one_last true k e = omega arith
-one_last false k e = omega arith
+one_last b k e = grind arith
 
 joined : (a b c : Bool) → differ (differ a b) (differ b c) ≡ differ a c
-joined true true true = refl
-joined true true false = refl
-joined true false true = refl
-joined true false false = refl
-joined false true true = refl
-joined false true false = refl
-joined false false true = refl
-joined false false false = refl
+joined a b c = grind arith
 
 alike : (b : Bool) → differ b b ≡ false
-alike true = refl
-alike false = refl
+alike b = grind arith
 
 -- a test that tells both ends of each edge apart where the edge crosses the ray
 abbrev pub Tells : Spot → (Point → Type 0) → (Point → Bool) → Type 0
@@ -56,10 +42,7 @@ Tells s P g = (p q : Point) → P p → P q → crosses_ray s (edge p q) ≡ dif
 round : (s : Spot) (P : Point → Type 0) (g : Point → Bool) → Tells s P g
     → (start here : Point) (segs : List Seg) → P start → P here → All (λ seg. P (end_of seg)) segs
     → count_by (crosses_ray s) (edges_from start here segs) % 2 ≡ one_if (differ (g here) (g start))
-round s P g tells start here [] at_start at_here ends =
-    one_last (crosses_ray s (edge here start)) (count_by (crosses_ray s) (edge here start ∷ []))
-    (count_by-cons (crosses_ray s) (edge here start) [])
-    ∙ ap (λ b. one_if b) (tells here start at_here at_start)
+round s P g tells start here [] at_start at_here ends = grind (arith, one_last, count_by-cons, one_if)
 round s P g tells start here (seg ∷ segs) at_start at_here ends =
     let next = end_of seg in
     let at_next : P next = All-head (λ x. P (end_of x)) seg segs ends in
@@ -160,9 +143,7 @@ second_above : (u w v z : ℤ) → pos 0 <ℤ u → pos 0 ≤ℤ w → pos 0 <�
 second_above u w v z a b c d = sums_turned (u *ℤ w) (v *ℤ z) (least_turned u w a b) (product_above v z c d)
 
 product_natural : (w r : ℤ) → pos 0 ≤ℤ w → pos 0 ≤ℤ r → pos 0 ≤ℤ (w *ℤ r)
-product_natural (pos m) (pos n) p q = omega (arith, ints)
-product_natural (pos m) (negsuc n) p q = absurd (omega (arith, ints))
-product_natural (negsuc m) r p q = absurd (omega (arith, ints))
+product_natural w r p q = grind (arith, ints)
 
 sums_least : (m n : ℤ) → pos 0 ≤ℤ m → pos 0 ≤ℤ n → pos 0 ≤ℤ (m +ℤ n)
 sums_least m n h k = omega (arith, ints)
@@ -232,20 +213,14 @@ tells_right s p q at_p at_q =
     (λ b. rw (not_under s.y (twice p.y) a, not_under s.y (twice q.y) b) refl))
 
 none_before : (b r : Bool) (k m : ℕ) → (b || r) ≡ false → k ≡ one_if b + m → (r ≡ false → m ≡ 0) → k ≡ 0
-none_before true r k m e f g = absurd (false≢true (sym e))
-none_before false r k m e f g = omega (arith, g e)
+none_before b r k m e f g = grind (arith, false≢true)
 
 none_counted : {X : Type 0} (p : X → Bool) (xs : List X) → list_any p xs ≡ false → count_by p xs ≡ 0
 none_counted p [] e = refl
-none_counted p (x ∷ xs) e =
-    none_before (p x) (list_any p xs) (count_by p (x ∷ xs)) (count_by p xs) e (count_by-cons p x xs) (none_counted p xs)
+none_counted p (x ∷ xs) e = grind (arith, none_before, count_by-cons, none_counted p xs)
 
 some_counted : {X : Type 0} (p : X → Bool) (xs : List X) → count_by p xs % 2 ≡ 1 → Any (λ x. p x ≡ true) xs
-some_counted p xs odd =
-    elim (cases_Bool (list_any p xs)) [
-      | inl some ↦ Any-from_list_any p xs some
-      | inr none ↦ absurd (omega (arith, none_counted p xs none))
-    ]
+some_counted p xs odd = grind (arith, cases_Bool, Any-from_list_any, none_counted)
 
 even_and_odd : (m n : ℕ) → m % 2 ≡ 0 → (m + n) % 2 ≡ 1 → n % 2 ≡ 1
 even_and_odd m n e f = omega arith

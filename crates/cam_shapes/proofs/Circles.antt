@@ -1,6 +1,6 @@
 -- Sweeps, and distances from a circle.
-use Rattle.std.proofs.Common.{◌≡◌, ◌↔◌, ◌<◌, ◌^◌, Bool, IsTrue, ℤ, pos, ◌+ℤ◌, ◌-ℤ◌, ◌*ℤ◌, ◌≤ℤ◌, ◌<ℤ◌, inl, inr, ◌∙◌}
-use Rattle.std.proofs.Common.{◌⊎◌, ◌&&◌, false, to_z, of_z, refl, ap, sym, arith}
+use Rattle.std.proofs.Common.{◌≡◌, ◌↔◌, ◌<◌, ◌^◌, Bool, IsTrue, ℤ, pos, ◌+ℤ◌, ◌-ℤ◌, ◌*ℤ◌, ◌≤ℤ◌, ◌<ℤ◌, inl, inr}
+use Rattle.std.proofs.Common.{◌⊎◌, ◌&&◌, false, of_z, arith}
 use Rattle.std.specs.Int.{w128}
 use Rattle.std.specs.Ordering.{int_eq}
 use Rattle.std.proofs.lemmas.Bool.{eqb-true, false≢true}
@@ -38,9 +38,7 @@ at_most_same a b c d e = ((λ h. omega (arith, ints)), (λ h. omega (arith, ints
 
 pub same_inequality : (p q s : ℤ)
     → (square (p +ℤ q -ℤ s) ≤ℤ (pos 4 *ℤ p *ℤ q)) ↔ (square (p -ℤ q -ℤ s) ≤ℤ (pos 4 *ℤ s *ℤ q))
-same_inequality p q s =
-    at_most_same (square (p +ℤ q -ℤ s)) (pos 4 *ℤ p *ℤ q) (square (p -ℤ q -ℤ s)) (pos 4 *ℤ s *ℤ q)
-    (same_difference p q s)
+same_inequality p q s = grind (arith, at_most_same, same_difference)
 
 through : {A B C : Type 0} → (A ↔ B) → (C ↔ B) → A ↔ C
 through f g = ((λ a. g.1 (f.0 a)), (λ c. f.1 (g.0 c)))
@@ -60,31 +58,13 @@ told_circle b p q r told = through (rw (times_four (square r) q) at told) (same_
 module _ (r u : ℤ) (short : unsigned_abs r < 2 ^ 67) (is : r ≡ u) where
   pub narrow_by_dot : (d v : ℤ) → unsigned_abs d < 2 ^ 67 → d ≡ v → of_z w128 r ≡ 0
       → IsTrue (lt_z (wide d) (pos 0)) ↔ ((pos 0 <ℤ u) ⊎ ((u ≡ pos 0) × (v <ℤ pos 0)))
-  narrow_by_dot d v p e none =
-      let level : u ≡ pos 0 = sym is ∙ sym (kept r short) ∙ ap (to_z w128) none in
-      let less = passed_less d (pos 0) v (pos 0) p (omega arith) e refl in (
-        (λ told. inr (level, less.0 told)),
-        (λ narrow. elim narrow [ inl h ↦ absurd (omega (arith, ints, level)) | inr h ↦ less.1 h.1 ]),
-      )
+  narrow_by_dot d v p e none = grind (arith, level, kept, passed_less, ints)
 
   pub not_narrow : (v : ℤ) → (of_z w128 r ≡ 0 → ⊥) → lt_z (pos 0) (wide r) ≡ false
       → IsTrue (eqb (of_z w128 r) 0) ↔ ((pos 0 <ℤ u) ⊎ ((u ≡ pos 0) × (v <ℤ pos 0)))
-  not_narrow v some right = (
-    (λ told. absurd (some (eqb-true (of_z w128 r) 0 told))),
-    (λ narrow. elim narrow [
-      | inl h ↦ absurd (false≢true (sym right ∙ (less_is (pos 0) (wide r)).1 (rw (kept r short, is) h)))
-      | inr h ↦ absurd (some (ap (of_z w128) (is ∙ h.0)))
-    ]),
-  )
+  not_narrow v some right = grind (arith, eqb-true, false≢true, less_is, wide, kept)
 
 -- the sweep from s to e where it is narrow
 pub in_narrow : (s e v : Vector) (b : Bool) → false ≡ (int_eq s.x e.x && int_eq s.y e.y) → IsNarrow s e
     → (IsTrue b ↔ (pos 0 ≤ℤ cross s v) × (pos 0 ≤ℤ cross v e)) → IsTrue b ↔ IsInSweep s e v
-in_narrow s e v b unlike narrow told = (
-  (λ t. inr (inl (narrow, (told.0 t).0, (told.0 t).1))),
-  (λ sweep. elim sweep [
-    | inl same ↦ absurd (false≢true (unlike ∙ (Decides-and (int_eq s.x e.x) _ (Decides-int_eq s.x e.x) (Decides-int_eq s.y e.y)).1
-        (ap (λ w. w.x) same, ap (λ w. w.y) same)))
-    | inr rest ↦ elim rest [ inl h ↦ told.1 (h.1, h.2) | inr h ↦ absurd (narrow_not_wide s e h.0 narrow) ]
-  ]),
-)
+in_narrow s e v b unlike narrow told = grind (arith, false≢true, Decides-and, Decides-int_eq, narrow_not_wide)

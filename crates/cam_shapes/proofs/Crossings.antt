@@ -1,6 +1,6 @@
 -- Where edges cross a height.
-use Rattle.std.proofs.Common.{◌≡◌, ◌↔◌, ℕ, ◌<◌, ℤ, pos, negsuc, ◌-ℤ◌, ◌*ℤ◌, ◌≤ℤ◌, ◌<ℤ◌, ◌⊎◌, inl, inr, true, false}
-use Rattle.std.proofs.Common.{IsTrue, sym, arith}
+use Rattle.std.proofs.Common.{rules, ◌≡◌, ◌↔◌, ℕ, ◌<◌, ℤ, pos, ◌-ℤ◌, ◌*ℤ◌, ◌≤ℤ◌, ◌<ℤ◌, ◌⊎◌, inl, inr, true, false, IsTrue, sym}
+use Rattle.std.proofs.Common.{arith}
 use Rattle.std.proofs.lemmas.Int.{ints, by_lt_z}
 use Rattle.std.proofs.Math.IntN.{*ℤ_comm}
 use Rattle.std.proofs.lemmas.Bool.{false≢true}
@@ -24,14 +24,10 @@ through f g = ((λ a. g.0 (f.0 a)), (λ c. f.1 (g.1 c)))
 
 -- the height is from a up to below b
 rising_is : (s : Spot) (e : Edge) → IsRising s e → IsTrue (crosses_ray s e) ↔ pos 0 <ℤ side s e
-rising_is s e h =
-    rw (not_under s.y (pos 2 *ℤ e.from.y) h.from_start, under s.y (pos 2 *ℤ e.to.y) h.to_end)
-    (less_is (pos 0) (side s e))
+rising_is s e h = grind (arith, not_under, under, less_is)
 
 falling_is : (s : Spot) (e : Edge) → IsFalling s e → IsTrue (crosses_ray s e) ↔ side s e <ℤ pos 0
-falling_is s e h =
-    rw (under s.y (pos 2 *ℤ e.from.y) h.from_start, not_under s.y (pos 2 *ℤ e.to.y) h.to_end)
-    (less_is (side s e) (pos 0))
+falling_is s e h = grind (arith, under, not_under, less_is)
 
 -- the side is how far the crossing lies right of the place, times the rise
 side_is : (s : Spot) (e : Edge) → side s e ≡ crossing s e -ℤ s.x *ℤ rise e
@@ -55,35 +51,20 @@ below_difference : (d a b : ℤ) → d ≡ a -ℤ b → (d <ℤ pos 0) ↔ (a <�
 below_difference d a b e = ((λ h. omega (arith, ints)), (λ h. omega (arith, ints)))
 
 pub rising : (s : Spot) (e : Edge) → IsRising s e → IsTrue (crosses_ray s e) ↔ (s.x *ℤ rise e) <ℤ crossing s e
-rising s e h =
-    through (rising_is s e h) (above_difference (side s e) (crossing s e) (s.x *ℤ rise e) (side_is s e))
+rising s e h = search (rules, through, rising_is, above_difference, side_is)
 
 pub falling : (s : Spot) (e : Edge) → IsFalling s e → IsTrue (crosses_ray s e) ↔ crossing s e <ℤ (s.x *ℤ rise e)
-falling s e h =
-    through (falling_is s e h) (below_difference (side s e) (crossing s e) (s.x *ℤ rise e) (side_is s e))
+falling s e h = search (rules, through, falling_is, below_difference, side_is)
 
 pub level : (s : Spot) (e : Edge) → ¬ IsRising s e → ¬ IsFalling s e → ¬ IsTrue (crosses_ray s e)
-level s e not_rising not_falling told =
-    let a = pos 2 *ℤ e.from.y in
-    let b = pos 2 *ℤ e.to.y in
-    by_lt_z s.y a
-    (λ low. by_lt_z s.y b
-    (λ both. absurd (false≢true (rw (under s.y a low, under s.y b both) at told)))
-    (λ high. not_falling (record { to_end = high; from_start = low })))
-    (λ high. by_lt_z s.y b
-    (λ low. not_rising (record { from_start = high; to_end = low }))
-    (λ both. absurd (false≢true (rw (not_under s.y a high, not_under s.y b both) at told))))
+level s e not_rising not_falling told = search (rules, by_lt_z, false≢true, under, not_under)
 
 -- products of positive numbers
 pub product_above : (w r : ℤ) → pos 0 <ℤ w → pos 0 <ℤ r → pos 0 <ℤ (w *ℤ r)
-product_above (pos m) (pos n) p q = omega (arith, ints, mul-lt 0 0 m n (omega (arith, ints)) (omega (arith, ints)))
-product_above (pos m) (negsuc n) p q = absurd (omega (arith, ints))
-product_above (negsuc m) r p q = absurd (omega (arith, ints))
+product_above w r p q = grind (arith, ints, mul-lt)
 
 pub product_least : (w r : ℤ) → pos 0 ≤ℤ w → pos 0 <ℤ r → pos 0 ≤ℤ (w *ℤ r)
-product_least (pos m) (pos n) p q = omega (arith, ints)
-product_least (pos m) (negsuc n) p q = absurd (omega (arith, ints))
-product_least (negsuc m) r p q = absurd (omega (arith, ints))
+product_least w r p q = grind (arith, ints)
 
 product_difference : (u v r : ℤ) → (v -ℤ u) *ℤ r ≡ v *ℤ r -ℤ u *ℤ r
 product_difference u v r =
@@ -118,11 +99,7 @@ opposite : (r : ℤ) → r <ℤ pos 0 → pos 0 <ℤ (pos 0 -ℤ r)
 opposite r h = omega (arith, ints)
 
 product_opposite : (u r : ℤ) → u *ℤ (pos 0 -ℤ r) ≡ pos 0 -ℤ u *ℤ r
-product_opposite u r =
-    equal
-    (Product (Atom u) (Difference (Atom (pos 0)) (Atom r)))
-    (Difference (Atom (pos 0)) (Product (Atom u) (Atom r)))
-    (omega arith)
+product_opposite u r = grind (arith, equal, Product, Atom, Difference)
 
 turned : (a b c d : ℤ) → c ≡ pos 0 -ℤ a → d ≡ pos 0 -ℤ b → (c <ℤ d) ↔ (b <ℤ a)
 turned a b c d e f = ((λ h. omega (arith, ints)), (λ h. omega (arith, ints)))
@@ -167,9 +144,5 @@ leads_down s e h = omega (arith, ints)
 
 pub right : (s : Spot) (e : Edge) (n : ℤ) (m : ℕ) → IsCrossing s e n m → IsRising s e ⊎ IsFalling s e
     → IsTrue (crosses_ray s e) ↔ (pos m *ℤ s.x) <ℤ n
-right s e n m at (inl up) =
-    through (rising s e up)
-    (rising_at s.x (rise e) (crossing s e) n (pos m) (natural_above m at.some) (leads_up s e up) at.lies)
-right s e n m at (inr down) =
-    through (falling s e down)
-    (falling_at s.x (rise e) (crossing s e) n (pos m) (natural_above m at.some) (leads_down s e down) at.lies)
+right s e n m at (inl up) = search (rules, through, rising, rising_at, natural_above, leads_up)
+right s e n m at (inr down) = search (rules, through, falling, falling_at, natural_above, leads_down)

@@ -1,5 +1,5 @@
 -- Places between the ends of a way, by products as 128 bits pass them on.
-use Rattle.std.proofs.Common.{◌≡◌, ◌↔◌, ◌<◌, ◌^◌, IsTrue, true, false, ℤ, pos, ◌≤ℤ◌, ◌<ℤ◌, sym, ◌∙◌, arith}
+use Rattle.std.proofs.Common.{◌≡◌, ◌↔◌, ◌<◌, ◌^◌, IsTrue, true, false, ℤ, pos, ◌≤ℤ◌, ◌<ℤ◌, arith}
 use lib.Signed.{le_z}
 use Rattle.std.proofs.lemmas.Int.{ints}
 use Rattle.std.proofs.lemmas.Bool.{false≢true}
@@ -20,28 +20,12 @@ pub before_end : (a v : Vector) (l m : ℤ) → l ≡ dot a a → m ≡ dot a v
     → unsigned_abs l < 2 ^ 67 → unsigned_abs m < 2 ^ 67
     → le_z (wide l) (pos 0) ≡ false → le_z (pos 0) (wide m) ≡ true
     → IsTrue (le_z (wide m) (wide l)) ↔ IsBetweenEnds a v
-before_end a v l m e f p q long after =
-    let some = rw (kept l p, e) at long in
-    let start = rw (kept m q, f) at after in
-    rw (kept l p, kept m q, e, f) (
-      (λ t. record {
-        long = above (dot a a) some;
-        after_start = (at_most_is (pos 0) (dot a v)).0 start;
-        before_end = (at_most_is (dot a v) (dot a a)).0 t;
-      }),
-      (λ h. (at_most_is (dot a v) (dot a a)).1 h.before_end),
-    )
+before_end a v l m e f p q long after = grind (arith, kept, above, at_most_is)
 
 pub before_start : (a v : Vector) (m : ℤ) → m ≡ dot a v → unsigned_abs m < 2 ^ 67
     → le_z (pos 0) (wide m) ≡ false → IsTrue (le_z (pos 0) (wide m)) ↔ IsBetweenEnds a v
-before_start a v m f q before = (
-  (λ t. absurd (false≢true (sym before ∙ t))),
-  (λ h. rw (kept m q, f) ((at_most_is (pos 0) (dot a v)).1 h.after_start)),
-)
+before_start a v m f q before = grind (arith, false≢true, kept, at_most_is)
 
 pub without_length : (a v : Vector) (l : ℤ) → l ≡ dot a a → unsigned_abs l < 2 ^ 67
     → le_z (wide l) (pos 0) ≡ true → IsTrue false ↔ IsBetweenEnds a v
-without_length a v l e p none = (
-  (λ t. absurd (false≢true t)),
-  (λ h. absurd (apart h.long ((at_most_is (dot a a) (pos 0)).0 (rw (kept l p, e) at none)))),
-)
+without_length a v l e p none = grind (arith, false≢true, apart, at_most_is, kept)

@@ -1,5 +1,5 @@
 -- Wide and high obrounds.
-use Rattle.std.proofs.Common.{◌≡◌, ◌↔◌, IsTrue, Bool, ℤ, ◌-ℤ◌, ◌≤ℤ◌, ◌<ℤ◌, inl, inr, arith}
+use Rattle.std.proofs.Common.{◌≡◌, ◌↔◌, IsTrue, Bool, ℤ, ◌-ℤ◌, ◌≤ℤ◌, ◌<ℤ◌, arith}
 use Rattle.std.proofs.lemmas.Int.{ints}
 use Rattle.cam_shapes.specs.declared.vector.Vector.{Vector}
 use Rattle.cam_shapes.specs.Box.{IsAlong, IsRounded, swapped}
@@ -9,16 +9,8 @@ apart p q = omega (arith, ints)
 
 pub wide_is_rounded : (b : Bool) (v : Vector) (w h n : ℤ) → h ≤ℤ w → n ≡ w -ℤ h
     → (IsTrue b ↔ IsAlong v n h) → (IsTrue b ↔ IsRounded v w h)
-wide_is_rounded b v w h n wide e same =
-    let told = rw e at same in (
-      (λ t. inl (wide, told.0 t)),
-      (λ r. elim r [ inl p ↦ told.1 p.1 | inr p ↦ absurd (apart wide p.0) ]),
-    )
+wide_is_rounded b v w h n wide e same = grind (arith, apart)
 
 pub high_is_rounded : (b : Bool) (v u : Vector) (w h n : ℤ) → w <ℤ h → n ≡ h -ℤ w → u ≡ swapped v
     → (IsTrue b ↔ IsAlong u n w) → (IsTrue b ↔ IsRounded v w h)
-high_is_rounded b v u w h n high e f same =
-    let told = rw (e, f) at same in (
-      (λ t. inr (high, told.0 t)),
-      (λ r. elim r [ inl p ↦ absurd (apart p.0 high) | inr p ↦ told.1 p.1 ]),
-    )
+high_is_rounded b v u w h n high e f same = grind (arith, apart)

@@ -1,6 +1,5 @@
 -- Odd counts, and tests that change a side.
-use Rattle.std.proofs.Common.{◌≡◌, ◌↔◌, ℕ, ◌+◌, ◌%◌, Bool, true, false, cond, IsTrue, List, [], ◌∷◌, count_by, refl}
-use Rattle.std.proofs.Common.{ap, ◌∙◌, sym, arith}
+use Rattle.std.proofs.Common.{◌≡◌, ◌↔◌, ℕ, ◌+◌, ◌%◌, Bool, cond, IsTrue, List, [], ◌∷◌, count_by, ap, ◌∙◌, sym, arith}
 use Rattle.std.proofs.lemmas.Bool.{false≢true}
 use Rattle.std.proofs.lemmas.List.Sums.{sum_by-cons}
 use Rattle.cam_units.specs.declared.point.Point.{Point}
@@ -22,23 +21,14 @@ pub count_by-cons : {X : Type 0} (p : X → Bool) (x : X) (xs : List X)
 count_by-cons p x xs = sum_by-cons (λ y. one_if (p y)) x xs
 
 one_more : (b t : Bool) (k m n : ℕ) → k ≡ one_if b + m → (m + n) % 2 ≡ one_if t → (k + n) % 2 ≡ one_if (differ b t)
-one_more true true k m n e f = omega arith
-one_more true false k m n e f = omega arith
-one_more false true k m n e f = omega arith
-one_more false false k m n e f = omega arith
+one_more b t k m n e f = grind arith
 
 two_more : (b d t : Bool) (k j m n : ℕ) → k ≡ one_if b + m → j ≡ one_if d + n → (m + n) % 2 ≡ one_if t
     → (k + j) % 2 ≡ one_if (differ (differ b d) t)
-two_more true true t k j m n e f g = omega arith
-two_more true false true k j m n e f g = omega arith
-two_more true false false k j m n e f g = omega arith
-two_more false true true k j m n e f g = omega arith
-two_more false true false k j m n e f g = omega arith
-two_more false false t k j m n e f g = omega arith
+two_more b d t k j m n e f g = grind arith
 
 alone : (b : Bool) (k : ℕ) → k ≡ one_if b + 0 → (k + 0) % 2 ≡ one_if b
-alone true k e = omega arith
-alone false k e = omega arith
+alone b k e = grind arith
 
 parity : (s : Spot) (start here : Point) (segs : List Seg)
     → (count_by (crosses_ray s) (edges_from start here segs) + count_by (is_in_cap s) (caps_from here segs)) % 2
@@ -63,8 +53,7 @@ parity s start here (Curve to centre ccw ∷ segs) =
     (parity s start to segs)
 
 odd_is : (n : ℕ) (b : Bool) → n % 2 ≡ one_if b → IsTrue b ↔ (n % 2 ≡ 1)
-odd_is n true e = ((λ _. e), (λ _. refl))
-odd_is n false e = ((λ t. absurd (false≢true t)), (λ h. absurd (omega arith)))
+odd_is n b e = grind (arith, false≢true)
 
 pub sides_are_parity : (s : Spot) (c : Contour) (b : Bool) → b ≡ change_side s c.start c.start c.segs
     → IsTrue b ↔ IsInContour s c

@@ -32,10 +32,7 @@ short_sum a b p q = omega (arith, ints)
 
 pub sum_fits : (a b : ℤ) → unsigned_abs a < 1000000000 → unsigned_abs b < 2000000000
     → FitsSigned w64 (narrow a +ℤ narrow b)
-sum_fits a b p q =
-    let first : narrow a ≡ a = omega (arith, ints) in
-    let second : narrow b ≡ b = omega (arith, ints) in
-    rw (first, second) (fits_signed_from_abs w64 (a +ℤ b) (short_sum a b p q))
+sum_fits a b p q = grind (arith, narrow, ints, fits_signed_from_abs, short_sum)
 
 -- the same of points that may be moved
 pub long_sum_fits : (a b : ℤ) → unsigned_abs a < 2 ^ 62 → unsigned_abs b < 2 ^ 62
@@ -47,8 +44,7 @@ kept_long_sum : (a b : ℤ) → unsigned_abs a < 2 ^ 62 → unsigned_abs b < 2 ^
 kept_long_sum a b p q = omega (arith, ints)
 
 pub kept_shift : (p by : Point) → IsShiftable p → IsShiftable by → computed_sum p by ≡ sum_of p by
-kept_shift p by h k =
-    same_point (computed_sum p by) (sum_of p by) (kept_long_sum p.x by.x h.x k.x) (kept_long_sum p.y by.y h.y k.y)
+kept_shift p by h k = grind (arith, same_point, kept_long_sum)
 
 -- a turn keeps a point on the board
 on_board_turned : (t : Turn) (p : Point) → IsOnBoard p → IsOnBoard (applied (matrix_of t) p)
@@ -67,7 +63,4 @@ difference_short a b p q = omega (arith, ints)
 
 -- what places a point of the board on the board is such an offset
 pub offset_short : (t : Turn) (o p : Point) → IsPlaceablePoint t o p → IsOffset o
-offset_short t o p h =
-    let q = applied (matrix_of t) p in
-    let turned = on_board_turned t p h.here in
-    record { x = difference_short q.x o.x turned.x h.there.x; y = difference_short q.y o.y turned.y h.there.y }
+offset_short t o p h = grind (arith, on_board_turned, difference_short)

@@ -1,5 +1,5 @@
 -- How far a place lies from a point, that is in a disc about the point or beside a way from it.
-use Rattle.std.proofs.Common.{◌≡◌, ℕ, ◌*◌, ◌≤◌, ℤ, pos, negsuc, ◌+ℤ◌, ◌-ℤ◌, ◌*ℤ◌, ◌≤ℤ◌, ◌<ℤ◌, refl, ap, sym, ◌∙◌, arith}
+use Rattle.std.proofs.Common.{◌≡◌, ℕ, ◌*◌, ◌≤◌, ℤ, pos, ◌+ℤ◌, ◌-ℤ◌, ◌*ℤ◌, ◌≤ℤ◌, ◌<ℤ◌, ap, sym, arith}
 use Rattle.std.specs.Int.RustNames.{unsigned_abs}
 use Rattle.std.proofs.lemmas.Int.{ints, by_lt_z, unsigned_abs-mul}
 use Rattle.std.proofs.lemmas.Nat.{mul-le}
@@ -13,20 +13,14 @@ use Rattle.cam_shapes.proofs.Widths.{square_is}
 
 -- a way of at most d leads at most d along each axis
 pub leg : (v : Vector) (d : ℤ) → IsNoLonger v d → unsigned_abs v.x ≤ unsigned_abs d
-leg v d h =
-    squares_order (unsigned_abs v.x) (unsigned_abs d)
-    (omega (arith, ints, h, square_is v.x, square_is v.y, square_is d))
+leg v d h = grind (arith, squares_order, ints, square_is)
 
 pub other_leg : (v : Vector) (d : ℤ) → IsNoLonger v d → unsigned_abs v.y ≤ unsigned_abs d
-other_leg v d h =
-    squares_order (unsigned_abs v.y) (unsigned_abs d)
-    (omega (arith, ints, h, square_is v.x, square_is v.y, square_is d))
+other_leg v d h = grind (arith, squares_order, ints, square_is)
 
 -- products of numbers that are not negative
 least : (w r : ℤ) → pos 0 ≤ℤ w → pos 0 ≤ℤ r → pos 0 ≤ℤ (w *ℤ r)
-least (pos m) (pos n) p q = omega (arith, ints)
-least (pos m) (negsuc n) p q = absurd (omega (arith, ints))
-least (negsuc m) r p q = absurd (omega (arith, ints))
+least w r p q = grind (arith, ints)
 
 pub gap : (u v : ℤ) → u ≤ℤ v → pos 0 ≤ℤ (v -ℤ u)
 gap u v h = omega (arith, ints)
@@ -72,15 +66,11 @@ squares a c w l ac wl e f h k =
     omega (arith, ap (λ n. n * n) e, ap (λ n. n * n) f, mul-le (a * a) (c * c) l (w * w * l) h k)
 
 natural_product : (n : ℕ) (l : ℤ) → pos 0 ≤ℤ l → pos n *ℤ l ≡ pos (n * unsigned_abs l)
-natural_product n (pos l) h = refl
-natural_product n (negsuc l) h = absurd (omega (arith, ints))
+natural_product n l h = grind (arith, ints)
 
 natural_squares : (c w l : ℤ) → pos 0 ≤ℤ l → square c ≤ℤ (square w *ℤ l)
     → unsigned_abs c * unsigned_abs c ≤ unsigned_abs w * unsigned_abs w * unsigned_abs l
-natural_squares c w l some h =
-    let times : square w *ℤ l ≡ pos (unsigned_abs w * unsigned_abs w * unsigned_abs l) =
-    ap (λ z. z *ℤ l) (square_is w) ∙ natural_product (unsigned_abs w * unsigned_abs w) l some in
-    omega (arith, ints, h, square_is c, times)
+natural_squares c w l some h = grind (arith, square_is, natural_product, ints)
 
 pub product_root : (a c w l : ℤ) → square a ≤ℤ l → square c ≤ℤ (square w *ℤ l)
     → unsigned_abs (a *ℤ c) ≤ unsigned_abs (w *ℤ l)

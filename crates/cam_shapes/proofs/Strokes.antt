@@ -1,6 +1,5 @@
 -- Arc strokes lie in squares.
-use Rattle.std.proofs.Common.{arith, inl, inr, negsuc, pos, refl, ℕ, ℤ, ◌*◌, ◌+ℤ◌, ◌+◌, ◌-ℤ◌, ◌-◌, ◌<ℤ◌, ◌<◌, ◌↔◌}
-use Rattle.std.proofs.Common.{◌≡◌, ◌≤◌}
+use Rattle.std.proofs.Common.{arith, inl, inr, pos, ℕ, ℤ, ◌*◌, ◌+ℤ◌, ◌+◌, ◌-ℤ◌, ◌-◌, ◌<ℤ◌, ◌<◌, ◌↔◌, ◌≡◌, ◌≤◌}
 use Rattle.std.proofs.lemmas.Int.{ints}
 use Rattle.std.proofs.lemmas.Bool.{cases_lt}
 use Rattle.std.proofs.lemmas.Nat.{mul-le, mul-lt}
@@ -32,8 +31,7 @@ not_beyond p q r m inside far (inr between) =
     omega (arith, ints, beyond p q r m inside far)
 
 pub squares_order : (x n : ℕ) → x * x ≤ n * n → x ≤ n
-squares_order x n h =
-    elim (cases_lt n x) [ inl less ↦ absurd (omega (arith, mul-lt n n x x less less)) | inr most ↦ most ]
+squares_order x n h = grind (arith, cases_lt, mul-lt)
 
 within : (p q r m : ℕ) → q < m * m → IsNearCircle (pos p) (pos q) (pos r) → p ≤ (m + r) * (m + r)
 within p q r m inside near =
@@ -59,8 +57,7 @@ near_is_between v u r m inside near =
     }
 
 pub natural_or_not : (r : ℤ) → pos 0 <ℤ r → (n : ℕ) × (r ≡ pos n)
-natural_or_not (pos n) h = (n, refl)
-natural_or_not (negsuc n) h = absurd (omega (arith, ints))
+natural_or_not r h = grind (arith, ints)
 
 pub arc_square : ArcSquareLaw
 arc_square s a m inside on =
@@ -110,23 +107,13 @@ four_squares m n = omega arith
 -- the second inequality is that of the whole roots
 between_is : (m n r : ℕ) → r * r ≤ m * m + n * n
     → IsBetweenCircles (pos (m * m)) (pos (n * n)) (pos r) ↔ (m * m + n * n ≤ 2 * (m * n) + r * r)
-between_is m n r room =
-    let x = m * m + n * n - r * r in
-    let y = 2 * (m * n) in (
-      (λ h. let told = rw (sum_is (m * m) (n * n) (r * r) room) at h in
-          let squares : x * x ≤ y * y = omega (arith, ints, four_squares m n) in
-          omega (arith, squares_order x y squares)),
-      (λ h. let order : x ≤ y = omega arith in
-          rw (sum_is (m * m) (n * n) (r * r) room)
-          (omega (arith, ints, four_squares m n, mul-le x x y y order order))),
-    )
+between_is m n r room = grind (arith, sum_is, ints, four_squares, squares_order, mul-le)
 
 sum_in_root : (m n r : ℕ) → m * m + n * n ≤ r * r → m ≤ r
 sum_in_root m n r h = squares_order m r (omega arith)
 
 roots_apart : (m n r : ℕ) → m * m + n * n ≤ 2 * (m * n) + r * r → m ≤ n + r
-roots_apart m n r h =
-    elim (cases_lt (n + r) m) [ inl far ↦ absurd (omega (arith, too_far m n r far)) | inr most ↦ most ]
+roots_apart m n r h = grind (arith, cases_lt, too_far)
 
 sum_apart : (m n r : ℕ) → m * m + n * n ≤ r * r → m ≤ n + r
 sum_apart m n r h = omega (arith, sum_in_root m n r h)
@@ -135,14 +122,7 @@ by_sum : (m n r : ℕ) → m * m + n * n ≤ r * r → (m ≤ n + r) × (n ≤ m
 by_sum m n r h = (sum_apart m n r h, sum_apart n m r (omega arith))
 
 near_apart : (m n r : ℕ) → IsNearCircle (pos (m * m)) (pos (n * n)) (pos r) → (m ≤ n + r) × (n ≤ m + r)
-near_apart m n r (inl sum) = by_sum m n r (omega (arith, ints))
-near_apart m n r (inr between) =
-    elim (cases_lt (m * m + n * n) (r * r)) [
-      | inl less ↦ by_sum m n r (omega arith)
-      | inr room ↦
-          let most : m * m + n * n ≤ 2 * (m * n) + r * r = (between_is m n r room).0 between in
-          (roots_apart m n r most, roots_apart n m r (omega arith))
-    ]
+near_apart m n r it = grind (arith, by_sum, ints, cases_lt, between_is, roots_apart)
 
 near_by_distance : (m n r : ℕ) → (m ≤ n + r) × (n ≤ m + r) → IsNearCircle (pos (m * m)) (pos (n * n)) (pos r)
 near_by_distance m n r h =

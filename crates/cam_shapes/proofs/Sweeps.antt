@@ -51,9 +51,7 @@ module _ (a b m w : ℤ) (h : unsigned_abs a < 1000000000) (k : unsigned_abs b <
     low_fits = difference_fits m w (subst (λ (z : ℤ). unsigned_abs z < 2000000000) (sym least) (least_near a b h k)) size
 
     pub kept_low : narrow (narrow m -ℤ narrow w) ≡ int_min (twice a) (twice b) -ℤ w
-    kept_low =
-        subst (λ (z : ℤ). narrow (narrow z -ℤ narrow w) ≡ int_min (twice a) (twice b) -ℤ w) (sym least)
-        (kept_difference (int_min (twice a) (twice b)) w (least_near a b h k) size)
+    kept_low = grind (arith, narrow, least, kept_difference, least_near)
 
   module _ (e : m ≡ int_max (narrow (twice (narrow a))) (narrow (twice (narrow b)))) where
     greatest : m ≡ int_max (twice a) (twice b)
@@ -63,9 +61,7 @@ module _ (a b m w : ℤ) (h : unsigned_abs a < 1000000000) (k : unsigned_abs b <
     high_fits = sum_fits m w (subst (λ (z : ℤ). unsigned_abs z < 2000000000) (sym greatest) (greatest_near a b h k)) size
 
     pub kept_high : narrow (narrow m +ℤ narrow w) ≡ int_max (twice a) (twice b) +ℤ w
-    kept_high =
-        subst (λ (z : ℤ). narrow (narrow z +ℤ narrow w) ≡ int_max (twice a) (twice b) +ℤ w) (sym greatest)
-        (kept_sum (int_max (twice a) (twice b)) w (greatest_near a b h k) size)
+    kept_high = grind (arith, narrow, greatest, kept_sum, greatest_near)
 
 -- the products of sides and legs of a way
 pub short_side : (m : ℕ) (w : ℤ) → m ≡ unsigned_abs (narrow w) → IsSize w → m < 2 ^ 28

@@ -1,5 +1,5 @@
 -- Strokes of rectangles: the rectangles at their ends, their boxes, and lines along an axis.
-use Rattle.std.proofs.Common.{◌≡◌, ℕ, ◌+◌, ◌*◌, ◌≤◌, ℤ, pos, ◌+ℤ◌, ◌-ℤ◌, ◌*ℤ◌, ◌≤ℤ◌, ◌<ℤ◌, ap, subst, sym, inl, inr, arith}
+use Rattle.std.proofs.Common.{rules, ◌≡◌, ℕ, ◌+◌, ◌*◌, ◌≤◌, ℤ, pos, ◌+ℤ◌, ◌-ℤ◌, ◌*ℤ◌, ◌≤ℤ◌, ◌<ℤ◌, ap, inl, inr, arith}
 use Rattle.std.specs.Int.{int_max, int_min}
 use Rattle.std.specs.Int.RustNames.{unsigned_abs}
 use Rattle.std.proofs.lemmas.Int.{clamps, ints, unsigned_abs-mul}
@@ -12,7 +12,7 @@ use Rattle.cam_shapes.specs.declared.vector.Vector.{Vector}
 use Rattle.cam_shapes.specs.declared.swept.Swept.{Swept}
 use Rattle.cam_shapes.specs.Box.{IsInRectangle}
 use Rattle.cam_shapes.specs.Plane.{cross, seen_from, way, IsBetween}
-use Rattle.cam_shapes.specs.Swept.{corner_reach, high_corner, low_corner, rectangle_at, IsAlongAxis, IsInSwept, IsNearWay}
+use Rattle.cam_shapes.specs.Swept.{high_corner, low_corner, rectangle_at, IsAlongAxis, IsInSwept, IsNearWay}
 use Rattle.cam_shapes.specs.Swept.{SweptAxisLaw, SweptBoxLaw, SweptEndsLaw}
 use Rattle.cam_shapes.proofs.Strokes.{natural_or_not}
 
@@ -22,41 +22,29 @@ difference_parts p q = omega (arith, ints)
 
 pub cross_parts : (a v : Vector)
     → unsigned_abs (cross a v) ≤ unsigned_abs a.x * unsigned_abs v.y + unsigned_abs a.y * unsigned_abs v.x
-cross_parts a v =
-    omega (arith, difference_parts (a.x *ℤ v.y) (a.y *ℤ v.x), unsigned_abs-mul a.x v.y, unsigned_abs-mul a.y v.x)
+cross_parts a v = grind (arith, difference_parts, unsigned_abs-mul)
 
 both_short : (i j k l m n : ℕ) → j ≤ n → l ≤ m → i * j + k * l ≤ m * k + n * i
 both_short i j k l m n p q = omega (arith, mul-le i j i n (omega arith) p, mul-le k l k m (omega arith) q)
 
 first_level : (i j k l m n : ℕ) → k ≡ 0 → j ≤ n → i * j + k * l ≤ m * k + n * i
-first_level i j k l m n e p =
-    subst (λ (t : ℕ). i * j + t * l ≤ m * t + n * i) (sym e) (omega (arith, mul-le i j i n (omega arith) p))
+first_level i j k l m n e p = grind (arith, mul-le)
 
 second_level : (i j k l m n : ℕ) → i ≡ 0 → l ≤ m → i * j + k * l ≤ m * k + n * i
-second_level i j k l m n e q =
-    subst (λ (t : ℕ). t * j + k * l ≤ m * k + n * t) (sym e) (omega (arith, mul-le k l k m (omega arith) q))
+second_level i j k l m n e q = grind (arith, mul-le)
 
 -- a place is near a way by its parts
 by_parts : (a v : Vector) (m n : ℕ)
     → unsigned_abs a.x * unsigned_abs v.y + unsigned_abs a.y * unsigned_abs v.x
     ≤ m * unsigned_abs a.y + n * unsigned_abs a.x
     → IsNearWay a v (pos m) (pos n)
-by_parts a v m n h =
-    let most : unsigned_abs (cross a v) ≤ m * unsigned_abs a.y + n * unsigned_abs a.x = omega (arith, cross_parts a v) in
-    omega (arith, ints, most)
+by_parts a v m n h = grind (arith, cross_parts, ints)
 
 short : (z : ℤ) (n : ℕ) → pos (unsigned_abs z) ≤ℤ pos n → unsigned_abs z ≤ n
 short z n h = omega (arith, ints)
 
 near_corner : (a v : Vector) (w h : ℤ) → pos 0 <ℤ w → pos 0 <ℤ h → IsBetween v w h → IsNearWay a v w h
-near_corner a v w h wide high between =
-    let across = natural_or_not w wide in
-    let along = natural_or_not h high in
-    let inside = rw (across.1, along.1) at between in
-    rw (across.1, along.1)
-    (by_parts a v across.0 along.0
-    (both_short (unsigned_abs a.x) (unsigned_abs v.y) (unsigned_abs a.y) (unsigned_abs v.x) across.0 along.0
-    (short v.y along.0 inside.along) (short v.x across.0 inside.across)))
+near_corner a v w h wide high between = grind (arith, natural_or_not, by_parts, both_short, short)
 
 near_level : (a v : Vector) (w h : ℤ) → pos 0 <ℤ w → pos 0 <ℤ h → a.y ≡ pos 0 → pos (unsigned_abs v.y) ≤ℤ h
     → IsNearWay a v w h
@@ -71,14 +59,7 @@ near_level a v w h wide high level most =
 
 near_upright : (a v : Vector) (w h : ℤ) → pos 0 <ℤ w → pos 0 <ℤ h → a.x ≡ pos 0 → pos (unsigned_abs v.x) ≤ℤ w
     → IsNearWay a v w h
-near_upright a v w h wide high upright most =
-    let across = natural_or_not w wide in
-    let along = natural_or_not h high in
-    let inside = rw across.1 at most in
-    rw (across.1, along.1)
-    (by_parts a v across.0 along.0
-    (second_level (unsigned_abs a.x) (unsigned_abs v.y) (unsigned_abs a.y) (unsigned_abs v.x) across.0 along.0
-    (ap (λ z. unsigned_abs z) upright) (short v.x across.0 inside)))
+near_upright a v w h wide high upright most = grind (arith, natural_or_not, by_parts, second_level, short)
 
 -- seen from the end of a way a place is as far from its line
 abbrev two : ℤ → Polynomial
@@ -122,47 +103,19 @@ level_way p q e = omega (arith, ints)
 -- ---- the laws
 
 pub at_start : (s : Spot) (r : Swept) → IsInRectangle s (rectangle_at r.from r) → IsInSwept s r
-at_start s r inside =
-    let between = inside.between in record {
-      wide = inside.wide;
-      high = inside.high;
-      boxed = record {
-        left = low_by_first (pos 2 *ℤ r.from.x) (pos 2 *ℤ r.to.x) r.width.0 s.x between.across;
-        right = high_by_first (pos 2 *ℤ r.from.x) (pos 2 *ℤ r.to.x) r.width.0 s.x between.across;
-        below = low_by_first (pos 2 *ℤ r.from.y) (pos 2 *ℤ r.to.y) r.height.0 s.y between.along;
-        above = high_by_first (pos 2 *ℤ r.from.y) (pos 2 *ℤ r.to.y) r.height.0 s.y between.along;
-      };
-      near = near_corner (way r.from r.to) (seen_from r.from s) r.width.0 r.height.0 inside.wide inside.high between;
-    }
+at_start s r inside = search (rules, low_by_first, high_by_first, near_corner)
 
 pub at_finish : (s : Spot) (r : Swept) → IsInRectangle s (rectangle_at r.to r) → IsInSwept s r
-at_finish s r inside =
-    let between = inside.between in
-    let a = way r.from r.to in
-    let from_end : IsNearWay a (seen_from r.to s) r.width.0 r.height.0 =
-    near_corner a (seen_from r.to s) r.width.0 r.height.0 inside.wide inside.high between in record {
-      wide = inside.wide;
-      high = inside.high;
-      boxed = record {
-        left = low_by_second (pos 2 *ℤ r.from.x) (pos 2 *ℤ r.to.x) r.width.0 s.x between.across;
-        right = high_by_second (pos 2 *ℤ r.from.x) (pos 2 *ℤ r.to.x) r.width.0 s.x between.across;
-        below = low_by_second (pos 2 *ℤ r.from.y) (pos 2 *ℤ r.to.y) r.height.0 s.y between.along;
-        above = high_by_second (pos 2 *ℤ r.from.y) (pos 2 *ℤ r.to.y) r.height.0 s.y between.along;
-      };
-      near = subst (λ (z : ℤ). pos (unsigned_abs z) ≤ℤ corner_reach a r.width.0 r.height.0)
-          (sym (cross_from_end r.from r.to s)) from_end;
-    }
+at_finish s r inside = search (rules, near_corner, low_by_second, high_by_second, cross_from_end)
 
 -- where the ends have one x, or one y
 beside_x : (s : Spot) (r : Swept) → r.from.x ≡ r.to.x → IsInBox (low_corner r) (high_corner r) s
     → pos (unsigned_abs (seen_from r.from s).x) ≤ℤ r.width.0
-beside_x s r e box =
-    beside_one (pos 2 *ℤ r.from.x) (pos 2 *ℤ r.to.x) r.width.0 s.x (ap (λ z. pos 2 *ℤ z) e) box.left box.right
+beside_x s r e box = grind (arith, beside_one)
 
 beside_y : (s : Spot) (r : Swept) → r.from.y ≡ r.to.y → IsInBox (low_corner r) (high_corner r) s
     → pos (unsigned_abs (seen_from r.from s).y) ≤ℤ r.height.0
-beside_y s r e box =
-    beside_one (pos 2 *ℤ r.from.y) (pos 2 *ℤ r.to.y) r.height.0 s.y (ap (λ z. pos 2 *ℤ z) e) box.below box.above
+beside_y s r e box = grind (arith, beside_one)
 
 pub ends : SweptEndsLaw
 ends = record {
@@ -183,18 +136,11 @@ ends = record {
 
 near_axis : (s : Spot) (r : Swept) → pos 0 <ℤ r.width.0 → pos 0 <ℤ r.height.0 → IsAlongAxis r
     → IsInBox (low_corner r) (high_corner r) s → IsNearWay (way r.from r.to) (seen_from r.from s) r.width.0 r.height.0
-near_axis s r wide high (inl upright) box =
-    near_upright (way r.from r.to) (seen_from r.from s) r.width.0 r.height.0 wide high
-    (level_way r.from.x r.to.x upright) (beside_x s r upright box)
-near_axis s r wide high (inr level) box =
-    near_level (way r.from r.to) (seen_from r.from s) r.width.0 r.height.0 wide high
-    (level_way r.from.y r.to.y level) (beside_y s r level box)
+near_axis s r wide high (inl upright) box = search (rules, near_upright, level_way, beside_x)
+near_axis s r wide high (inr level) box = search (rules, near_level, level_way, beside_y)
 
 pub axis : SweptAxisLaw
-axis s r wide high along = (
-  (λ inside. inside.boxed),
-  (λ box. record { wide = wide; high = high; boxed = box; near = near_axis s r wide high along box }),
-)
+axis s r wide high along = grind (arith, near_axis)
 
 -- ---- boxes by their corners
 
@@ -212,25 +158,11 @@ corner_up p w h = omega (arith, ints)
 
 has_left_below : (p : Point) (r : Swept) → pos 0 <ℤ r.width.0 → pos 0 <ℤ r.height.0
     → IsInRectangle (left_below p r) (rectangle_at p r)
-has_left_below p r wide high = record {
-  wide = wide;
-  high = high;
-  between = record {
-    across = corner_down (pos 2 *ℤ p.x) r.width.0 wide;
-    along = corner_down (pos 2 *ℤ p.y) r.height.0 high;
-  };
-}
+has_left_below p r wide high = grind (arith, corner_down)
 
 has_right_above : (p : Point) (r : Swept) → pos 0 <ℤ r.width.0 → pos 0 <ℤ r.height.0
     → IsInRectangle (right_above p r) (rectangle_at p r)
-has_right_above p r wide high = record {
-  wide = wide;
-  high = high;
-  between = record {
-    across = corner_up (pos 2 *ℤ p.x) r.width.0 wide;
-    along = corner_up (pos 2 *ℤ p.y) r.height.0 high;
-  };
-}
+has_right_above p r wide high = grind (arith, corner_up)
 
 low_of_both : (l p q w x : ℤ) → l ≤ℤ (p -ℤ w) → l ≤ℤ (q -ℤ w) → (int_min p q -ℤ w) ≤ℤ x → l ≤ℤ x
 low_of_both l p q w x f g h = omega (arith, ints, clamps)

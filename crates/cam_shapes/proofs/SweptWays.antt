@@ -1,4 +1,5 @@
 -- Strokes of rectangles: all that the rectangle passes on its way, and their turns.
+use Rattle.std.proofs.Common.{rules}
 use Rattle.std.proofs.Common.{
   ◌≡◌,
   ◌↔◌,
@@ -77,31 +78,11 @@ stands_high : (p q w x : ℤ) → (x -ℤ pos 2 *ℤ p) ≤ℤ (int_max (pos 0) 
 stands_high p q w x h = omega (arith, ints, clamps)
 
 over : (s : Spot) (r : Swept) → IsInSwept s r → IsOver (way r.from r.to) (seen_from r.from s) r.width.0 r.height.0
-over s r h = record {
-  across = record {
-    low = seen_low r.from.x r.to.x r.width.0 s.x h.boxed.left;
-    high = seen_high r.from.x r.to.x r.width.0 s.x h.boxed.right;
-  };
-  up = record {
-    low = seen_low r.from.y r.to.y r.height.0 s.y h.boxed.below;
-    high = seen_high r.from.y r.to.y r.height.0 s.y h.boxed.above;
-  };
-  near = h.near;
-}
+over s r h = grind (arith, seen_low, seen_high)
 
 swept : (s : Spot) (r : Swept) → pos 0 <ℤ r.width.0 → pos 0 <ℤ r.height.0
     → IsOver (way r.from r.to) (seen_from r.from s) r.width.0 r.height.0 → IsInSwept s r
-swept s r wide high o = record {
-  wide = wide;
-  high = high;
-  boxed = record {
-    left = stands_low r.from.x r.to.x r.width.0 s.x o.across.low;
-    right = stands_high r.from.x r.to.x r.width.0 s.x o.across.high;
-    below = stands_low r.from.y r.to.y r.height.0 s.y o.up.low;
-    above = stands_high r.from.y r.to.y r.height.0 s.y o.up.high;
-  };
-  near = o.near;
-}
+swept s r wide high o = grind (arith, stands_low, stands_high)
 
 -- ---- mirrors, and axes that are changed for one another
 
@@ -136,27 +117,13 @@ sum_exchanged : (a b : ℤ) → a +ℤ b ≡ b +ℤ a
 sum_exchanged a b = omega (arith, ints)
 
 near_mirrored : (a v : Vector) (w h : ℤ) → IsNearWay a v w h → IsNearWay (mirror a) (mirror v) w h
-near_mirrored a v w h near =
-    let size : unsigned_abs (cross (mirror a) (mirror v)) ≡ unsigned_abs (cross a v) =
-    ap (λ z. unsigned_abs z) (cross_mirrored a v) ∙ same_size (cross a v) in
-    subst (λ (k : ℕ). pos (unsigned_abs (cross (mirror a) (mirror v))) ≤ℤ (w *ℤ pos (unsigned_abs a.y) +ℤ h *ℤ pos k))
-    (sym (same_size a.x))
-    (subst (λ (k : ℕ). pos k ≤ℤ corner_reach a w h) (sym size) near)
+near_mirrored a v w h near = grind (arith, cross_mirrored, same_size)
 
 near_swapped : (a v : Vector) (w h : ℤ) → IsNearWay a v w h → IsNearWay (swapped a) (swapped v) h w
-near_swapped a v w h near =
-    let size : unsigned_abs (cross (swapped a) (swapped v)) ≡ unsigned_abs (cross a v) =
-    ap (λ z. unsigned_abs z) (cross_swapped a v) ∙ same_size (cross a v) in
-    subst (λ (z : ℤ). pos (unsigned_abs (cross (swapped a) (swapped v))) ≤ℤ z)
-    (sum_exchanged (w *ℤ pos (unsigned_abs a.y)) (h *ℤ pos (unsigned_abs a.x)))
-    (subst (λ (k : ℕ). pos k ≤ℤ corner_reach a w h) (sym size) near)
+near_swapped a v w h near = grind (arith, cross_swapped, same_size, sum_exchanged)
 
 over_mirrored : (a v : Vector) (w h : ℤ) → IsOver a v w h → IsOver (mirror a) (mirror v) w h
-over_mirrored a v w h o = record {
-  across = record { low = mirror_low a.x v.x w o.across.high; high = mirror_high a.x v.x w o.across.low };
-  up = o.up;
-  near = near_mirrored a v w h o.near;
-}
+over_mirrored a v w h o = grind (arith, mirror_low, mirror_high, near_mirrored)
 
 over_swapped : (a v : Vector) (w h : ℤ) → IsOver a v w h → IsOver (swapped a) (swapped v) h w
 over_swapped a v w h o = record { across = o.up; up = o.across; near = near_swapped a v w h o.near }
@@ -183,10 +150,7 @@ then : {A B C : Type 0} → A ↔ B → B ↔ C → A ↔ C
 then f g = ((λ a. g.0 (f.0 a)), (λ c. f.1 (g.1 c)))
 
 alike : (a b v u : Vector) (w h : ℤ) → a ≡ b → v ≡ u → IsOver a v w h ↔ IsOver b u w h
-alike a b v u w h e f = (
-  (λ o. subst (λ (c : Vector). IsOver c u w h) e (subst (λ (c : Vector). IsOver a c w h) f o)),
-  (λ o. subst (λ (c : Vector). IsOver c v w h) (sym e) (subst (λ (c : Vector). IsOver b c w h) (sym f) o)),
-)
+alike a b v u w h e f = grind arith
 
 abbrev turned_over : Turn → Spot → Swept → Type 0
 turned_over t s r =
@@ -258,14 +222,7 @@ module _ (s : Spot) (r : Swept) where
 -- a side that is turned is as long
 turned_sides : (t : Turn) (r : Swept) → (pos 0 <ℤ r.width.0) × (pos 0 <ℤ r.height.0)
     ↔ (pos 0 <ℤ (turned_swept t r).width.0) × (pos 0 <ℤ (turned_swept t r).height.0)
-turned_sides R0 r = ((λ p. (p.0, p.1)), (λ p. (p.0, p.1)))
-turned_sides R90 r = ((λ p. (p.1, p.0)), (λ p. (p.1, p.0)))
-turned_sides R180 r = ((λ p. (p.0, p.1)), (λ p. (p.0, p.1)))
-turned_sides R270 r = ((λ p. (p.1, p.0)), (λ p. (p.1, p.0)))
-turned_sides M0 r = ((λ p. (p.0, p.1)), (λ p. (p.0, p.1)))
-turned_sides M90 r = ((λ p. (p.1, p.0)), (λ p. (p.1, p.0)))
-turned_sides M180 r = ((λ p. (p.0, p.1)), (λ p. (p.0, p.1)))
-turned_sides M270 r = ((λ p. (p.1, p.0)), (λ p. (p.1, p.0)))
+turned_sides t r = grind arith
 
 pub turn : SweptTurnLaw
 turn t s r = (
@@ -281,9 +238,7 @@ turn t s r = (
 
 -- products of numbers that are not negative
 least : (w r : ℤ) → pos 0 ≤ℤ w → pos 0 ≤ℤ r → pos 0 ≤ℤ (w *ℤ r)
-least (pos m) (pos n) p q = omega (arith, ints)
-least (pos m) (negsuc n) p q = absurd (omega (arith, ints))
-least (negsuc m) r p q = absurd (omega (arith, ints))
+least w r p q = grind (arith, ints)
 
 at_least : (w : ℤ) → pos 0 <ℤ w → pos 0 ≤ℤ w
 at_least w h = omega (arith, ints)
@@ -401,25 +356,14 @@ mirrored_leg m n z d =
     (omega arith)
 
 passed_mirrored : (a v : Vector) (w h n m : ℤ) → IsPassed (mirror a) (mirror v) w h n m → IsPassed a v w h n m
-passed_mirrored a v w h n m p =
-    let size : unsigned_abs (m *ℤ less v.x -ℤ n *ℤ less a.x) ≡ unsigned_abs (m *ℤ v.x -ℤ n *ℤ a.x) =
-    ap (λ z. unsigned_abs z) (mirrored_leg m n v.x a.x) ∙ same_size (m *ℤ v.x -ℤ n *ℤ a.x) in record {
-      some = p.some;
-      from = p.from;
-      to = p.to;
-      across = subst (λ (k : ℕ). pos k ≤ℤ (m *ℤ w)) size p.across;
-      along = p.along;
-    }
+passed_mirrored a v w h n m p = grind (arith, mirrored_leg, same_size)
 
 reached_mirrored : (a v : Vector) (w h : ℤ) → IsReached (mirror a) (mirror v) w h → IsReached a v w h
 reached_mirrored a v w h p = (p.0, (p.1.0, passed_mirrored a v w h p.0 p.1.0 p.1.1))
 
 -- a product of what is not positive and what is not negative
 no_more : (u v : ℤ) → u ≤ℤ pos 0 → pos 0 ≤ℤ v → (u *ℤ v) ≤ℤ pos 0
-no_more (pos zero) v h k = omega (arith, ints, none v)
-no_more (pos (suc n)) v h k = absurd (omega (arith, ints))
-no_more (negsuc m) (pos n) h k = omega (arith, ints)
-no_more (negsuc m) (negsuc n) h k = absurd (omega (arith, ints))
+no_more u v h k = grind (arith, ints, none)
 
 not_past : (u v : ℤ) → u ≤ℤ v → (u -ℤ v) ≤ℤ pos 0
 not_past u v h = omega (arith, ints)
@@ -488,11 +432,7 @@ cross_gone a v n m =
     (omega arith)
 
 cancelled : (m k l : ℕ) → 0 < m → m * k ≤ m * l → k ≤ l
-cancelled m k l some h =
-    elim (cases_lt l k) [
-      | inl less ↦ absurd (omega (arith, mul-le (l + 1) m k m (omega arith) (omega arith)))
-      | inr most ↦ most
-    ]
+cancelled m k l some h = grind (arith, cases_lt, mul-le)
 
 scaled : (ax ay uy ux m w h k : ℕ) → k ≤ ax * uy + ay * ux → uy ≤ m * h → ux ≤ m * w → k ≤ m * (w * ay + h * ax)
 scaled ax ay uy ux m w h k e f g =
@@ -543,34 +483,13 @@ low_from_mirror d z w h = omega (arith, ints, clamps)
 
 spanned : (d z w n m : ℤ) → pos 0 <ℤ m → pos 0 ≤ℤ n → n ≤ℤ m → pos (unsigned_abs (m *ℤ z -ℤ n *ℤ d)) ≤ℤ (m *ℤ w)
     → IsSpanned d z w
-spanned d z w n m some from to h =
-    let size : unsigned_abs (m *ℤ z -ℤ n *ℤ d) ≡ unsigned_abs (m *ℤ less z -ℤ n *ℤ less d) =
-    sym (ap (λ k. unsigned_abs k) (mirrored_leg m n z d) ∙ same_size (m *ℤ z -ℤ n *ℤ d)) in record {
-      low = low_from_mirror d z w
-          (spanned_high (less d) (less z) w n m some from to (subst (λ (k : ℕ). pos k ≤ℤ (m *ℤ w)) size h));
-      high = spanned_high d z w n m some from to h;
-    }
+spanned d z w n m some from to h = search (rules, mirrored_leg, same_size, low_from_mirror, spanned_high)
 
 positive : (m : ℕ) → pos 0 <ℤ pos m → 0 < m
 positive m h = omega (arith, ints)
 
 passed_over : (a v : Vector) (w h n m : ℤ) → pos 0 <ℤ w → pos 0 <ℤ h → IsPassed a v w h n m → IsOver a v w h
-passed_over a v w h n m wide high p =
-    let across = natural_or_not w wide in
-    let up = natural_or_not h high in
-    let steps = natural_or_not m p.some in
-    let whole : IsPassed a v (pos across.0) (pos up.0) n (pos steps.0) =
-    subst (λ (k : ℤ). IsPassed a v (pos across.0) (pos up.0) n k) steps.1
-    (subst (λ (k : ℤ). IsPassed a v (pos across.0) k n m) up.1
-    (subst (λ (k : ℤ). IsPassed a v k h n m) across.1 p)) in
-    let near : IsNearWay a v (pos across.0) (pos up.0) =
-    near_passed a v steps.0 across.0 up.0 n (positive steps.0 whole.some) whole.across whole.along in
-    record {
-      across = spanned a.x v.x w n m p.some p.from p.to p.across;
-      up = spanned a.y v.y h n m p.some p.from p.to p.along;
-      near = subst (λ (k : ℤ). IsNearWay a v k h) (sym across.1)
-          (subst (λ (k : ℤ). IsNearWay a v (pos across.0) k) (sym up.1) near);
-    }
+passed_over a v w h n m wide high p = grind (arith, natural_or_not, near_passed, positive, spanned)
 
 pub ways : SweptWayLaw
 ways s r wide high = (

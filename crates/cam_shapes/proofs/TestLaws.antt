@@ -1,6 +1,5 @@
 -- The tests of shapes that compute mean what the relations say.
-use Rattle.std.proofs.Common.{◌≡◌, ◌↔◌, ◌+◌, ◌%◌, ℤ, pos, ◌+ℤ◌, ◌-ℤ◌, ◌*ℤ◌, ◌⊎◌, Bool, true, false, ◌&&◌, ◌||◌}
-use Rattle.std.proofs.Common.{IsTrue, count_by}
+use Rattle.std.proofs.Common.{arith, rules, ◌≡◌, ◌↔◌, ℤ, pos, ◌⊎◌, Bool, ◌&&◌, ◌||◌, IsTrue}
 use Rattle.std.specs.Prelude.{unsigned_abs}
 use Rattle.std.specs.Ordering.{int_eq}
 use Rattle.std.specs.Bool.{Decides}
@@ -16,20 +15,17 @@ use Rattle.cam_shapes.specs.declared.capsule.Capsule.{Capsule}
 use Rattle.cam_shapes.specs.declared.arc.Arc.{Arc}
 use Rattle.cam_shapes.specs.declared.swept.Swept.{Swept}
 use Rattle.cam_shapes.specs.declared.contour.Contour.{Contour}
-use Rattle.cam_shapes.specs.Plane.{cross, dot, seen_from, square, way, IsBetween, IsNoLonger}
+use Rattle.cam_shapes.specs.Plane.{cross, dot, square, IsBetween, IsNoLonger}
 use Rattle.cam_shapes.specs.Disc.{IsInDisc, IsInHole}
-use Rattle.cam_shapes.specs.Box.{from_left_end, from_right_end, swapped, IsAlong, IsInObround, IsInRectangle, IsRounded}
+use Rattle.cam_shapes.specs.Box.{from_left_end, from_right_end, IsAlong, IsInObround, IsInRectangle, IsRounded}
 use Rattle.cam_shapes.specs.Bar.{IsBeside, IsBetweenEnds, IsInBar, IsInCapsule, IsNearSegment}
 use Rattle.cam_shapes.specs.Arc.{IsInArc, IsInSweep, IsNarrow, IsNearArc, IsNearCircle, IsOnArc, IsSwept}
-use Rattle.cam_shapes.specs.Edge.{crosses_ray}
-use Rattle.cam_shapes.specs.Cap.{is_in_cap}
-use Rattle.cam_shapes.specs.Contour.{caps_of, edges_of, IsInContour}
-use Rattle.cam_shapes.specs.Swept.{corner_reach, high_corner, low_corner, IsInSwept, IsNearWay}
-use Rattle.cam_shapes.specs.Tests.{is_in_arc, is_in_bar, is_in_capsule, is_in_contour, is_in_disc, is_in_hole}
-use Rattle.cam_shapes.specs.Tests.{is_in_obround, is_in_rectangle}
-use Rattle.cam_shapes.specs.Tests.{is_along, is_beside, is_between, is_between_ends, is_in_sweep, is_narrow}
-use Rattle.cam_shapes.specs.Tests.{is_boxed, is_in_swept, is_near_arc, is_near_way}
-use Rattle.cam_shapes.specs.Tests.{is_near_circle, is_near_segment, is_on_arc, is_rounded, is_swept, is_within}
+use Rattle.cam_shapes.specs.Contour.{IsInContour}
+use Rattle.cam_shapes.specs.Swept.{corner_reach, IsInSwept, IsNearWay}
+use Rattle.cam_shapes.specs.Tests.{is_in_arc, is_in_bar, is_in_capsule, is_in_contour, is_in_disc, is_in_hole, is_in_obround}
+use Rattle.cam_shapes.specs.Tests.{is_in_rectangle, is_along, is_beside, is_between, is_between_ends, is_in_sweep, is_narrow}
+use Rattle.cam_shapes.specs.Tests.{is_boxed, is_in_swept, is_near_arc, is_near_way, is_near_circle, is_near_segment, is_on_arc}
+use Rattle.cam_shapes.specs.Tests.{is_rounded, is_swept, is_within}
 use Rattle.cam_shapes.proofs.Crossings.{less_is}
 use Rattle.cam_shapes.proofs.Vectors.{same_vector}
 use Rattle.cam_shapes.proofs.Widths.{at_most_is}
@@ -49,30 +45,19 @@ within v r = at_most_is (dot v v) (square r)
 
 between : (v : Vector) (w h : ℤ) → Decides (is_between v w h) (IsBetween v w h)
 unfolding is_between
-between v w h =
-    like (λ p. record { across = p.0; along = p.1 }) (λ p. (p.across, p.along))
-    (both (at_most_is (pos (unsigned_abs v.x)) w) (at_most_is (pos (unsigned_abs v.y)) h))
+between v w h = grind (arith, like, both, at_most_is)
 
 pub is_in_disc-meaning : (s : Spot) (d : Disc) → IsTrue (is_in_disc s d) ↔ IsInDisc s d
 unfolding is_in_disc
-is_in_disc-meaning s d =
-    like (λ p. record { some = p.0; near = p.1 }) (λ p. (p.some, p.near))
-    (both (less_is (pos 0) d.diameter.0) (within (seen_from d.centre s) d.diameter.0))
+is_in_disc-meaning s d = grind (arith, like, both, less_is, within)
 
 pub is_in_hole-meaning : (s : Spot) (d : Disc) → IsTrue (is_in_hole s d) ↔ IsInHole s d
 unfolding is_in_hole
-is_in_hole-meaning s d =
-    let v = seen_from d.centre s in
-    like (λ p. record { some = p.0; near = p.1 }) (λ p. (p.some, p.near))
-    (both (less_is (pos 0) d.diameter.0) (less_is (dot v v) (square d.diameter.0)))
+is_in_hole-meaning s d = grind (arith, like, both, less_is)
 
 pub is_in_rectangle-meaning : (s : Spot) (r : Rectangle) → IsTrue (is_in_rectangle s r) ↔ IsInRectangle s r
 unfolding is_in_rectangle
-is_in_rectangle-meaning s r =
-    like
-    (λ p. record { wide = p.0; high = p.1.0; between = p.1.1 }) (λ p. (p.wide, (p.high, p.between)))
-    (both (less_is (pos 0) r.width.0)
-    (both (less_is (pos 0) r.height.0) (between (seen_from r.centre s) r.width.0 r.height.0)))
+is_in_rectangle-meaning s r = grind (arith, like, between, both, less_is)
 
 along : (v : Vector) (n r : ℤ) → Decides (is_along v n r) (IsAlong v n r)
 unfolding is_along
@@ -80,58 +65,35 @@ along v n r = either (between v n r) (either (within (from_left_end v n) r) (wit
 
 rounded : (v : Vector) (w h : ℤ) → Decides (is_rounded v w h) (IsRounded v w h)
 unfolding is_rounded
-rounded v w h =
-    either
-    (both (at_most_is h w) (along v (w -ℤ h) h))
-    (both (less_is w h) (along (swapped v) (h -ℤ w) w))
+rounded v w h = search (rules, either, both, at_most_is, along, less_is)
 
 pub is_in_obround-meaning : (s : Spot) (o : Obround) → IsTrue (is_in_obround s o) ↔ IsInObround s o
 unfolding is_in_obround
-is_in_obround-meaning s o =
-    like
-    (λ p. record { wide = p.0; high = p.1.0; rounded = p.1.1 }) (λ p. (p.wide, (p.high, p.rounded)))
-    (both (less_is (pos 0) o.width.0)
-    (both (less_is (pos 0) o.height.0) (rounded (seen_from o.centre s) o.width.0 o.height.0)))
+is_in_obround-meaning s o = grind (arith, like, rounded, both, less_is)
 
 between_ends : (a v : Vector) → Decides (is_between_ends a v) (IsBetweenEnds a v)
 unfolding is_between_ends
-between_ends a v =
-    like
-    (λ p. record { long = p.0; after_start = p.1.0; before_end = p.1.1 })
-    (λ p. (p.long, (p.after_start, p.before_end)))
-    (both (less_is (pos 0) (dot a a)) (both (at_most_is (pos 0) (dot a v)) (at_most_is (dot a v) (dot a a))))
+between_ends a v = grind (arith, like, both, less_is, at_most_is)
 
 beside : (a v : Vector) (r : ℤ) → Decides (is_beside a v r) (IsBeside a v r)
 unfolding is_beside
-beside a v r =
-    like (λ p. record { between = p.0; near = p.1 }) (λ p. (p.between, p.near))
-    (both (between_ends a v) (at_most_is (square (cross a v)) (square r *ℤ dot a a)))
+beside a v r = grind (arith, like, between, both, between_ends, at_most_is)
 
 pub is_in_bar-meaning : (s : Spot) (b : Bar) → IsTrue (is_in_bar s b) ↔ IsInBar s b
 unfolding is_in_bar
-is_in_bar-meaning s b =
-    like (λ p. record { wide = p.0; beside = p.1 }) (λ p. (p.wide, p.beside))
-    (both (less_is (pos 0) b.width.0) (beside (way b.from b.to) (seen_from b.from s) b.width.0))
+is_in_bar-meaning s b = grind (arith, like, beside, both, less_is)
 
 near_segment : (s : Spot) (c : Capsule) → Decides (is_near_segment s c) (IsNearSegment s c)
 unfolding is_near_segment
-near_segment s c =
-    either (within (seen_from c.from s) c.width.0)
-    (either (within (seen_from c.to s) c.width.0) (beside (way c.from c.to) (seen_from c.from s) c.width.0))
+near_segment s c = grind (arith, either, within, beside)
 
 pub is_in_capsule-meaning : (s : Spot) (c : Capsule) → IsTrue (is_in_capsule s c) ↔ IsInCapsule s c
 unfolding is_in_capsule
-is_in_capsule-meaning s c =
-    like (λ p. record { wide = p.0; near = p.1 }) (λ p. (p.wide, p.near))
-    (both (less_is (pos 0) c.width.0) (near_segment s c))
+is_in_capsule-meaning s c = grind (arith, like, both, less_is, near_segment)
 
 boxed : (low high s : Spot) → Decides (is_boxed low high s) (IsInBox low high s)
 unfolding is_boxed
-boxed low high s =
-    like
-    (λ p. record { left = p.0.0; right = p.0.1; below = p.1.0; above = p.1.1 })
-    (λ p. ((p.left, p.right), (p.below, p.above)))
-    (both (both (at_most_is low.x s.x) (at_most_is s.x high.x)) (both (at_most_is low.y s.y) (at_most_is s.y high.y)))
+boxed low high s = grind (arith, like, both, at_most_is)
 
 near_way : (a v : Vector) (w h : ℤ) → Decides (is_near_way a v w h) (IsNearWay a v w h)
 unfolding is_near_way
@@ -139,24 +101,14 @@ near_way a v w h = at_most_is (pos (unsigned_abs (cross a v))) (corner_reach a w
 
 pub is_in_swept-meaning : (s : Spot) (r : Swept) → IsTrue (is_in_swept s r) ↔ IsInSwept s r
 unfolding is_in_swept
-is_in_swept-meaning s r =
-    like
-    (λ p. record { wide = p.0.0; high = p.0.1; boxed = p.1.0; near = p.1.1 })
-    (λ p. ((p.wide, p.high), (p.boxed, p.near)))
-    (both (both (less_is (pos 0) r.width.0) (less_is (pos 0) r.height.0))
-    (both (boxed (low_corner r) (high_corner r) s)
-    (near_way (way r.from r.to) (seen_from r.from s) r.width.0 r.height.0)))
+is_in_swept-meaning s r = grind (arith, like, boxed, both, less_is, near_way)
 
 narrow : (s e : Vector) → Decides (is_narrow s e) (IsNarrow s e)
 unfolding is_narrow
-narrow s e =
-    either (less_is (pos 0) (cross s e))
-    (both (Decides-int_eq (cross s e) (pos 0)) (less_is (dot s e) (pos 0)))
+narrow s e = search (rules, either, less_is, both, Decides-int_eq)
 
 same : (s e : Vector) → Decides (int_eq s.x e.x && int_eq s.y e.y) (s ≡ e)
-same s e =
-    like (λ p. same_vector s e p.0 p.1) (λ p. ((λ i. (p i).x), (λ i. (p i).y)))
-    (both (Decides-int_eq s.x e.x) (Decides-int_eq s.y e.y))
+same s e = grind (arith, like, same_vector, both, Decides-int_eq)
 
 sweep : (s e v : Vector) → Decides (is_in_sweep s e v) (IsInSweep s e v)
 unfolding is_in_sweep
@@ -170,13 +122,11 @@ sweep s e v =
 
 swept : (ccw : Bool) (s e v : Vector) → Decides (is_swept ccw s e v) (IsSwept ccw s e v)
 unfolding is_swept
-swept true s e v = sweep s e v
-swept false s e v = sweep e s v
+swept ccw s e v = grind (arith, sweep)
 
 near_circle : (p q r : ℤ) → Decides (is_near_circle p q r) (IsNearCircle p q r)
 unfolding is_near_circle
-near_circle p q r =
-    either (at_most_is (p +ℤ q) (square r)) (at_most_is (square (p +ℤ q -ℤ square r)) (pos 4 *ℤ p *ℤ q))
+near_circle p q r = grind (arith, either, at_most_is)
 
 on_arc : (s e v : Vector) (a : Arc) → Decides (is_on_arc s e v a) (IsOnArc s e v a)
 unfolding is_on_arc
@@ -184,18 +134,12 @@ on_arc s e v a = both (swept a.ccw s e v) (near_circle (dot v v) (dot s s) a.wid
 
 near_arc : (s : Spot) (a : Arc) → Decides (is_near_arc s a) (IsNearArc s a)
 unfolding is_near_arc
-near_arc s a =
-    either (within (seen_from a.from s) a.width.0)
-    (either (within (seen_from a.to s) a.width.0)
-    (on_arc (way a.centre a.from) (way a.centre a.to) (seen_from a.centre s) a))
+near_arc s a = grind (arith, either, within, on_arc)
 
 pub is_in_arc-meaning : (s : Spot) (a : Arc) → IsTrue (is_in_arc s a) ↔ IsInArc s a
 unfolding is_in_arc
-is_in_arc-meaning s a =
-    like (λ p. record { wide = p.0; near = p.1 }) (λ p. (p.wide, p.near))
-    (both (less_is (pos 0) a.width.0) (near_arc s a))
+is_in_arc-meaning s a = grind (arith, like, both, less_is, near_arc)
 
 pub is_in_contour-meaning : (s : Spot) (c : Contour) → IsTrue (is_in_contour s c) ↔ IsInContour s c
 unfolding is_in_contour
-is_in_contour-meaning s c =
-    Decides-eqb ((count_by (crosses_ray s) (edges_of c) + count_by (is_in_cap s) (caps_of c)) % 2) 1
+is_in_contour-meaning s c = grind (arith, Decides-eqb)

@@ -1,6 +1,6 @@
 -- Products of short numbers, as 128 bits compute them.
-use Rattle.std.proofs.Common.{ℕ, ◌*◌, ◌≡◌, ◌^◌, ◌<◌, ◌≤◌, ◌↔◌, IsTrue, Bool, ℤ, pos, negsuc, ◌≤ℤ◌, ◌<ℤ◌, refl, ◌+ℤ◌, ◌-ℤ◌}
-use Rattle.std.proofs.Common.{◌*ℤ◌, FitsSigned, to_z, of_z, w64, arith, ◌∙◌}
+use Rattle.std.proofs.Common.{ℕ, ◌*◌, ◌≡◌, ◌^◌, ◌<◌, ◌≤◌, ◌↔◌, IsTrue, Bool, ℤ, pos, ◌≤ℤ◌, ◌<ℤ◌, refl, ◌+ℤ◌, ◌-ℤ◌}
+use Rattle.std.proofs.Common.{◌*ℤ◌, FitsSigned, to_z, of_z, w64, arith}
 use Rattle.std.specs.Int.{w128}
 use lib.Signed.{le_z, lt_z}
 use Rattle.std.proofs.lemmas.Int.{ints, unsigned_abs-mul, fits_signed_from_abs, to_z-of_z}
@@ -29,65 +29,45 @@ pub passed_square : (b : Bool) (r m u v : ℤ) → unsigned_abs r < 2 ^ 126 → 
 passed_square b r m u v p q e f told = rw (kept_wide r p, kept_wide m q, e, f) at told
 
 pub square_is : (z : ℤ) → square z ≡ pos (unsigned_abs z * unsigned_abs z)
-square_is (pos n) = refl
-square_is (negsuc n) = refl
+square_is z = grind arith
 
 -- a root of 2^63 or more has a square of 2^126 or more
 pub long_root : (z m : ℤ) → unsigned_abs m < 2 ^ 126 → 2 ^ 63 ≤ unsigned_abs z → square z ≤ℤ m → ⊥
-long_root z m small long h =
-    omega (arith, ints, square_is z, mul-le (2 ^ 63) (2 ^ 63) (unsigned_abs z) (unsigned_abs z) long long)
+long_root z m small long h = grind (arith, ints, square_is, mul-le)
 
 -- a root below 2^63 is itself in 128 bits, and its square is below 2^126
 pub short_root : (z : ℤ) (n : ℕ) → FitsSigned w128 z → n ≡ unsigned_abs (wide z) → n < 2 ^ 63
     → (wide z ≡ z) × (unsigned_abs (square z) < 2 ^ 126)
-short_root z n whole e h =
-    let same : wide z ≡ z = to_z-of_z w128 z whole in
-    let short : unsigned_abs z < 2 ^ 63 = rw (e, same) at h in
-    (same, omega (arith, unsigned_abs-mul z z, mul-lt (unsigned_abs z) (unsigned_abs z) (2 ^ 63) (2 ^ 63) short short))
+short_root z n whole e h = grind (arith, to_z-of_z, unsigned_abs-mul, mul-lt)
 
 pub short_product : (a b : ℤ) → unsigned_abs a < 2 ^ 33 → unsigned_abs b < 2 ^ 33 → unsigned_abs (a *ℤ b) < 2 ^ 66
-short_product a b p q =
-    omega (arith, unsigned_abs-mul a b, mul-lt (unsigned_abs a) (unsigned_abs b) (2 ^ 33) (2 ^ 33) p q)
+short_product a b p q = grind (arith, unsigned_abs-mul, mul-lt)
 
 -- the product of two coordinates
 pub kept_product : (a b r t : ℤ) → unsigned_abs a < 2 ^ 33 → unsigned_abs b < 2 ^ 33
     → r ≡ narrow a → t ≡ narrow b → wide (wide r *ℤ wide t) ≡ a *ℤ b
-kept_product a b r t p q e f =
-    let ea : r ≡ a = e ∙ kept_narrow a p in
-    let eb : t ≡ b = f ∙ kept_narrow b q in
-    let wa : wide a ≡ a = omega (arith, ints) in
-    let wb : wide b ≡ b = omega (arith, ints) in
-    let product : unsigned_abs (a *ℤ b) < 2 ^ 66 = short_product a b p q in
-    rw (ea, eb, wa, wb) (kept_wide (a *ℤ b) (omega arith))
+kept_product a b r t p q e f = grind (arith, kept_narrow, ints, short_product, kept_wide)
 
 pub kept_factors : (a b r t : ℤ) → unsigned_abs a < 2 ^ 33 → unsigned_abs b < 2 ^ 33
     → r ≡ narrow a → t ≡ narrow b → wide r *ℤ wide t ≡ a *ℤ b
-kept_factors a b r t p q e f =
-    let ea : r ≡ a = e ∙ kept_narrow a p in
-    let eb : t ≡ b = f ∙ kept_narrow b q in
-    rw (ea, eb, kept_wide a (omega arith), kept_wide b (omega arith)) refl
+kept_factors a b r t p q e f = grind (arith, kept_narrow, kept_wide)
 
 -- a size, and its square
 pub short_size : (z : ℤ) → IsSize z → unsigned_abs z < 2 ^ 28
 short_size z h = omega (arith, ints, h.0, h.1)
 
 pub size_square : (z : ℤ) → IsSize z → unsigned_abs (square z) < 2 ^ 56
-size_square z h =
-    let n = unsigned_abs z in
-    omega (arith, unsigned_abs-mul z z, mul-lt n n (2 ^ 28) (2 ^ 28) (short_size z h) (short_size z h))
+size_square z h = grind (arith, unsigned_abs-mul, mul-lt, short_size)
 
 -- the product of the square of a size and of a product of two coordinates
 pub long_product : (a b : ℤ) → unsigned_abs a < 2 ^ 56 → unsigned_abs b < 2 ^ 67 → unsigned_abs (a *ℤ b) < 2 ^ 123
-long_product a b p q =
-    omega (arith, unsigned_abs-mul a b, mul-lt (unsigned_abs a) (unsigned_abs b) (2 ^ 56) (2 ^ 67) p q)
+long_product a b p q = grind (arith, unsigned_abs-mul, mul-lt)
 
 long_factors : (a b : ℤ) → unsigned_abs a < 2 ^ 56 → unsigned_abs b < 2 ^ 67 → wide a *ℤ wide b ≡ a *ℤ b
 long_factors a b p q = rw (kept_wide a (omega arith), kept_wide b (omega arith)) refl
 
 pub kept_long_product : (a b : ℤ) → unsigned_abs a < 2 ^ 56 → unsigned_abs b < 2 ^ 67 → wide (wide a *ℤ wide b) ≡ a *ℤ b
-kept_long_product a b p q =
-    let bound : unsigned_abs (a *ℤ b) < 2 ^ 123 = long_product a b p q in
-    rw (long_factors a b p q) (kept_wide (a *ℤ b) (omega arith))
+kept_long_product a b p q = grind (arith, long_product, long_factors, kept_wide)
 
 pub long_product_fits : (a b : ℤ) → unsigned_abs a < 2 ^ 56 → unsigned_abs b < 2 ^ 67
     → FitsSigned w128 (wide a *ℤ wide b)
@@ -102,12 +82,10 @@ difference_bound : (p q : ℤ) → unsigned_abs p < 2 ^ 66 → unsigned_abs q < 
 difference_bound p q h k = omega (arith, ints)
 
 pub dot_bound : (v w : Vector) → IsShort v → IsShort w → unsigned_abs (dot v w) < 2 ^ 67
-dot_bound v w h k =
-    sum_bound (v.x *ℤ w.x) (v.y *ℤ w.y) (short_product v.x w.x h.x k.x) (short_product v.y w.y h.y k.y)
+dot_bound v w h k = grind (arith, sum_bound, short_product)
 
 pub cross_bound : (v w : Vector) → IsShort v → IsShort w → unsigned_abs (cross v w) < 2 ^ 67
-cross_bound v w h k =
-    difference_bound (v.x *ℤ w.y) (v.y *ℤ w.x) (short_product v.x w.y h.x k.y) (short_product v.y w.x h.y k.x)
+cross_bound v w h k = grind (arith, difference_bound, short_product)
 
 pub fits : (z : ℤ) → unsigned_abs z < 2 ^ 67 → FitsSigned w128 z
 fits z h = fits_signed_from_abs w128 z (omega arith)
@@ -129,18 +107,14 @@ one_difference a b p q = omega (arith, ints)
 
 pub kept_differences : (a b c : ℤ) → unsigned_abs a < 2 ^ 67 → unsigned_abs b < 2 ^ 67 → unsigned_abs c < 2 ^ 67
     → wide (wide (wide a -ℤ wide b) -ℤ wide c) ≡ a -ℤ b -ℤ c
-kept_differences a b c p q r =
-    let bound : unsigned_abs (a -ℤ b -ℤ c) < 2 ^ 70 = differences_bound a b c p q r in
-    rw (one_difference a b p q, kept c r) (kept_wide (a -ℤ b -ℤ c) (omega arith))
+kept_differences a b c p q r = grind (arith, differences_bound, one_difference, kept, kept_wide)
 
 pub difference_fits : (a b : ℤ) → unsigned_abs a < 2 ^ 67 → unsigned_abs b < 2 ^ 67 → FitsSigned w128 (wide a -ℤ wide b)
 difference_fits a b p q = omega (arith, ints)
 
 pub differences_fit : (a b c : ℤ) → unsigned_abs a < 2 ^ 67 → unsigned_abs b < 2 ^ 67 → unsigned_abs c < 2 ^ 67
     → FitsSigned w128 (wide (wide a -ℤ wide b) -ℤ wide c)
-differences_fit a b c p q r =
-    let bound : unsigned_abs (a -ℤ b -ℤ c) < 2 ^ 70 = differences_bound a b c p q r in
-    rw (one_difference a b p q, kept c r) (fits_signed_from_abs w128 (a -ℤ b -ℤ c) (omega arith))
+differences_fit a b c p q r = grind (arith, differences_bound, one_difference, kept, fits_signed_from_abs)
 
 -- four times a product, as 128 bits compute it
 fourfold_short : (z : ℤ) → unsigned_abs z < 2 ^ 123 → unsigned_abs (pos 4 *ℤ z) < 2 ^ 126
@@ -151,9 +125,7 @@ fourfold_fits z h = omega (arith, ints)
 
 pub kept_fourfold : (z : ℤ) → unsigned_abs z < 2 ^ 123
     → (wide (pos 4 *ℤ wide z) ≡ pos 4 *ℤ z) × (unsigned_abs (wide (pos 4 *ℤ wide z)) < 2 ^ 126)
-kept_fourfold z h =
-    let same : wide (pos 4 *ℤ wide z) ≡ pos 4 *ℤ z = omega (arith, ints) in
-    (same, rw same (fourfold_short z h))
+kept_fourfold z h = grind (arith, ints, fourfold_short)
 
 -- one product against another, as 128 bits compare them
 pub at_most_is : (a b : ℤ) → IsTrue (le_z a b) ↔ a ≤ℤ b
@@ -179,5 +151,4 @@ sum_fits a b p q = rw (kept a p, kept b q) (fits_signed_from_abs w128 (a +ℤ b)
 
 pub passed_sum : (a b c u v w : ℤ) → unsigned_abs a < 2 ^ 67 → unsigned_abs b < 2 ^ 67 → unsigned_abs c < 2 ^ 67
     → a ≡ u → b ≡ v → c ≡ w → IsTrue (le_z (wide (wide a +ℤ wide b)) (wide c)) ↔ (u +ℤ v) ≤ℤ w
-passed_sum a b c u v w p q r e f g =
-    rw (kept_sum a b p q, kept c r, e, f, g) (at_most_is (u +ℤ v) w)
+passed_sum a b c u v w p q r e f g = grind (arith, kept_sum, kept, at_most_is)

@@ -1,5 +1,5 @@
 -- What the corners of boxes say of the places that they hold.
-use Rattle.std.proofs.Common.{◌≡◌, Bool, true, false, IsTrue, ◌↔◌, ℤ, ◌≤ℤ◌, arith, refl, sym, ◌∙◌}
+use Rattle.std.proofs.Common.{◌≡◌, Bool, true, false, IsTrue, ◌↔◌, ℤ, ◌≤ℤ◌, arith, refl}
 use Rattle.std.specs.Prelude.{◌||◌, not}
 use Rattle.std.specs.Int.{int_min, int_max}
 use Rattle.std.specs.Int.RustNames.{int_lt}
@@ -69,12 +69,7 @@ between_places low high s = by (has_no_place (Closed low high)) refl
     by false e = rw e ((λ h. h), (λ h. h))
 
 pub clip_places : (a b : Bounds) (s : Spot) → Holds (clip_of a b) s ↔ (Holds a s × Holds b s)
-clip_places Empty b s = (λ h. absurd h, λ h. h.0)
-clip_places (Closed low high) Empty s = (λ h. absurd h, λ h. h.1)
-clip_places (Closed low high) (Closed low' high') s =
-    through
-    (between_places (greatest_of low low') (least_of high high') s)
-    (between_clip low high low' high' s)
+clip_places a b s = grind (arith, through, between_places, between_clip)
 
 uncrossed : (x y x' y' : ℤ) → (int_lt x' x || int_lt y' y) ≡ false → (x ≤ℤ x') × (y ≤ℤ y')
 uncrossed x y x' y' e = (grind (arith, ints), grind (arith, ints))
@@ -83,11 +78,7 @@ same : (z : ℤ) → z ≤ℤ z
 same z = omega (arith, ints)
 
 corners : (low high : Spot) → has_no_place (Closed low high) ≡ false → IsInBox low high low × IsInBox low high high
-corners low high e =
-    let order = uncrossed low.x low.y high.x high.y e in (
-      record { left = same low.x; right = order.0; below = same low.y; above = order.1 },
-      record { left = order.0; right = same high.x; below = order.1; above = same high.y },
-    )
+corners low high e = grind (arith, uncrossed, same)
 
 pub no_place : (a : Bounds) → IsTrue (has_no_place a) ↔ ((s : Spot) → Holds a s → ⊥)
 no_place Empty = (λ h s k. k, λ h. refl)
@@ -155,13 +146,6 @@ join_least a b = by_first (has_no_place a) refl
     }
     by_first false e = by_second (has_no_place b) refl e
 
--- a join, by which of the boxes is empty
-pub first_empty : (a b : Bounds) → has_no_place a ≡ true → b ≡ join_of a b
-first_empty a b e = rw e refl
-
-pub second_empty : (a b : Bounds) → has_no_place a ≡ false → has_no_place b ≡ true → a ≡ join_of a b
-second_empty a b e f = rw (e, f) refl
-
 pub none_empty : (a b : Bounds) → has_no_place a ≡ false → has_no_place b ≡ false → span_of a b ≡ join_of a b
 none_empty a b e f = rw (e, f) refl
 
@@ -188,26 +172,16 @@ meeting a b = (
 
 -- boxes apart have an empty common box
 apart_is : (v : Bool) → ((v ≡ false) → ⊥) → v ≡ true
-apart_is true h = refl
-apart_is false h = absurd (h refl)
+apart_is v h = grind arith
 
 empty_between : (low high : Spot) → has_no_place (box_between low high) ≡ true → box_between low high ≡ Empty
-empty_between low high = by (has_no_place (Closed low high)) refl
-  where
-    by : (v : Bool) → has_no_place (Closed low high) ≡ v
-        → has_no_place (box_between low high) ≡ true → box_between low high ≡ Empty
-    by true e = rw e (λ _. refl)
-    by false e = rw e (λ h. absurd (let bad : false ≡ true = sym e ∙ h in cc))
+empty_between low high = grind arith
 
 empty_clip : (a b : Bounds) → has_no_place (clip_of a b) ≡ true → clip_of a b ≡ Empty
-empty_clip Empty b h = refl
-empty_clip (Closed low high) Empty h = refl
-empty_clip (Closed low high) (Closed low' high') h = empty_between (greatest_of low low') (least_of high high') h
+empty_clip a b h = grind (arith, empty_between)
 
 pub clip_apart : (a b : Bounds) → (HaveCommonPlace a b → ⊥) → clip_of a b ≡ Empty
-clip_apart a b apart =
-    empty_clip a b (apart_is (has_no_place (clip_of a b)) (λ e.
-    let found = some_place (clip_of a b) e in apart (found.0, (clip_places a b found.0).0 found.1)))
+clip_apart a b apart = grind (arith, empty_clip, apart_is, some_place, clip_places)
 
 -- the same of boxes that are known by an equation
 pub clip_places_at : (a b r : Bounds) → r ≡ clip_of a b → (s : Spot) → Holds r s ↔ (Holds a s × Holds b s)

@@ -1,5 +1,5 @@
 -- Coordinates that are kept or negated, as 64 bits compute them.
-use Rattle.std.proofs.Common.{◌≡◌, ◌<◌, ◌^◌, ℕ, ℤ, pos, ◌+ℤ◌, ◌-ℤ◌, ◌*ℤ◌, w64, arith}
+use Rattle.std.proofs.Common.{◌≡◌, ◌<◌, ◌^◌, ℤ, pos, ◌+ℤ◌, ◌-ℤ◌, ◌*ℤ◌, w64, arith}
 use mir.Val.{to_z, of_z}
 use Rattle.std.specs.Int.RustNames.{unsigned_abs}
 use Rattle.std.proofs.lemmas.Int.{ints}
@@ -23,10 +23,3 @@ second_kept z w h = omega (arith, ints)
 
 pub second_negated : (z w : ℤ) → unsigned_abs z < 2 ^ 63 → negated z ≡ pos 0 *ℤ w +ℤ minus *ℤ z
 second_negated z w h = omega (arith, ints)
-
--- their absolute values
-pub size_kept : (z : ℤ) {limit : ℕ} → unsigned_abs z < 2 ^ 63 → unsigned_abs z < limit → unsigned_abs (kept z) < limit
-size_kept z h low = let same : unsigned_abs (kept z) ≡ unsigned_abs z = omega (arith, ints) in rw same low
-
-pub size_negated : (z : ℤ) {limit : ℕ} → unsigned_abs z < 2 ^ 63 → unsigned_abs z < limit → unsigned_abs (negated z) < limit
-size_negated z h low = let same : unsigned_abs (negated z) ≡ unsigned_abs z = omega (arith, ints) in rw same low

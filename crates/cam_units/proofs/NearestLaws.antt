@@ -1,6 +1,5 @@
 -- Lengths to the nearest whole number.
-use Rattle.std.proofs.Common.{◌≡◌, ℕ, zero, suc, ◌+◌, ◌*◌, ◌^◌, ◌<◌, ◌≤◌, ℤ, pos, negsuc, ◌-ℤ◌, ◌*ℤ◌, ◌⊎◌, inl, inr}
-use Rattle.std.proofs.Common.{refl, ap, sym, ◌∙◌, arith}
+use Rattle.std.proofs.Common.{◌≡◌, ℕ, zero, suc, ◌+◌, ◌*◌, ◌^◌, ◌<◌, ◌≤◌, ℤ, pos, ◌-ℤ◌, ◌*ℤ◌, ◌⊎◌, inl, inr, ap, sym, ◌∙◌, arith}
 use Rattle.std.proofs.lemmas.Int.{ints, unsigned_abs-mul}
 use Rattle.std.proofs.lemmas.Nat.{le-div, div_below}
 use Rattle.std.proofs.Math.Nat.{pow-suc, mul-le-mul_left}
@@ -47,52 +46,26 @@ mirrored : (a m : ℤ) (b : ℕ) → distance (neg_ℤ a) b (neg_ℤ m) ≡ dist
 mirrored a m b = ap unsigned_abs (mirror a (pos b) m) ∙ abs_neg (pos 2 *ℤ a -ℤ pos 2 *ℤ pos b *ℤ m)
 
 rounded_close : (n b : ℕ) → 0 < b → distance (pos n) b (pos (rounded n b)) ≤ b
-rounded_close n b h =
-    let low : 2 * b * rounded n b ≤ 2 * n + b = omega arith in
-    let high : 2 * n < 2 * b * rounded n b + b = omega arith in
-    omega (arith, ints, low, high)
+rounded_close n b h = grind (arith, ints)
 
 pub nearest : (a : ℤ) (b : ℕ) → 0 < b → IsNearest a b (nearest_of a b)
-nearest (pos n) b h = record { close = rounded_close n b h; farthest = λ k near. not_past (pos n) k b h near }
-nearest (negsuc n) b h =
-    let q = rounded (suc n) b in
-    record {
-      close = rw (mirrored (pos (suc n)) (pos q) b) (rounded_close (suc n) b h);
-      farthest = λ k near. rw (abs_neg (pos q)) (not_past (negsuc n) k b h near);
-    }
+nearest a b h = grind (arith, rounded_close, not_past, mirrored, abs_neg)
 
 -- two nearest numbers have one size; where their signs differ, both are 0
 same_size : (m k : ℤ) → unsigned_abs m ≡ unsigned_abs k → (m ≡ k) ⊎ (k ≡ neg_ℤ m)
-same_size (pos m) (pos k) e = inl (ap pos e)
-same_size (pos m) (negsuc k) e = inr (omega (arith, ints))
-same_size (negsuc m) (pos k) e = inr (omega (arith, ints))
-same_size (negsuc m) (negsuc k) e = inl (omega (arith, ints))
+same_size m k e = grind (arith, ints)
 
 negated : (b m : ℤ) → pos 2 *ℤ b *ℤ neg_ℤ m ≡ neg_ℤ (pos 2 *ℤ b *ℤ m)
-negated b m =
-    let nought = Atom (pos 0) in
-    let two = Atom (pos 2) in
-    let minus_m : neg_ℤ m ≡ pos 0 -ℤ m = omega (arith, ints) in
-    let z = pos 2 *ℤ b *ℤ m in
-    let minus_z : pos 0 -ℤ z ≡ neg_ℤ z = omega (arith, ints) in
-    rw minus_m (equal
-    (Product (Product two (Atom b)) (Difference nought (Atom m)))
-    (Difference nought (Product (Product two (Atom b)) (Atom m)))
-    (omega arith) ∙ minus_z)
+negated b m = grind (arith, Atom, ints, equal, Product, Difference)
 
 small : (b n : ℕ) → 0 < b → 2 * b * n ≤ b → n ≡ 0
-small b zero h le = refl
-small b (suc n) h le = absurd (omega arith)
+small b n h le = grind arith
 
 none : (m : ℤ) → unsigned_abs m ≡ 0 → m ≡ neg_ℤ m
 none m e = omega (arith, ints)
 
 opposite : (a m : ℤ) (b : ℕ) → 0 < b → distance a b m ≤ b → distance a b (neg_ℤ m) ≤ b → m ≡ neg_ℤ m
-opposite a m b h near far =
-    let times : unsigned_abs (pos (2 * b) *ℤ m) ≡ 2 * b * unsigned_abs m = unsigned_abs-mul (pos (2 * b)) m in
-    let turned : pos 2 *ℤ pos b *ℤ neg_ℤ m ≡ neg_ℤ (pos 2 *ℤ pos b *ℤ m) = negated (pos b) m in
-    let sum : unsigned_abs (pos 2 *ℤ pos b *ℤ m) ≤ b = omega (arith, ints, turned) in
-    none m (small b (unsigned_abs m) h (omega (arith, times, sum)))
+opposite a m b h near far = grind (arith, unsigned_abs-mul, negated, ints, none, small)
 
 pub unique : (a m k : ℤ) (b : ℕ) → 0 < b → IsNearest a b m → IsNearest a b k → m ≡ k
 unique a m k b h first second =

@@ -28,13 +28,7 @@ below_next n root some = omega (arith, div-add-mod' n root, mod_below n root som
 
 above_mean : (n root quotient mean : ℕ) → n < root * (quotient + 1) → mean ≡ (root + quotient) / 2
     → n < (mean + 1) * (mean + 1)
-above_mean n root quotient mean less e =
-    let least : root + (quotient + 1) ≤ 2 * (mean + 1) = omega arith in
-    omega (
-      arith,
-      means root (quotient + 1),
-      mul-le (root + (quotient + 1)) (root + (quotient + 1)) (2 * (mean + 1)) (2 * (mean + 1)) least least,
-    )
+above_mean n root quotient mean less e = grind (arith, means, mul-le)
 
 -- the next root
 pub next_root : (n root quotient : ℕ) → 0 < n → IsFromAbove n root quotient → quotient < root
@@ -64,13 +58,4 @@ first_above n digits power small e =
 pub first_root : (n digits bits : ℕ) → n < 2 * 2 ^ digits → digits < 2 * bits
     → IsFromAbove n (1 * 2 ^ (digits / 2 + 1) % 2 ^ (2 * bits)) (n / (1 * 2 ^ (digits / 2 + 1) % 2 ^ (2 * bits)))
     × (1 * 2 ^ (digits / 2 + 1) % 2 ^ (2 * bits) ≤ 2 ^ bits)
-first_root n digits bits small few =
-    let whole = one_shl (digits / 2 + 1) (2 * bits) (omega arith) in
-    let most : 2 ^ (digits / 2 + 1) ≤ 2 ^ bits = pow_mono {j = bits} (omega arith) in (
-      record {
-        some = rw whole (pow_pos (digits / 2 + 1));
-        divided = omega arith;
-        above = first_above n digits (1 * 2 ^ (digits / 2 + 1) % 2 ^ (2 * bits)) small whole;
-      },
-      omega (arith, whole, most),
-    )
+first_root n digits bits small few = grind (arith, one_shl, pow_mono, pow_pos, first_above)

@@ -23,25 +23,13 @@ same_rows : (xx xy yx yy xx' xy' yx' yy' : ℤ) → xx ≡ xx' → xy ≡ xy' �
 same_rows xx xy yx yy xx' xy' yx' yy' a b c d = λ i. record { xx = a i; xy = b i; yx = c i; yy = d i }
 
 pub product_assoc : AssociativeLaw
-product_assoc l m n =
-    same_rows _ _ _ _ _ _ _ _
-    (entry l.xx l.xy m.xx m.xy m.yx m.yy n.xx n.yx)
-    (entry l.xx l.xy m.xx m.xy m.yx m.yy n.xy n.yy)
-    (entry l.yx l.yy m.xx m.xy m.yx m.yy n.xx n.yx)
-    (entry l.yx l.yy m.xx m.xy m.yx m.yy n.xy n.yy)
-
--- a step after others
-pub one_more : (m n s q r : Matrix) → r ≡ product m q → q ≡ product n s → r ≡ product (product m n) s
-one_more m n s q r last before = last ∙ ap (product m) before ∙ sym (product_assoc m n s)
+product_assoc l m n = grind (arith, same_rows, entry)
 
 pub same_point : (p q : Point) → p.x ≡ q.x → p.y ≡ q.y → p ≡ q
 same_point p q e f = λ i. record { x = e i; y = f i }
 
 pub applied_product : ThenLaw
-applied_product m n p =
-    same_point _ _
-    (entry m.xx m.xy n.xx n.xy n.yx n.yy p.x p.y)
-    (entry m.yx m.yy n.xx n.xy n.yx n.yy p.x p.y)
+applied_product m n p = grind (arith, same_point, entry)
 
 pub taken_back : InverseLaw
 taken_back R0 = (R0, refl, refl)
@@ -68,24 +56,10 @@ abbrev turn_of : Matrix → Turn
 turn_of m = turn_at m.xx m.xy m.yx m.yy
 
 turn_again : (t : Turn) → turn_of (matrix_of t) ≡ t
-turn_again R0 = refl
-turn_again R90 = refl
-turn_again R180 = refl
-turn_again R270 = refl
-turn_again M0 = refl
-turn_again M90 = refl
-turn_again M180 = refl
-turn_again M270 = refl
+turn_again t = grind arith
 
 next_is : (t : Turn) → matrix_of (next_quarter t) ≡ product (matrix_of R90) (matrix_of t)
-next_is R0 = refl
-next_is R90 = refl
-next_is R180 = refl
-next_is R270 = refl
-next_is M0 = refl
-next_is M90 = refl
-next_is M180 = refl
-next_is M270 = refl
+next_is t = grind arith
 
 pub quarters : QuartersLaw
 quarters = record {

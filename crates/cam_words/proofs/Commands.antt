@@ -1,7 +1,6 @@
 -- The command at the front of a text: found where one is, and else told for the right reason.
-use Rattle.std.proofs.Common.{◌≡◌, ◌≢◌, ℕ, ◌+◌, ◌-◌, List, [], ◌∷◌, ◌++◌, length, take, drop, get_or, Bool, true}
-use Rattle.std.proofs.Common.{false, eqb, Result, Ok, Err, refl, sym, ap, ◌∙◌, arith, ne_eqb, length-append}
-use Rattle.std.proofs.Common.{append_assoc}
+use Rattle.std.proofs.Common.{◌≡◌, ◌≢◌, ℕ, ◌+◌, ◌-◌, List, [], ◌∷◌, ◌++◌, length, take, drop, get_or, Bool, true, false, eqb}
+use Rattle.std.proofs.Common.{Result, Ok, Err, refl, sym, ap, ◌∙◌, arith, ne_eqb, length-append, append_assoc}
 use Rattle.std.specs.Prelude.{not, if◌then◌else◌}
 use Rattle.std.specs.List.{list_any, before_first, suffix_len, prefix_len, AllByRecursion}
 use Rattle.std.proofs.lemmas.List.{take_at, drop_at, get_or_at}
@@ -9,31 +8,23 @@ use Rattle.std.proofs.lemmas.List.Elements.{filter-append}
 use Rattle.std.proofs.lemmas.Bool.Decides.{nat_tests}
 use Rattle.cam_refusals.specs.declared.refusal.Refusal.{Refusal}
 use Rattle.cam_refusals.specs.declared.refusal.Refusal.TheVariants.{Unterminated}
-use Rattle.cam_words.specs.Bytes.{star, percent, is_star, is_percent, is_skipped, IsSkipped, is_control}
-use Rattle.cam_words.specs.Bytes.{is_forbidden_in_code}
-use Rattle.cam_words.specs.Heads.{packed, begins_as_free_text, is_free_text, is_forbidden_in_word}
-use Rattle.cam_words.specs.Heads.{is_forbidden_in_extended}
+use Rattle.cam_words.specs.Bytes.{star, percent, is_star, is_percent, is_skipped, IsSkipped, is_control, is_forbidden_in_code}
+use Rattle.cam_words.specs.Heads.{begins_as_free_text, is_free_text, is_forbidden_in_word, is_forbidden_in_extended}
 use Rattle.cam_words.specs.Cutting.{Command, WordCommand, ExtendedCommand, bytes_of_command, IsCommand}
 use Rattle.cam_words.specs.Reading.{word_at, command_within, extended_at, command_at}
-use Rattle.cam_words.proofs.Lists.{AllFail, all_map, all-append, list_any-fails, before_first-at, differs}
-use Rattle.cam_words.proofs.Lists.{suffix_len-at}
+use Rattle.cam_words.proofs.Lists.{AllFail, all_map, all-append, list_any-fails, before_first-at, differs, suffix_len-at}
 
 -- a text and its free letters, which its `*` does not change
 begins_as_free_text-append : (xs ys : List ℕ) → begins_as_free_text (xs ++ 42 ∷ ys) ≡ begins_as_free_text xs
-begins_as_free_text-append [] ys = refl
-begins_as_free_text-append (x ∷ []) ys = refl
-begins_as_free_text-append (x ∷ y ∷ xs) ys = refl
+begins_as_free_text-append xs ys = grind arith
 
 is_free_text-append : (text tail : List ℕ) → is_free_text (text ++ star ∷ tail) ≡ is_free_text text
 unfolding is_free_text
-is_free_text-append text tail =
-    ap begins_as_free_text (filter-append (λ byte. not (is_skipped byte)) text (star ∷ tail))
-    ∙ begins_as_free_text-append (packed text) (packed tail)
+is_free_text-append text tail = grind (arith, filter-append, begins_as_free_text-append)
 
 pub forbidden-append : (text tail : List ℕ) → is_forbidden_in_extended (text ++ star ∷ tail)
     ≡ is_forbidden_in_extended text
-forbidden-append text tail =
-    ap (λ (free : Bool). if free then is_control else is_forbidden_in_code) (is_free_text-append text tail)
+forbidden-append text tail = grind (arith, is_free_text-append)
 
 -- a word
 word_at-is : (text word : List ℕ) → before_first is_star text ≡ word → list_any (is_forbidden_in_word word) word
@@ -48,13 +39,7 @@ IsAllowedInWord text byte = (byte ≢ star) × (is_forbidden_in_word text byte �
 
 word_at-command : (text rest : List ℕ) → AllByRecursion (IsAllowedInWord text) text
     → word_at (text ++ star ∷ rest) ≡ Ok (WordCommand text)
-word_at-command text rest allowed =
-    word_at-is (text ++ star ∷ rest) text
-    (before_first-at is_star text star rest
-    (all_map _ (λ byte. is_star byte ≡ false) (λ byte h. differs star byte h.0) text allowed) refl)
-    (list_any-fails (is_forbidden_in_word text) text
-    (all_map _ (λ byte. is_forbidden_in_word text byte ≡ false) (λ byte h. h.1) text allowed))
-    (shorter text star rest)
+word_at-command text rest allowed = grind (arith, word_at-is, before_first-at, all_map, differs, list_any-fails, shorter)
 
 -- an extended command
 command_within-is : (inside text tail : List ℕ) (len : ℕ) → length inside - suffix_len is_skipped inside ≡ len
@@ -87,12 +72,10 @@ IsAllowedInExtended text byte = (byte ≢ percent) × (is_forbidden_in_extended 
 
 skipped_is_allowed : (free : Bool) (byte : ℕ) → IsSkipped byte → (is_percent byte ≡ false)
     × ((if free then is_control else is_forbidden_in_code) byte ≡ false)
-skipped_is_allowed true byte h = (grind (arith, nat_tests), grind (arith, nat_tests))
-skipped_is_allowed false byte h = (grind (arith, nat_tests), grind (arith, nat_tests))
+skipped_is_allowed free byte h = grind (arith, nat_tests)
 
 star_is_allowed : (free : Bool) → (if free then is_control else is_forbidden_in_code) star ≡ false
-star_is_allowed true = refl
-star_is_allowed false = refl
+star_is_allowed free = grind arith
 
 extended_at-command : (text tail rest : List ℕ) → AllByRecursion (IsAllowedInExtended text) text
     → AllByRecursion IsSkipped tail → extended_at ((text ++ star ∷ tail) ++ percent ∷ rest)
@@ -128,13 +111,9 @@ found_at-command (WordCommand (byte ∷ text)) rest is =
     let e : is_percent byte ≡ false = differs percent byte is.0.1 in
     ap (λ (bytes : List ℕ). found_at (byte ∷ bytes)) (append_assoc text (star ∷ []) rest)
     ∙ rw e (word_at-command (byte ∷ text) rest is.1)
-found_at-command (ExtendedCommand text tail) rest is =
-    ap extended_at (append_assoc (text ++ star ∷ tail) (percent ∷ []) rest)
-    ∙ extended_at-command text tail rest is.0 is.1
+found_at-command (ExtendedCommand text tail) rest is = grind (arith, append_assoc, extended_at-command)
 
 -- it begins with a byte that is not skipped
 pub unskipped_front : (command : Command) (rest : List ℕ) → IsCommand command
     → prefix_len is_skipped (bytes_of_command command ++ rest) ≡ 0
-unskipped_front (WordCommand []) rest is = refl
-unskipped_front (WordCommand (byte ∷ text)) rest is = rw is.0.0 refl
-unskipped_front (ExtendedCommand text tail) rest is = refl
+unskipped_front command rest is = grind arith

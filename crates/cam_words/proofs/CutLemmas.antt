@@ -1,6 +1,6 @@
 -- The first piece of a list that is cut at a number.
 use Rattle.std.proofs.Common.{◌≡◌, ℕ, zero, suc, ◌+◌, ◌-◌, ◌<◌, Bool, true, false, cond, ◌==◌, List, [], ◌∷◌}
-use Rattle.std.proofs.Common.{length, get_or, take, drop, refl, ap, sym, ◌∙◌, arith, length-drop, eq-eqb, add-one}
+use Rattle.std.proofs.Common.{length, get_or, take, drop, refl, ap, ◌∙◌, arith, length-drop, eq-eqb, add-one}
 use Rattle.std.specs.List.{slice_split, onto_first}
 use Rattle.std.proofs.lemmas.Bool.{ne_eqb}
 use Rattle.std.proofs.lemmas.List.{take_all}
@@ -8,8 +8,7 @@ use Rattle.std.proofs.lemmas.List.{take_all}
 cut_at : (c : ℕ) (xs : List ℕ) (i : ℕ) → i < length xs → ((k : ℕ) → k < i → get_or xs k 0 ≡ c → ⊥) → get_or xs i 0 ≡ c
     → slice_split (λ b. b == c) xs ≡ take i xs ∷ slice_split (λ b. b == c) (drop (suc i) xs)
 cut_at c [] i h none here = absurd (omega (arith, h))
-cut_at c (x ∷ xs) zero h none here =
-    ap (λ b. cond b ([] ∷ slice_split (λ b. b == c) xs) (onto_first x (slice_split (λ b. b == c) xs))) (eq-eqb x c here)
+cut_at c (x ∷ xs) zero h none here = grind (arith, eq-eqb)
 cut_at c (x ∷ xs) (suc i) h none here =
     ap (λ b. cond b ([] ∷ slice_split (λ b. b == c) xs) (onto_first x (slice_split (λ b. b == c) xs)))
     (ne_eqb x c (none 0 (omega arith)))
@@ -19,11 +18,7 @@ pub split_at : (c : ℕ) (xs : List ℕ) (i : ℕ) → i < length xs → ((k : �
     → get_or xs i 0 ≡ c
     → slice_split (λ b. b == c) xs
     ≡ take i xs ∷ slice_split (λ b. b == c) (take (length xs - (i + 1)) (drop (i + 1) xs))
-split_at c xs i h none here =
-    rw add-one
-    (cut_at c xs i h none here
-    ∙ ap (λ l. take i xs ∷ slice_split (λ b. b == c) l)
-    (sym (take_all (length xs - suc i) (drop (suc i) xs) (omega (arith, length-drop (suc i) xs)))))
+split_at c xs i h none here = grind (arith, add-one, cut_at, take_all, length-drop)
 
 pub split_nowhere : (c : ℕ) (xs : List ℕ) → ((k : ℕ) → k < length xs → get_or xs k 0 ≡ c → ⊥)
     → slice_split (λ b. b == c) xs ≡ xs ∷ []

@@ -32,17 +32,11 @@ begins_unskipped (first ∷ text) byte rest e =
 -- the byte that they leave at the front, and the slice behind it
 packed-cons : (text : List ℕ) (byte : ℕ) (rest : List ℕ) → text ≡ byte ∷ rest → is_skipped byte ≡ false
     → packed text ≡ get_or text 0 0 ∷ packed (take (length text - 1) (drop 1 text))
-packed-cons text byte rest e s =
-    let whole : take (length (byte ∷ rest) - 1) rest ≡ rest = take_all (length (byte ∷ rest) - 1) rest (omega arith) in
-    let here : packed (byte ∷ rest) ≡ byte ∷ packed (take (length (byte ∷ rest) - 1) rest) = rw (s, whole) refl in
-    rw e here
+packed-cons text byte rest e s = grind (arith, take_all)
 
 pub packed_nothing : (text : List ℕ) (skipped : ℕ) → skipped ≡ prefix_len is_skipped text
     → length (take (length text - skipped) (drop skipped text)) < 1 → packed text ≡ []
-packed_nothing text skipped e none =
-    let short : length (drop skipped text) < 1 = rw (take_rest text skipped) at none in
-    let nil : drop skipped text ≡ [] = nil_from_length (drop skipped text) (omega arith) in
-    packed-drop text ∙ ap packed (ap (λ (n : ℕ). drop n text) (sym e) ∙ nil)
+packed_nothing text skipped e none = grind (arith, take_rest, nil_from_length, packed-drop)
 
 pub packed_first : (text slice : List ℕ) (skipped : ℕ) → skipped ≡ prefix_len is_skipped text
     → slice ≡ take (length text - skipped) (drop skipped text) → 1 ≤ length slice
@@ -70,10 +64,7 @@ behind_first (byte ∷ text) =
 
 pub behind_nothing : (text : List ℕ) (skipped : ℕ) → skipped ≡ prefix_len is_skipped text
     → length (take (length text - skipped) (drop skipped text)) < 1 → behind_kept 1 text ≡ []
-behind_nothing text skipped e none =
-    let short : length (drop skipped text) < 1 = rw (take_rest text skipped) at none in
-    let nil : drop skipped text ≡ [] = nil_from_length (drop skipped text) (omega arith) in
-    behind_first text ∙ ap (λ (n : ℕ). drop 1 (drop n text)) (sym e) ∙ ap (drop 1) nil
+behind_nothing text skipped e none = grind (arith, take_rest, nil_from_length, behind_first)
 
 pub behind_slice : (text slice : List ℕ) (skipped : ℕ) → skipped ≡ prefix_len is_skipped text
     → slice ≡ take (length text - skipped) (drop skipped text) → behind_kept 1 text ≡ take (length slice - 1) (drop 1 slice)

@@ -1,7 +1,7 @@
 -- A head, byte for byte.
-use Rattle.std.proofs.Common.{◌≡◌, ◌≢◌, ℕ, ◌+◌, ◌<◌, ◌≤◌, List, [], ◌∷◌, length, take, drop, get_or, Bool, true, Some, None}
-use Rattle.std.proofs.Common.{false, refl, sym, ap, ◌∙◌, eq-eqb, ne_eqb}
-use Rattle.std.specs.Prelude.{nat_eq, ◌||◌, not, codes}
+use Rattle.std.proofs.Common.{arith, ◌≡◌, ◌≢◌, ℕ, ◌+◌, ◌<◌, ◌≤◌, List, [], ◌∷◌, length, take, drop, get_or, Bool, true, Some}
+use Rattle.std.proofs.Common.{None, false, refl, sym, ap, ◌∙◌, eq-eqb}
+use Rattle.std.specs.Prelude.{nat_eq, not, codes}
 use Rattle.std.proofs.lemmas.List.{drop_more, drop_all, drop-drop}
 use Rattle.std.specs.List.{starts_with, list_any}
 use Rattle.cam_words.specs.Bytes.{is_digit}
@@ -9,15 +9,11 @@ use Rattle.cam_words.specs.Heads.{packed, behind_head, is_comment, is_free_text}
 
 pub starts_with-same : (text rest head : List ℕ) (i byte : ℕ) → text ≡ byte ∷ rest → i < length head
     → byte ≡ get_or head i 0 → starts_with nat_eq text (drop i head) ≡ starts_with nat_eq rest (drop (i + 1) head)
-starts_with-same text rest head i byte e below same =
-    let d = drop_more head i 0 below in let t : nat_eq (get_or head i 0) byte ≡ true =
-    eq-eqb (get_or head i 0) byte (sym same) in rw (d, e, t) refl
+starts_with-same text rest head i byte e below same = grind (arith, drop_more, eq-eqb)
 
 pub starts_with-other : (text rest head : List ℕ) (i byte : ℕ) → text ≡ byte ∷ rest → i < length head
     → byte ≢ get_or head i 0 → starts_with nat_eq text (drop i head) ≡ false
-starts_with-other text rest head i byte e below other =
-    let d = drop_more head i 0 below in let t : nat_eq (get_or head i 0) byte ≡ false =
-    ne_eqb (get_or head i 0) byte (λ s. other (sym s)) in rw (d, e, t) refl
+starts_with-other text rest head i byte e below other = grind (arith, drop_more)
 
 pub starts_with-short : (text head : List ℕ) (i : ℕ) → text ≡ [] → i < length head
     → starts_with nat_eq text (drop i head) ≡ false
@@ -60,16 +56,10 @@ no_comment text long short = rw (← long, ← short) refl
 
 starts_without : (text head : List ℕ) → starts_with nat_eq text (codes "G") ≡ false
     → starts_with nat_eq text (71 ∷ head) ≡ false
-starts_without [] head e = refl
-starts_without (byte ∷ text) head e =
-    (elim (nat_eq 71 byte) as (λ b. nat_eq 71 byte ≡ b → starts_with nat_eq (byte ∷ text) (71 ∷ head) ≡ false) [
-      | true ↦ λ t. let yes : true ≡ false = rw t at e in absurd cc
-      | false ↦ λ t. rw t refl
-    ]) refl
+starts_without text head e = grind arith
 
 pub no_comment_without_G : (text : List ℕ) → false ≡ starts_with nat_eq (packed text) (codes "G") → false ≡ is_comment text
-no_comment_without_G text e =
-    no_comment text (sym (starts_without (packed text) (codes "04") (sym e))) (sym (starts_without (packed text) (codes "4") (sym e)))
+no_comment_without_G text e = grind (arith, no_comment, starts_without)
 
 -- free text, by its first letters
 pub free_at_T : (text : List ℕ) → true ≡ starts_with nat_eq (packed text) (codes "T") → true ≡ is_free_text text
@@ -78,9 +68,7 @@ free_at_T text e = rw (← e) refl
 
 pub free_at_IN : (text : List ℕ) → true ≡ starts_with nat_eq (packed text) (codes "IN") → true ≡ is_free_text text
 unfolding is_free_text
-free_at_IN text e =
-    rw (← e) (elim (starts_with nat_eq (packed text) (codes "T")) as
-    (λ b. true ≡ (b || true || starts_with nat_eq (packed text) (codes "LN"))) [ true ↦ refl | false ↦ refl ])
+free_at_IN text e = grind arith
 
 pub free_by_LN : (text : List ℕ) (named : Bool) → false ≡ starts_with nat_eq (packed text) (codes "T")
     → false ≡ starts_with nat_eq (packed text) (codes "IN") → named ≡ starts_with nat_eq (packed text) (codes "LN")

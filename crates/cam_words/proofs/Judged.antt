@@ -1,7 +1,6 @@
 -- A command that is found is one, and a fault is told for the right reason.
-use Rattle.std.proofs.Common.{◌≡◌, ◌≢◌, ℕ, ◌+◌, ◌-◌, ◌<◌, ◌≤◌, List, [], ◌∷◌, ◌++◌, length, take, drop, get_or}
-use Rattle.std.proofs.Common.{Bool, true, false, cond, eqb, Result, Ok, Err, refl, sym, ap, ◌∙◌, subst, inl, inr}
-use Rattle.std.proofs.Common.{arith, append_assoc}
+use Rattle.std.proofs.Common.{◌≡◌, ◌≢◌, ℕ, ◌+◌, ◌-◌, ◌<◌, ◌≤◌, List, [], ◌∷◌, ◌++◌, length, take, drop, get_or, Bool, true, false}
+use Rattle.std.proofs.Common.{eqb, Result, Ok, Err, refl, sym, ap, ◌∙◌, subst, inl, inr, arith, append_assoc}
 use Rattle.std.specs.Prelude.{if◌then◌else◌, not}
 use Rattle.std.specs.List.{list_any, before_first, suffix_len, AllByRecursion}
 use Rattle.std.proofs.lemmas.List.{take-append-drop, drop_more}
@@ -13,11 +12,10 @@ use Rattle.cam_refusals.specs.declared.refusal.Refusal.TheVariants.{BadByte, Unt
 use Rattle.cam_words.specs.Bytes.{star, percent, is_star, is_percent, is_skipped, IsSkipped}
 use Rattle.cam_words.specs.Heads.{is_forbidden_in_word, is_forbidden_in_extended}
 use Rattle.cam_words.specs.Cutting.{Command, WordCommand, ExtendedCommand, bytes_of_command, BeginsAsWord, IsCommand}
-use Rattle.cam_words.specs.Reading.{word_at, command_within, extended_at, command_at}
+use Rattle.cam_words.specs.Reading.{word_at, extended_at, command_at}
 use Rattle.cam_words.specs.Laws.{HoldsForbiddenByte, TellsFault}
-use Rattle.cam_words.proofs.Lists.{AllFail, all_map, all_both, all_front, all_fail, before_first-cons}
-use Rattle.cam_words.proofs.Lists.{before_first_fails, before_first-split, no_value, IsBefore-before_first}
-use Rattle.cam_words.proofs.Lists.{before_first-IsBefore, suffix_passes}
+use Rattle.cam_words.proofs.Lists.{AllFail, all_map, all_both, all_front, all_fail, before_first-cons, before_first_fails}
+use Rattle.cam_words.proofs.Lists.{before_first-split, no_value, IsBefore-before_first, before_first-IsBefore, suffix_passes}
 use Rattle.cam_words.proofs.Commands.{forbidden-append}
 
 abbrev word_of_front : List ℕ → List ℕ
@@ -34,8 +32,7 @@ held_in_word first rest other (inl held) =
     before_first-IsBefore star held.word (first ∷ rest) held.is_word in
     subst (λ (word : List ℕ). list_any (is_forbidden_in_word word) word ≡ true) (sym same)
     (list_any-from_Any (is_forbidden_in_word held.word) held.word held.holds)
-held_in_word first rest other (inr held) =
-    let same : first ≡ percent = let e = held.begins in cc in absurd (no_value percent first other same)
+held_in_word first rest other (inr held) = grind (arith, no_value)
 
 holds_in_word : (first : ℕ) (rest : List ℕ) → is_percent first ≡ false
     → list_any (is_forbidden_in_word (word_of_front (first ∷ rest))) (word_of_front (first ∷ rest)) ≡ true
@@ -53,8 +50,7 @@ holds_in_word first rest other bad = inl (record {
 -- a text behind a `%`
 held_in_extended : (rest : List ℕ) → HoldsForbiddenByte (percent ∷ rest)
     → list_any (is_forbidden_in_extended (inside_of_front rest)) (inside_of_front rest) ≡ true
-held_in_extended rest (inl held) =
-    let same : held.first ≡ percent = let e = held.begins in cc in absurd (held.no_percent same)
+held_in_extended rest (inl held) = grind arith
 held_in_extended rest (inr held) =
     let behind : rest ≡ held.others = let e = held.begins in cc in
     let same : inside_of_front rest ≡ held.inside = ap (before_first is_percent) behind
@@ -83,10 +79,7 @@ not_both b one other = absurd cc
 
 begins_as_word : (first : ℕ) (rest : List ℕ) → is_skipped first ≡ false → is_percent first ≡ false
     → BeginsAsWord (word_of_front (first ∷ rest))
-begins_as_word first rest kept other =
-    rw (before_first-cons is_star first rest)
-    (elim (is_star first) as (λ b. BeginsAsWord (cond (not b) (first ∷ before_first is_star rest) []))
-    [ true ↦ tt | false ↦ (kept, no_value percent first other) ])
+begins_as_word first rest kept other = grind (arith, before_first-cons, no_value)
 
 word_is_right : (first : ℕ) (rest : List ℕ) → is_skipped first ≡ false → is_percent first ≡ false
     → list_any (is_forbidden_in_word (word_of_front (first ∷ rest))) (word_of_front (first ∷ rest)) ≡ false
@@ -165,12 +158,7 @@ extended_is_right rest text tail fine ends e skipped =
 -- at its last byte that is not skipped a text splits, if that is its `*`
 split_at_star : (inside : List ℕ) (len : ℕ) → 0 < len → len ≤ length inside
     → is_star (get_or inside (len - 1) 0) ≡ true → inside ≡ take (len - 1) inside ++ star ∷ drop len inside
-split_at_star inside len some within e =
-    let next : len - 1 + 1 ≡ len = omega arith in
-    let last : get_or inside (len - 1) 0 ≡ star = eqb-true _ star e in
-    let behind : drop (len - 1) inside ≡ star ∷ drop len inside = drop_more inside (len - 1) 0 (omega arith)
-    ∙ rw (last, next) refl in
-    sym (take-append-drop (len - 1) inside) ∙ ap (λ (bytes : List ℕ). take (len - 1) inside ++ bytes) behind
+split_at_star inside len some within e = grind (arith, eqb-true, drop_more, take-append-drop)
 
 command_within_is_right : (rest : List ℕ) (len : ℕ)
     → len ≡ length (inside_of_front rest) - suffix_len is_skipped (inside_of_front rest)
@@ -209,29 +197,8 @@ command_within_is_right rest len is fine ends =
     ]) refl
 
 extended_at_is_right : (rest : List ℕ) → IsRight (percent ∷ rest) (extended_at rest)
-extended_at_is_right rest =
-    let inside : List ℕ = inside_of_front rest in
-    (elim (list_any (is_forbidden_in_extended inside) inside) as
-    (λ bad. list_any (is_forbidden_in_extended inside) inside ≡ bad
-    → IsRight (percent ∷ rest)
-    (if bad then Err BadByte else if eqb (length inside) (length rest) then Err Unterminated
-    else command_within inside)) [
-      | true ↦ λ bad. inl (refl, holds_in_extended rest bad)
-      | false ↦ λ fine.
-          (elim (eqb (length inside) (length rest)) as
-          (λ all. eqb (length inside) (length rest) ≡ all
-          → IsRight (percent ∷ rest) (if all then Err Unterminated else command_within inside)) [
-            | true ↦ λ all. unterminated_is_right rest fine
-            | false ↦ λ ends. command_within_is_right rest _ refl fine (no_value (length rest) (length inside) ends)
-          ]) refl
-    ]) refl
+extended_at_is_right rest = grind (arith, holds_in_extended, unterminated_is_right, command_within_is_right, no_value)
 
 pub command_at_is_right : (first : ℕ) (rest : List ℕ) → is_skipped first ≡ false
     → IsRight (first ∷ rest) (command_at first rest)
-command_at_is_right first rest kept =
-    (elim (is_percent first) as
-    (λ b. is_percent first ≡ b → IsRight (first ∷ rest) (if b then extended_at rest else word_at (first ∷ rest))) [
-      | true ↦ λ e. subst (λ (byte : ℕ). IsRight (byte ∷ rest) (extended_at rest)) (sym (eqb-true first percent e))
-          (extended_at_is_right rest)
-      | false ↦ λ e. word_at_is_right first rest kept e
-    ]) refl
+command_at_is_right first rest kept = grind (arith, eqb-true, extended_at_is_right, word_at_is_right)

@@ -1,6 +1,6 @@
 -- Lists whose elements all pass or all fail a test, and what stands before the first of a value.
 use Rattle.std.proofs.Common.{◌≡◌, ◌≢◌, ℕ, zero, suc, ◌+◌, ◌-◌, ◌<◌, ◌≤◌, List, [], ◌∷◌, ◌++◌, length, drop, get_or}
-use Rattle.std.proofs.Common.{reverse, Bool, true, false, cond, eqb, refl, sym, ap, ◌∙◌, ◌⊎◌, inl, inr, arith}
+use Rattle.std.proofs.Common.{reverse, Bool, true, false, cond, eqb, refl, sym, ap, ◌∙◌, arith}
 use Rattle.std.proofs.Common.{eq-eqb, ne_eqb, length-take, length-drop, length-append}
 use Rattle.std.specs.Prelude.{not, ◌||◌}
 use Rattle.std.specs.List.{position_or_len, suffix_len, list_any, before_first, AllByRecursion}
@@ -46,8 +46,7 @@ list_any-fails test [] all = refl
 list_any-fails test (x ∷ xs) all = rw (all.0, list_any-fails test xs all.1) refl
 
 either_fails : (a b : Bool) → (a || b) ≡ false → (a ≡ false) × (b ≡ false)
-either_fails true b e = absurd cc
-either_fails false b e = (refl, e)
+either_fails a b e = grind arith
 
 pub all_fail : (test : ℕ → Bool) (xs : List ℕ) → list_any test xs ≡ false → AllFail test xs
 all_fail test [] e = tt
@@ -61,13 +60,11 @@ before_first-cons test x xs = take_while-cons (λ y. not (test y)) x xs
 pub before_first-at : (test : ℕ → Bool) (xs : List ℕ) (y : ℕ) (ys : List ℕ) → AllFail test xs → test y ≡ true
     → before_first test (xs ++ y ∷ ys) ≡ xs
 before_first-at test [] y ys all e = before_first-cons test y ys ∙ rw e refl
-before_first-at test (x ∷ xs) y ys all e = before_first-cons test x (xs ++ y ∷ ys)
-    ∙ rw all.0 (ap (λ (rest : List ℕ). x ∷ rest) (before_first-at test xs y ys all.1 e))
+before_first-at test (x ∷ xs) y ys all e = grind (arith, before_first-cons, before_first-at test xs y ys all.1 e)
 
 pub before_first-all : (test : ℕ → Bool) (xs : List ℕ) → AllFail test xs → before_first test xs ≡ xs
 before_first-all test [] all = refl
-before_first-all test (x ∷ xs) all = before_first-cons test x xs
-    ∙ rw all.0 (ap (λ (rest : List ℕ). x ∷ rest) (before_first-all test xs all.1))
+before_first-all test (x ∷ xs) all = grind (arith, before_first-cons, before_first-all test xs all.1)
 
 pub before_first_fails : (test : ℕ → Bool) (xs : List ℕ) → AllFail test (before_first test xs)
 before_first_fails test [] = tt
@@ -77,8 +74,7 @@ before_first_fails test (x ∷ xs) =
     [ true ↦ λ e. tt | false ↦ λ e. (e, before_first_fails test xs) ]) refl)
 
 pub length-before_first : (test : ℕ → Bool) (xs : List ℕ) → length (before_first test xs) ≡ position_or_len test xs
-length-before_first test xs =
-    omega (arith, length-take (position_or_len test xs) xs, prefix_len-le-length (λ x. not (test x)) xs)
+length-before_first test xs = grind (arith, length-take, prefix_len-le-length)
 
 pub before_first_whole : (test : ℕ → Bool) (xs : List ℕ) → length (before_first test xs) ≡ length xs
     → before_first test xs ≡ xs
@@ -102,27 +98,12 @@ pub no_value : (end x : ℕ) → is_value end x ≡ false → x ≢ end
 no_value end x e same = let yes : eqb x end ≡ true = eq-eqb x end same in absurd cc
 
 pub IsBefore-before_first : (end : ℕ) (text : List ℕ) → IsBefore end (before_first (is_value end) text) text
-IsBefore-before_first end text = record {
-  lacks = all_map _ _ (no_value end) (before_first (is_value end) text) (before_first_fails (is_value end) text);
-  ends =
-      let front : List ℕ = before_first (is_value end) text in
-      (elim (eqb (length front) (length text)) as
-      (λ b. eqb (length front) (length text) ≡ b → (text ≡ front) ⊎ ((rest : List ℕ) × (text ≡ front ++ end ∷ rest))) [
-        | true ↦ λ e. inl (sym (before_first_whole (is_value end) text (eqb-true _ _ e)))
-        | false ↦ λ e. let split = before_first-split (is_value end) text (no_value (length text) (length front) e) in
-            inr (split.1, rw (eqb-true _ _ split.2) at split.3)
-      ]) refl;
-}
+IsBefore-before_first end text =
+    grind (arith, all_map, no_value, before_first_fails, before_first_whole, eqb-true, before_first-split)
 
 pub before_first-IsBefore : (end : ℕ) (front text : List ℕ) → IsBefore end front text
     → before_first (is_value end) text ≡ front
-before_first-IsBefore end front text is =
-    let fails = all_map _ (λ x. is_value end x ≡ false) (differs end) front is.lacks in
-    elim is.ends [
-      | inl e ↦ ap (before_first (is_value end)) e ∙ before_first-all (is_value end) front fails
-      | inr e ↦ ap (before_first (is_value end)) e.1
-          ∙ before_first-at (is_value end) front end e.0 fails (eq-eqb end end refl)
-    ]
+before_first-IsBefore end front text is = grind (arith, all_map, differs, before_first-all, before_first-at, eq-eqb)
 
 -- what passes at the end
 pub suffix_passes : (test : ℕ → Bool) (xs : List ℕ)

@@ -19,8 +19,7 @@ no_star byte h = grind (arith, nat_tests)
 
 may_stand_there : (comment : Bool) (byte : ℕ) → is_ordinary byte ≡ true
     → (if comment then is_control else is_forbidden_in_plain) byte ≡ false
-may_stand_there true byte h = grind (arith, nat_tests)
-may_stand_there false byte h = grind (arith, nat_tests)
+may_stand_there comment byte h = grind (arith, nat_tests)
 
 one_more : (n : ℕ) → 1 + n ≡ suc n
 one_more n = omega arith
@@ -28,9 +27,7 @@ one_more n = omega arith
 -- a step more
 pub one_step : (text : List ℕ) (n m : ℕ) → list_all is_ordinary (take n text) ≡ true
     → list_all is_ordinary (take m (drop n text)) ≡ true → list_all is_ordinary (take (n + m) text) ≡ true
-one_step text n m front step =
-    ap (list_all is_ordinary) (take-add n m text) ∙ list_all-append is_ordinary (take n text) (take m (drop n text))
-    ∙ rw (front, step) refl
+one_step text n m front step = grind (arith, take-add, list_all-append)
 
 -- some of them, and then the others
 pub front_and_rest : (text : List ℕ) (n : ℕ) → n ≤ length text → list_all is_ordinary (take n text) ≡ true
@@ -44,8 +41,7 @@ front_and_rest (byte ∷ text) (suc n) within all =
 
 pub steps_and_rest : (text : List ℕ) (n m : ℕ) → n ≤ length text → list_all is_ordinary (take n text) ≡ true
     → m ≡ prefix_len is_ordinary (take (length text - n) (drop n text)) → n + m ≡ prefix_len is_ordinary text
-steps_and_rest text n m within all e =
-    ap (λ k. n + k) (e ∙ ap (prefix_len is_ordinary) (take_rest text n)) ∙ front_and_rest text n within all
+steps_and_rest text n m within all e = grind (arith, take_rest, front_and_rest)
 
 pub step_behind : (text : List ℕ) (step : ℕ) → list_all is_ordinary (take (16 * step) text) ≡ true
     → true ≡ list_all is_ordinary (take (16 * step + 16 - 16 * step) (drop (16 * step) text))
@@ -90,13 +86,7 @@ none_is_bad word (byte ∷ text) others =
 pub word_split : (text : List ℕ) (n p : ℕ) → n ≡ prefix_len is_ordinary text
     → p ≡ position_or_len is_star (take (length text - n) (drop n text))
     → take n text ++ take p (take (length text - n) (drop n text)) ≡ before_first is_star text
-word_split text n p e f =
-    let rest : take (length text - n) (drop n text) ≡ drop (prefix_len is_ordinary text) text =
-    take_rest text n ∙ ap (λ k. drop k text) e in
-    ap (λ k. take k text ++ take p (take (length text - n) (drop n text))) e
-    ∙ ap (λ k. take (prefix_len is_ordinary text) text ++ take k (take (length text - n) (drop n text))) f
-    ∙ ap (λ tail. take (prefix_len is_ordinary text) text ++ before_first is_star tail) rest
-    ∙ sym (split text)
+word_split text n p e f = grind (arith, take_rest, split)
 
 pub word_is : (text : List ℕ) (n p : ℕ) → n ≡ prefix_len is_ordinary text
     → p ≡ position_or_len is_star (take (length text - n) (drop n text))

@@ -6,8 +6,7 @@ use Rattle.std.proofs.lemmas.List.{take_at, drop-drop}
 use Rattle.std.proofs.lemmas.List.Sums.{prefix_len-le-length}
 use Rattle.cam_words.specs.Bytes.{star, percent, is_skipped}
 use Rattle.cam_words.specs.Cutting.{Command, WordCommand, ExtendedCommand, bytes_of_command, word_of}
-use Rattle.cam_words.specs.Reading.{command_at, answers_at, answers_by, reading}
-use Rattle.cam_words.specs.Reading.{IsSliceOf}
+use Rattle.cam_words.specs.Reading.{command_at, answers_at, answers_by, reading, IsSliceOf}
 use Rattle.cam_words.proofs.Fronts.{begins_unskipped}
 use Rattle.cam_words.proofs.Steps.{reading_is, has_a_byte}
 use Rattle.cam_words.proofs.Judged.{IsRight, command_at_is_right}

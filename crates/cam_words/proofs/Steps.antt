@@ -1,17 +1,16 @@
 -- One answer of a reading, and the reading of what stands behind it.
 use Rattle.std.proofs.Common.{◌≡◌, ℕ, zero, suc, ◌+◌, ◌-◌, ◌<◌, List, [], ◌∷◌, length, take, drop, Some, None}
-use Rattle.std.proofs.Common.{Result, Ok, Err, refl, sym, ap, ◌∙◌, arith, length-drop, length-append}
+use Rattle.std.proofs.Common.{Result, Ok, Err, refl, sym, ◌∙◌, arith, length-drop, length-append}
 use Rattle.std.specs.List.{prefix_len}
 use Rattle.std.proofs.lemmas.List.{take_rest}
 use Rattle.cam_refusals.specs.declared.refusal.Refusal.{Refusal}
-use Rattle.cam_words.specs.Bytes.{star, is_skipped}
-use Rattle.cam_words.specs.Cutting.{Command, WordCommand, ExtendedCommand, bytes_of_command, FoundWord, word_of}
-use Rattle.cam_words.specs.Reading.{WordAnswer, command_at, answers_by, answers_at, reading_within, reading}
+use Rattle.cam_words.specs.Bytes.{is_skipped}
+use Rattle.cam_words.specs.Cutting.{Command, bytes_of_command, FoundWord, word_of}
+use Rattle.cam_words.specs.Reading.{WordAnswer, answers_by, answers_at, reading_within, reading}
 use Rattle.cam_words.specs.Machinery.Shown.{shown, front_shown}
 
 pub has_a_byte : (command : Command) → 0 < length (bytes_of_command command)
-has_a_byte (WordCommand text) = omega (arith, length-append text (star ∷ []))
-has_a_byte (ExtendedCommand text tail) = omega arith
+has_a_byte command = grind (arith, length-append)
 
 -- two readings that agree on the texts shorter than some length
 abbrev Agree : (ℕ → List ℕ → List WordAnswer) → (ℕ → List ℕ → List WordAnswer) → ℕ → Type 0
@@ -20,16 +19,11 @@ Agree one other len = (at : ℕ) (text : List ℕ) → length text < len → one
 answers_by-agree : (one other : ℕ → List ℕ → List WordAnswer) (at first : ℕ) (rest : List ℕ) (found : Result Command Refusal)
     → Agree one other (suc (length rest)) → answers_by one at (first ∷ rest) found
     ≡ answers_by other at (first ∷ rest) found
-answers_by-agree one other at first rest (Err code) agree = refl
-answers_by-agree one other at first rest (Ok command) agree =
-    ap (λ (answers : List WordAnswer). Ok (word_of at command) ∷ answers)
-    (agree _ _ (omega (arith, has_a_byte command, length-drop (length (bytes_of_command command)) (first ∷ rest))))
+answers_by-agree one other at first rest found agree = grind (arith, has_a_byte, length-drop)
 
 answers_at-agree : (one other : ℕ → List ℕ → List WordAnswer) (at : ℕ) (text : List ℕ) → Agree one other (length text)
     → answers_at one at text ≡ answers_at other at text
-answers_at-agree one other at [] agree = refl
-answers_at-agree one other at (first ∷ rest) agree =
-    answers_by-agree one other at first rest (command_at first rest) agree
+answers_at-agree one other at text agree = grind (arith, answers_by-agree)
 
 -- a limit above the length says nothing
 reading_within-agree : (limit other at : ℕ) (text : List ℕ) → length text < limit → length text < other
@@ -48,11 +42,7 @@ reading_within-agree (suc limit) (suc other) at text below there =
 pub reading_is : (at : ℕ) (text : List ℕ)
     → reading at text ≡ answers_at reading (at + prefix_len is_skipped text) (drop (prefix_len is_skipped text) text)
 unfolding reading_within
-reading_is at text =
-    answers_at-agree (reading_within (length text)) reading (at + prefix_len is_skipped text)
-    (drop (prefix_len is_skipped text) text)
-    (λ place rest shorter. reading_within-agree (length text) (suc (length rest)) place rest
-    (omega (arith, length-drop (prefix_len is_skipped text) text)) (omega arith))
+reading_is at text = grind (arith, answers_at-agree, reading_within-agree, length-drop)
 
 pub reading-nil : (at : ℕ) → reading at [] ≡ []
 unfolding reading_within
@@ -62,40 +52,29 @@ reading-nil at = refl
 word_of-place : (at : ℕ) (command : Command)
     → word_of at command
     ≡ record { kind = (word_of 0 command).kind; text = (word_of 0 command).text; at = at + (word_of 0 command).at }
-word_of-place at (WordCommand text) = let e : at + 0 ≡ at = omega arith in rw e refl
-word_of-place at (ExtendedCommand text tail) = let e : at + (0 + 1) ≡ at + 1 = omega arith in rw e refl
+word_of-place at command = grind arith
 
 -- what a text gives that does not begin with a skipped byte, as the code finds it
 nothing_at : (at : ℕ) (text : List ℕ) → front_shown text ≡ None → answers_at reading at text ≡ []
-nothing_at at [] e = refl
-nothing_at at (first ∷ rest) e = absurd cc
+nothing_at at text e = grind arith
 
 fault_by : (at : ℕ) (code : Refusal) (text : List ℕ) (found : Result Command Refusal) → shown found ≡ Err code
     → answers_by reading at text found ≡ Err (record { code = code; at = at }) ∷ []
-fault_by at code text (Ok command) e = absurd cc
-fault_by at code text (Err number) e = let same : number ≡ code = cc in
-    ap (λ (refusal : Refusal). Err (record { code = refusal; at = at }) ∷ []) same
+fault_by at code text found e = grind arith
 
 fault_at : (at : ℕ) (code : Refusal) (text : List ℕ) → front_shown text ≡ Some (Err code)
     → answers_at reading at text ≡ Err (record { code = code; at = at }) ∷ []
-fault_at at code [] e = absurd cc
-fault_at at code (first ∷ rest) e = fault_by at code (first ∷ rest) (command_at first rest) cc
+fault_at at code text e = grind (arith, fault_by)
 
 word_by : (at len : ℕ) (text : List ℕ) (word : FoundWord) (found : Result Command Refusal) → shown found ≡ Ok (word, len)
     → answers_by reading at text found
     ≡ Ok (record { kind = word.kind; text = word.text; at = at + word.at }) ∷ reading (at + len) (drop len text)
-word_by at len text word (Err number) e = absurd cc
-word_by at len text word (Ok command) e =
-    let same : ◌≡◌ {A = FoundWord × ℕ} (word_of 0 command, length (bytes_of_command command)) (word, len) = cc in
-    let w : word_of 0 command ≡ word = ap (λ (pair : FoundWord × ℕ). pair.0) same in
-    let n : length (bytes_of_command command) ≡ len = ap (λ (pair : FoundWord × ℕ). pair.1) same in
-    rw (word_of-place at command, w, n) refl
+word_by at len text word found e = grind (arith, word_of-place)
 
 word_at_front : (at len : ℕ) (text : List ℕ) (word : FoundWord) → front_shown text ≡ Some (Ok (word, len))
     → answers_at reading at text ≡ Ok (record { kind = word.kind; text = word.text; at = at + word.at }) ∷ reading
     (at + len) (drop len text)
-word_at_front at len [] word e = absurd cc
-word_at_front at len (first ∷ rest) word e = word_by at len (first ∷ rest) word (command_at first rest) cc
+word_at_front at len text word e = grind (arith, word_by)
 
 -- the same behind skipped bytes, of the slices that the code takes
 module _ (at skipped : ℕ) (text : List ℕ) (is : skipped ≡ prefix_len is_skipped text) where
@@ -114,8 +93,4 @@ module _ (at skipped : ℕ) (text : List ℕ) (is : skipped ≡ prefix_len is_sk
       → slice ≡ take (length text - skipped) (drop skipped text) → Some (Ok (word, len)) ≡ front_shown slice
       → reading at text ≡ Ok (record { kind = word.kind; text = word.text; at = at + skipped + word.at }) ∷ reading
       (at + skipped + len) (take (length slice - len) (drop len slice))
-  word_given slice word len same e =
-      behind_skipped ∙ ap (answers_at reading (at + skipped)) (sym same)
-      ∙ word_at_front (at + skipped) len slice word (sym e)
-      ∙ ap (λ (rest : List ℕ). Ok (record { kind = word.kind; text = word.text; at = at + skipped + word.at })
-      ∷ reading (at + skipped + len) rest) (sym (take_rest slice len))
+  word_given slice word len same e = grind (arith, behind_skipped, word_at_front, take_rest)

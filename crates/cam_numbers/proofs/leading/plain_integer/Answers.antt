@@ -1,4 +1,4 @@
-use Rattle.std.proofs.Common.{true, false}
+use Rattle.std.proofs.Common.{arith, true}
 use Rattle.cam_numbers.proofs.TextFronts.{negative_front, signed_value, small_value, unsigned_front}
 use Rattle.cam_numbers.proofs.leading.plain_integer.Goals as goal
 
@@ -14,6 +14,4 @@ returns-then-text-eq45 c =
     (signed_value true _ c.in_ok-digits.digits c.with_sign.result c.in_ok-digits.ensures c.with_sign.ensures)
 
 pub returns : goal.returns
-returns c =
-    unsigned_front c.args.text.now c.in_ok-digits-2.digits _ c.in_ok-digits-2.ensures
-    (signed_value false c.args.text.now c.in_ok-digits-2.digits c.with_sign-2.result c.in_ok-digits-2.ensures c.with_sign-2.ensures)
+returns c = grind (arith, unsigned_front, signed_value)

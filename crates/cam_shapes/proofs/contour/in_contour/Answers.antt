@@ -1,15 +1,14 @@
+use Rattle.std.proofs.Common.{arith}
 use Rattle.cam_shapes.specs.Placing.{placed_contour}
 use Rattle.cam_shapes.proofs.Parity.{sides_are_parity}
 use Rattle.cam_shapes.proofs.Places.{offset_short}
 use Rattle.cam_shapes.proofs.contour.in_contour.Goals as goal
 
 pub point-requires-clause-offset : goal.point-requires-clause-offset
-point-requires-clause-offset c =
-    offset_short c.args.turn c.args.offset c.args.contour.now.start c.requires.contour.start
+point-requires-clause-offset c = grind (arith, offset_short)
 
 pub is_enclosed-requires-clause-offset : goal.is_enclosed-requires-clause-offset
-is_enclosed-requires-clause-offset c =
-    offset_short c.args.turn c.args.offset c.args.contour.now.start c.requires.contour.start
+is_enclosed-requires-clause-offset c = grind (arith, offset_short)
 
 pub returns : goal.returns
 returns c =

@@ -1,3 +1,4 @@
+use Rattle.std.proofs.Common.{rules}
 use Rattle.std.proofs.Common.{◌≡◌, ◌-◌, ◌≤◌, ◌↔◌, pos, Bool, IsTrue, List, [], ◌∷◌, length, map, take, drop, get_or, ap, ◌∙◌, arith}
 use Rattle.std.proofs.lemmas.List.{take_all}
 use Rattle.cam_units.specs.declared.point.Point.{Point}
@@ -22,6 +23,4 @@ enclosed s t o (p ∷ ps) d start b h e f =
     ∙ ap (λ first. change_side s first first (map (placed_seg t o) (lines_to ps))) e)
 
 pub returns : goal.returns
-returns c =
-    enclosed c.args.spot c.args.turn c.args.offset c.args.points.now (record { x = pos 0; y = pos 0 }) c.point.result c.is_enclosed.result
-    c.in-len1-up.len_at_least c.point.ensures c.is_enclosed.ensures
+returns c = search (rules, enclosed)

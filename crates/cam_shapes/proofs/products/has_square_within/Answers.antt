@@ -9,11 +9,7 @@ pub returns-else-unsigned_abs-lt-LONG_ROOT : goal.returns-else-unsigned_abs-lt-L
 returns-else-unsigned_abs-lt-LONG_ROOT c = grind (arith, long_root)
 
 pub returns-then-unsigned_abs-lt-LONG_ROOT : goal.returns-then-unsigned_abs-lt-LONG_ROOT
-returns-then-unsigned_abs-lt-LONG_ROOT c =
-    let root = short_root c.args.root c.unsigned_abs.result c.ranges.root c.unsigned_abs.ensures.value
-    c.if-unsigned_abs-lt-LONG_ROOT.true in
-    rw (root.0, kept_wide (square c.args.root) root.1, kept_wide c.args.bound c.requires)
-    (at_most_is (square c.args.root) c.args.bound)
+returns-then-unsigned_abs-lt-LONG_ROOT c = grind (arith, short_root, kept_wide, at_most_is)
 
 pub overflow_mul-result : goal.overflow_mul-result
 overflow_mul-result c =

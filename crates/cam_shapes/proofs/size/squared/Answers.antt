@@ -1,26 +1,16 @@
 use Rattle.std.proofs.Common.{◌≡◌, ◌*ℤ◌, arith}
 use Rattle.cam_shapes.specs.Plane.{square}
-use Rattle.cam_shapes.proofs.Widths.{fits, kept, kept_factors, short_size, size_square, wide}
+use Rattle.cam_shapes.proofs.Widths.{kept, kept_factors, short_size, size_square, wide}
 use Rattle.cam_shapes.proofs.size.squared.Goals as goal
 use Rattle.cam_shapes.proofs.size.squared.Goals.{After-from-2}
 
 product : (c : After-from-2) → wide c.from.result *ℤ wide c.from-2.result ≡ square c.args.size.0
-product c =
-    let short = short_size c.args.size.0 c.requires in
-    kept_factors c.args.size.0 c.args.size.0 c.from.result c.from-2.result (omega arith) (omega arith)
-    c.from.ensures c.from-2.ensures
+product c = grind (arith, short_size, kept_factors)
 
-pub overflow_mul-result : goal.overflow_mul-result
-overflow_mul-result c =
-    let bound = size_square c.args.size.0 c.requires in
-    rw (product c) (fits (square c.args.size.0) (omega arith))
+pub returns-clause-bound : goal.returns-clause-bound
+returns-clause-bound c = grind (arith, size_square, product, kept)
 
 pub returns-clause-value : goal.returns-clause-value
 returns-clause-value c =
     let bound = size_square c.args.size.0 c.requires in
     rw (product c) (kept (square c.args.size.0) (omega arith))
-
-pub returns-clause-bound : goal.returns-clause-bound
-returns-clause-bound c =
-    let bound = size_square c.args.size.0 c.requires in
-    rw (product c, kept (square c.args.size.0) (omega arith)) bound

@@ -1,3 +1,4 @@
+use Rattle.std.proofs.Common.{rules}
 use Rattle.cam_shapes.proofs.Sweeps.{kept_low, low_fits, same_spot}
 use Rattle.cam_shapes.proofs.swept.low_corner.Goals as goal
 
@@ -12,9 +13,4 @@ overflow_sub-result-2 c =
     c.requires.height c.min-2.ensures.value
 
 pub returns : goal.returns
-returns c =
-    same_spot _ _
-    (kept_low c.args.swept.from.x c.args.swept.to.x c.min.result c.args.swept.width.0 c.requires.from.x c.requires.to.x
-    c.requires.width c.min.ensures.value)
-    (kept_low c.args.swept.from.y c.args.swept.to.y c.min-2.result c.args.swept.height.0 c.requires.from.y c.requires.to.y
-    c.requires.height c.min-2.ensures.value)
+returns c = search (rules, same_spot, kept_low)

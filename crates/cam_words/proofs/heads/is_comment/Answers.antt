@@ -1,3 +1,4 @@
+use Rattle.std.proofs.Common.{arith}
 use Rattle.cam_words.proofs.HeadBytes.{comment_at_G04, comment_at_G4, no_comment, no_comment_without_G}
 use Rattle.cam_words.proofs.heads.is_comment.Goals as goal
 
@@ -8,11 +9,7 @@ pub returns-then-begins_with : goal.returns-then-begins_with
 returns-then-begins_with c = comment_at_G04 c.args.text.now c.if-begins_with.ensures
 
 pub returns-in-Some : goal.returns-in-Some
-returns-in-Some c =
-    let head = c.in-Some.ensures in
-    comment_at_G4 c.args.text.now c.in-Some.rest.now c.begins_with_digit.result c.if-begins_with.ensures head.begins
-    head.rest c.begins_with_digit.ensures
+returns-in-Some c = grind (arith, comment_at_G4)
 
 pub returns-in-None : goal.returns-in-None
-returns-in-None c =
-    let head = c.in-None.ensures in no_comment c.args.text.now c.if-begins_with.ensures head.begins
+returns-in-None c = grind (arith, no_comment)

@@ -8,9 +8,7 @@ returns-then-byte-separator-clause-pieces c =
     c.if-byte-separator.true
 
 pub returns-then-byte-separator-clause-all : goal.returns-then-byte-separator-clause-all
-returns-then-byte-separator-clause-all c =
-    split_at c.args.separator c.args.text.now c.loop-place.place (omega arith) c.loop-place.invariant
-    c.if-byte-separator.true
+returns-then-byte-separator-clause-all c = grind (arith, split_at)
 
 pub returns-clause-all : goal.returns-clause-all
 returns-clause-all c =

@@ -1,13 +1,11 @@
-use Rattle.std.proofs.Common.{◌≡◌, ◌*ℤ◌}
+use Rattle.std.proofs.Common.{rules, ◌≡◌, ◌*ℤ◌}
 use Rattle.cam_shapes.specs.Plane.{cross}
 use Rattle.cam_shapes.proofs.Widths.{kept_product, cross_bound, fits, kept, wide}
 use Rattle.cam_shapes.proofs.vector.Vector.cross.Goals as goal
 use Rattle.cam_shapes.proofs.vector.Vector.cross.Goals.{After-from-4}
 
 first : (c : After-from-4) → wide (wide c.from.result *ℤ wide c.from-2.result) ≡ c.args.self.x *ℤ c.args.other.y
-first c =
-    kept_product c.args.self.x c.args.other.y c.from.result c.from-2.result c.requires.first.x c.requires.second.y
-    c.from.ensures c.from-2.ensures
+first c = search (rules, kept_product)
 
 second : (c : After-from-4) → wide (wide c.from-3.result *ℤ wide c.from-4.result) ≡ c.args.self.y *ℤ c.args.other.x
 second c =

@@ -1,14 +1,10 @@
-use Rattle.std.proofs.Common.{refl, sym, ◌∙◌}
+use Rattle.std.proofs.Common.{arith, sym, ◌∙◌}
 use Rattle.cam_words.specs.Reading.{reading_within}
 use Rattle.cam_words.proofs.Steps.{nothing_given, fault_given, word_given, reading-nil}
 use Rattle.cam_words.proofs.cutter.Words.next.Goals as goal
 
 pub returns-in-None-clause-none : goal.returns-in-None-clause-none
-returns-in-None-clause-none c = (
-  sym c.self.view_is
-      ∙ nothing_given c.self.inside.at _ _ c.leading_skipped-skipped.ensures.value c.in-None.ensures.value,
-  reading-nil _,
-)
+returns-in-None-clause-none c = grind (arith, nothing_given, reading-nil)
 
 pub returns-in-Some-Err-clause-some : goal.returns-in-Some-Err-clause-some
 unfolding reading_within
@@ -21,9 +17,4 @@ pub returns-in-Some-Err-clause-after_fault : goal.returns-in-Some-Err-clause-aft
 returns-in-Some-Err-clause-after_fault c _ = reading-nil _
 
 pub returns-in-Some-Ok-clause-some : goal.returns-in-Some-Ok-clause-some
-returns-in-Some-Ok-clause-some c =
-    let found = rw c.in-Some-Ok.field-0-is at c.in-Some-Ok.ensures in
-    let command = c.in-Some-Ok.command in
-    sym c.self.view_is
-    ∙ word_given c.self.inside.at _ _ c.leading_skipped-skipped.ensures.value _
-    (record { kind = command.kind; text = command.text.now; at = command.before }) command.len refl found.value
+returns-in-Some-Ok-clause-some c = grind (arith, word_given)
