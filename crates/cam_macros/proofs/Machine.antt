@@ -8,7 +8,6 @@ use Rattle.cam_macros.specs.declared.expression.Operator.{Operator}
 use Rattle.cam_macros.specs.declared.expression.Step.{Step}
 use Rattle.cam_macros.specs.declared.expression.Step.TheVariants.{Push, Read, Negate, Apply}
 use Rattle.cam_macros.specs.declared.parsing.scanner.Level.{Level}
-use Rattle.cam_macros.specs.declared.parsing.mark.Mark.TheVariants as Mark
 use Rattle.cam_numbers.specs.Numbers.{value_of}
 use Rattle.cam_numbers.proofs.Naturals.{natural-digits}
 use Rattle.cam_numbers.proofs.Written.{AreParts, read_whole, read_pointed, some_digits}

@@ -8,7 +8,7 @@ use Rattle.cam_units.specs.declared.point.Spot.{Spot}
 use Rattle.cam_units.specs.Board.{IsInReach, IsOnBoard}
 use Rattle.cam_units.proofs.Ring.{Atom, Difference, Product, Sum, equal}
 use Rattle.cam_shapes.specs.declared.vector.Vector.{Vector}
-use Rattle.cam_shapes.specs.Plane.{IsShort, cross, dot, seen_from, way}
+use Rattle.cam_shapes.specs.Plane.{IsShort, cross, dot, seen_from}
 use Rattle.cam_shapes.proofs.Widths.{dot_bound, narrow, wide}
 use Rattle.cam_rows.specs.declared.centres.Centres.{Centres}
 use Rattle.cam_rows.specs.declared.half_plane.HalfPlane.{HalfPlane}

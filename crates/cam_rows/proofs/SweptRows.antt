@@ -1,5 +1,5 @@
 -- The stroke of a rectangle by the box of its ends and its line.
-use Rattle.std.proofs.Common.{◌≡◌, ◌<◌, ◌↔◌, ℤ, pos, ◌≤ℤ◌, ◌<ℤ◌, arith}
+use Rattle.std.proofs.Common.{◌≡◌, ◌↔◌, ℤ, pos, ◌≤ℤ◌, ◌<ℤ◌, arith}
 use Rattle.std.specs.Int.RustNames.{unsigned_abs}
 use Rattle.std.proofs.lemmas.Int.{ints}
 use Rattle.cam_units.specs.Boxes.{IsInBox}

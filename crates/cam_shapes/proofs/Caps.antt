@@ -1,5 +1,5 @@
 -- Caps lie in squares.
-use Rattle.std.proofs.Common.{rules, ◌≡◌, ℕ, ◌*◌, ◌≤◌, ℤ, pos, ◌≤ℤ◌, ◌<ℤ◌, Bool, true, ◌&&◌, arith, ◌<◌, ◌^◌, of_z}
+use Rattle.std.proofs.Common.{rules, ◌≡◌, ℕ, ◌*◌, ℤ, pos, ◌≤ℤ◌, ◌<ℤ◌, Bool, true, ◌&&◌, arith, ◌<◌, ◌^◌, of_z}
 use Rattle.std.specs.Int.{w128}
 use lib.Signed.{lt_z}
 use Rattle.std.specs.Int.RustNames.{unsigned_abs}

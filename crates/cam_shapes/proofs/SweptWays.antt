@@ -1,32 +1,6 @@
 -- Strokes of rectangles: all that the rectangle passes on its way, and their turns.
 use Rattle.std.proofs.Common.{rules}
-use Rattle.std.proofs.Common.{
-  ◌≡◌,
-  ◌↔◌,
-  ◌≤◌,
-  ℕ,
-  ◌+◌,
-  ◌*◌,
-  ℤ,
-  pos,
-  negsuc,
-  ◌+ℤ◌,
-  ◌-ℤ◌,
-  ◌*ℤ◌,
-  ◌≤ℤ◌,
-  ◌<ℤ◌,
-  refl,
-  ap,
-  subst,
-  sym,
-  ◌∙◌,
-  arith,
-  inl,
-  inr,
-  ◌<◌,
-  zero,
-  suc,
-}
+use Rattle.std.proofs.Common.{◌≡◌, ◌↔◌, ◌≤◌, ℕ, ◌+◌, ◌*◌, ℤ, pos, ◌+ℤ◌, ◌-ℤ◌, ◌*ℤ◌, ◌≤ℤ◌, ◌<ℤ◌, refl, ap, subst, sym, ◌∙◌, arith, ◌<◌}
 use Rattle.std.specs.Int.{int_max, int_min}
 use Rattle.std.specs.Int.RustNames.{unsigned_abs}
 use Rattle.std.proofs.lemmas.Int.{by_lt_z, clamps, ints, unsigned_abs-mul}

@@ -1,4 +1,5 @@
 use Rattle.std.proofs.Common.{◌-◌, arith}
+use Rattle.std.proofs.lemmas.Grind.{common_steps}
 use Rattle.cam_apertures.proofs.Painting.{decides_at, none_at, not_false, passes_at, round, through}
 use Rattle.cam_apertures.proofs.primitives.is_painted.Goals as goal
 
@@ -23,3 +24,6 @@ bounds-prims-place c = omega (arith, c.loop-place.invariant.here)
 
 pub holds-requires-clause-spot : goal.holds-requires-clause-spot
 holds-requires-clause-spot c = c.requires.spot
+
+pub loop-place-init : goal.loop-place-init
+loop-place-init c = grind (arith, common_steps)

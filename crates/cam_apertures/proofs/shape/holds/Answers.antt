@@ -1,4 +1,4 @@
-use Rattle.std.proofs.Common.{◌↔◌, IsTrue, subst}
+use Rattle.std.proofs.Common.{◌↔◌, IsTrue, subst, arith}
 use Rattle.cam_apertures.proofs.Outlines.{outline_placeable, outline_places}
 use Rattle.cam_apertures.proofs.shape.holds.Goals as goal
 
@@ -12,3 +12,12 @@ returns-in-Outline c =
     let places = outline_places c.args.turn c.args.shape.now c.in-Outline.points c.as_slice.result.now c.args.spot c.in-Outline.is
     c.as_slice.ensures in
     subst (λ (P : Type 0). IsTrue c.in_outline.result ↔ P) places c.in_outline.ensures
+
+pub returns-in-Rect : goal.returns-in-Rect
+returns-in-Rect c = grind (arith)
+
+pub returns-in-Disc : goal.returns-in-Disc
+returns-in-Disc c = grind (arith)
+
+pub returns-in-Bar : goal.returns-in-Bar
+returns-in-Bar c = grind (arith)

@@ -41,3 +41,6 @@ rise_below-highest-requires-clause-rows c = λ k within. c.requires.rows k (omeg
 
 pub returns-else-unsigned_abs-lt-NEAR : goal.returns-else-unsigned_abs-lt-NEAR
 returns-else-unsigned_abs-lt-NEAR c = λ low. absurd (omega (arith, ltb-true _ _ low, c.if-unsigned_abs-lt-NEAR.false))
+
+pub at-rightmost-requires : goal.at-rightmost-requires
+at-rightmost-requires c = grind (arith)

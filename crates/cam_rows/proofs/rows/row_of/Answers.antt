@@ -10,3 +10,6 @@ returns g c =
       (λ on. found.held 0 i (omega arith) small on),
       (λ held. found.all 0 i (omega arith) small (omega arith, omega (arith, small)) held),
     ))
+
+pub find-requires-clause-rows : goal.find-requires-clause-rows
+find-requires-clause-rows c = grind (arith)

@@ -1,4 +1,5 @@
 use Rattle.std.proofs.Common.{◌↔◌, ℕ, pos, ◌+ℤ◌, ◌-ℤ◌, ◌*ℤ◌, ◌≤ℤ◌, arith}
+use Rattle.std.proofs.lemmas.Grind.{common_steps}
 use Rattle.std.proofs.lemmas.Int.{ints}
 use Rattle.cam_rows.proofs.Quotients.{kept_divisor, kept_number}
 use Rattle.cam_rows.proofs.SlopeBits.{quotient_tells}
@@ -24,3 +25,15 @@ pub returns-clause-each : goal.returns-clause-each
 returns-clause-each c = λ i small.
     let told = tells (goal.at.returns-clause-each c).After-floor_division-last i in
     ((λ early. told.0 (omega (arith, ints, early))), (λ up. let near = told.1 up in omega (arith, ints, near)))
+
+pub returns-clause-within : goal.returns-clause-within
+returns-clause-within c = grind (arith, common_steps)
+
+pub returns-then-last-lt0-clause-each : goal.returns-then-last-lt0-clause-each
+returns-then-last-lt0-clause-each c = grind (arith, common_steps)
+
+pub overflow_add-result : goal.overflow_add-result
+overflow_add-result c = grind (arith, common_steps)
+
+pub overflow_cast-result : goal.overflow_cast-result
+overflow_cast-result c = grind (arith, common_steps)

@@ -1,4 +1,5 @@
-use Rattle.std.proofs.Common.{sym, ◌∙◌}
+use Rattle.std.proofs.Common.{sym, ◌∙◌, arith}
+use Rattle.std.proofs.lemmas.Grind.{common_steps}
 use Rattle.std.proofs.lemmas.Bool.{false≢true}
 use Rattle.cam_shapes.proofs.Circles.{in_narrow}
 use Rattle.cam_shapes.proofs.arc.is_in_sweep.Goals as goal
@@ -18,3 +19,15 @@ returns-else-after_start c =
       (λ told. absurd (false≢true (sym c.if-after_start.false ∙ told))),
       (λ both. c.is_left_or_along-after_start.ensures.1 both.0),
     )
+
+pub returns-then-after_start-2 : goal.returns-then-after_start-2
+returns-then-after_start-2 c = grind (arith, common_steps)
+
+pub returns-then-eq : goal.returns-then-eq
+returns-then-eq c = grind (arith, common_steps)
+
+pub returns-else-after_start-2 : goal.returns-else-after_start-2
+returns-else-after_start-2 c = grind (arith, common_steps)
+
+pub returns-else-cross-lt0 : goal.returns-else-cross-lt0
+returns-else-cross-lt0 c = grind (arith, common_steps)

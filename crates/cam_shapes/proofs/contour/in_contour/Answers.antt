@@ -14,3 +14,6 @@ pub returns : goal.returns
 returns c =
     sides_are_parity c.args.spot (placed_contour c.args.turn c.args.offset c.args.contour.now) c.is_enclosed.result
     (rw (c.point.ensures, c.as_slice.ensures) at c.is_enclosed.ensures)
+
+pub is_enclosed-requires-clause-segs : goal.is_enclosed-requires-clause-segs
+is_enclosed-requires-clause-segs c = grind (arith)

@@ -24,3 +24,6 @@ enclosed s t o (p ∷ ps) d start b h e f =
 
 pub returns : goal.returns
 returns c = search (rules, enclosed)
+
+pub returns-in_default : goal.returns-in_default
+returns-in_default c = grind (arith)

@@ -1,4 +1,5 @@
 use Rattle.std.proofs.Common.{◌<◌, ◌≡◌, length, arith, ap}
+use Rattle.std.proofs.lemmas.Grind.{common_steps}
 use Rattle.std.proofs.lemmas.List.{get_or_default}
 use Rattle.std.proofs.lemmas.List.Edits.{map_over_more}
 use Rattle.cam_shapes.specs.Shifting.{shifted_seg}
@@ -13,3 +14,6 @@ loop-seg-preserved c =
     rw c.shifted.ensures
     (map_over_more (shifted_seg c.args.by) c.args.segs.now c.loop-seg.seg-items c.loop-seg.seg-index _ within
     c.loop-seg.invariant (get_or_default c.loop-seg.seg-items c.loop-seg.seg-index _ _ here))
+
+pub returns : goal.returns
+returns c = grind (arith, common_steps)

@@ -1,4 +1,4 @@
-use Rattle.std.proofs.Common.{arith}
+use Rattle.std.proofs.Common.{arith, rules}
 use Rattle.cam_shapes.proofs.Sweeps.{part_fits, reach_fits, short_leg, short_side}
 use Rattle.cam_shapes.proofs.swept.corner_reach.Goals as goal
 
@@ -16,3 +16,6 @@ overflow_mul-along c =
     part_fits c.unsigned_abs-3.result c.unsigned_abs-4.result
     (short_side c.unsigned_abs-3.result c.args.height.0 c.unsigned_abs-3.ensures.value c.requires.height)
     (short_leg c.unsigned_abs-4.result c.args.way.x c.unsigned_abs-4.ensures.value c.requires.way.x)
+
+pub returns : goal.returns
+returns c = search rules

@@ -14,3 +14,9 @@ loop-quotient-preserved c = record {
       c.loop-quotient.invariant.from c.loop-quotient-test.true;
   short = omega (arith, c.loop-quotient.invariant.short);
 }
+
+pub returns-clause-square : goal.returns-clause-square
+returns-clause-square c = grind (arith)
+
+pub returns-clause-short : goal.returns-clause-short
+returns-clause-short c = grind (arith)

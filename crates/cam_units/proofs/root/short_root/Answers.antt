@@ -14,3 +14,6 @@ loop-quotient-preserved c = record {
       c.loop-quotient.invariant.from c.loop-quotient-test.true;
   short = omega (arith, c.loop-quotient.invariant.short);
 }
+
+pub returns-clause-square : goal.returns-clause-square
+returns-clause-square c = grind (arith)

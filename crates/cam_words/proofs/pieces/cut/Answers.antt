@@ -17,3 +17,6 @@ returns-clause-all c =
 pub returns-clause-pieces : goal.returns-clause-pieces
 returns-clause-pieces c =
     split_nowhere c.args.separator c.args.text.now (λ k h. c.loop-place.invariant k (omega arith))
+
+pub returns-then-byte-separator-clause-shorter : goal.returns-then-byte-separator-clause-shorter
+returns-then-byte-separator-clause-shorter c = grind (arith)

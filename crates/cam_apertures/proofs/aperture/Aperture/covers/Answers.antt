@@ -59,3 +59,6 @@ returns-then-in_obround c =
 pub returns-else-in_obround : goal.returns-else-in_obround
 returns-else-in_obround c =
     let inside = rw (c.turned_width-in-Obround.ensures, c.turned_height-in-Obround.ensures) at c.in_obround.ensures in rw c.in-Obround.is (outside c.in_obround.result c.if-in_obround.false inside)
+
+pub returns-in-Prims : goal.returns-in-Prims
+returns-in-Prims c = grind (arith)

@@ -1,4 +1,4 @@
-use Rattle.std.proofs.Common.{◌≡◌, [], ◌∷◌, ◌++◌, ap, sym, subst, ◌∙◌, None}
+use Rattle.std.proofs.Common.{◌≡◌, [], ◌∷◌, ◌++◌, ap, sym, subst, ◌∙◌, None, arith}
 use Rattle.std.specs.Map.{values_of}
 use Rattle.std.proofs.lemmas.List.{map-append}
 use Rattle.indexmap.proofs.CallerLemmas.{insert_entry-new}
@@ -32,3 +32,6 @@ returns-in-Ok-clause-ok c =
     ap macros_of (entries (goal.at.returns-in-Ok-clause-ok c).In-Ok)
     ∙ added_last c.self.inside.parts.entries c.into_vec.result c.args.added c.into_vec.ensures
     ∙ ap (λ macros. macros ++ c.args.added ∷ []) c.self.view_is
+
+pub invariant_of-self-2 : goal.invariant_of-self-2
+invariant_of-self-2 c = grind (arith)

@@ -1,4 +1,4 @@
-use Rattle.std.proofs.Common.{arith, rules, ◌≡◌, ap, sym, ◌∙◌, subst, Ok}
+use Rattle.std.proofs.Common.{arith, rules, ◌≡◌, ap, sym, ◌∙◌, subst, Ok, refl}
 use Rattle.std.specs.Prelude.{option_map}
 use Rattle.std.specs.Map.{values_of}
 use Rattle.std.proofs.lemmas.Option.{slice_get-map}
@@ -56,3 +56,27 @@ returns-clause-ok c =
     outcome_found c.args.name.now c.self.inside.parts.entries c.args.self.now c.args.unit c.args.parameters.items
     c.in-Some.parts.now c.self.view_is (sym c.in-Some.ensures.value)
     ∙ ap macro_outcome (made (goal.at.returns-clause-ok c).In_ok-primitives)
+
+pub returns-in_err-primitives-clause-macros : goal.returns-in_err-primitives-clause-macros
+returns-in_err-primitives-clause-macros c = refl
+
+pub returns-in_err-clone-clause-macros : goal.returns-in_err-clone-clause-macros
+returns-in_err-clone-clause-macros c = refl
+
+pub returns-clause-fault : goal.returns-clause-fault
+returns-clause-fault c = grind (arith)
+
+pub returns-in_err-insert-clause-macros : goal.returns-in_err-insert-clause-macros
+returns-in_err-insert-clause-macros c = assumption arith
+
+pub invariant_of-self : goal.invariant_of-self
+invariant_of-self c = grind (arith)
+
+pub returns-in-Some-found_again-clause-macros : goal.returns-in-Some-found_again-clause-macros
+returns-in-Some-found_again-clause-macros c = refl
+
+pub returns-clause-macros : goal.returns-clause-macros
+returns-clause-macros c = assumption arith
+
+pub returns-in_err-shared-clause-macros : goal.returns-in_err-shared-clause-macros
+returns-in_err-shared-clause-macros c = refl

@@ -1,4 +1,4 @@
-use Rattle.std.proofs.Common.{ap, sym, ◌==◌, ◌∙◌}
+use Rattle.std.proofs.Common.{ap, sym, ◌==◌, ◌∙◌, arith}
 use Rattle.std.specs.List.{slice_split}
 use Rattle.std.proofs.lemmas.Result.{err_from_is_err_and}
 use Rattle.cam_macros.specs.Reading.{pieces_between}
@@ -14,3 +14,12 @@ returns-in_err-parts-clause-fault c =
     (ap (slice_split (λ b. b == star)) (sym c.in_ok-text.ensures ∙ sym c.as_slice.ensures.value) ∙ c.cut.ensures.all)
     (sym c.is_macro_name.ensures ∙ c.if-not-is_macro_name.false)
     c.in_err-parts.ensures.fault)
+
+pub returns-clause-ok : goal.returns-clause-ok
+returns-clause-ok c = grind (arith)
+
+pub returns-then-not-is_macro_name-clause-fault : goal.returns-then-not-is_macro_name-clause-fault
+returns-then-not-is_macro_name-clause-fault c = grind (arith)
+
+pub returns-clause-fault : goal.returns-clause-fault
+returns-clause-fault c = grind (arith)

@@ -10,3 +10,9 @@ returns-clause-ok c =
 
 pub loop-rest-preserved : goal.loop-rest-preserved
 loop-rest-preserved c = grind (arith, common_steps)
+
+pub returns-in_err-point-clause-fault : goal.returns-in_err-point-clause-fault
+returns-in_err-point-clause-fault c = grind (arith)
+
+pub loop-rest-smaller : goal.loop-rest-smaller
+loop-rest-smaller c = omega (arith)

@@ -1,4 +1,4 @@
-use Rattle.std.proofs.Common.{◌≤◌, ◌^◌, arith}
+use Rattle.std.proofs.Common.{◌≤◌, ◌^◌, arith, rules}
 use Rattle.std.proofs.lemmas.Int.{to_z-of_z}
 use Rattle.std.specs.Prelude.{unsigned_abs}
 use Rattle.cam_macros.proofs.WidthLemmas.{product_bound, product_kept, short}
@@ -16,3 +16,18 @@ nearest-requires c = grind (arith, left, right, short, product_kept, product_bou
 
 pub returns-in-Multiply : goal.returns-in-Multiply
 returns-in-Multiply c = grind (arith, left, right, product_kept, to_z-of_z)
+
+pub returns-in-Subtract : goal.returns-in-Subtract
+returns-in-Subtract c = search rules
+
+pub overflow_mul-above : goal.overflow_mul-above
+overflow_mul-above c = search rules
+
+pub overflow_sub-result : goal.overflow_sub-result
+overflow_sub-result c = search rules
+
+pub returns-in-Add : goal.returns-in-Add
+returns-in-Add c = search rules
+
+pub overflow_add-result : goal.overflow_add-result
+overflow_add-result c = search rules

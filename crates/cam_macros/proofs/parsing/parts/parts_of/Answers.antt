@@ -1,4 +1,5 @@
 use Rattle.std.proofs.Common.{arith, ap, sym, ◌∙◌, subst}
+use Rattle.std.proofs.lemmas.Grind.{common_steps}
 use Rattle.std.proofs.lemmas.Result.{err_from_is_err_and}
 use Rattle.cam_macros.specs.Reading.{pieces_between, parts_spoken}
 use Rattle.cam_macros.proofs.ReadingLemmas.{ArePartsBefore, parts_end, parts_fault}
@@ -19,3 +20,18 @@ returns-in_err-parse-clause-fault c =
 
 pub returns-clause-ok : goal.returns-clause-ok
 returns-clause-ok c = grind (arith, parts_end, ArePartsBefore)
+
+pub loop-rest-smaller-in_ok-push : goal.loop-rest-smaller-in_ok-push
+loop-rest-smaller-in_ok-push c = grind (arith)
+
+pub loop-rest-smaller : goal.loop-rest-smaller
+loop-rest-smaller c = grind (arith)
+
+pub loop-rest-preserved-in_ok-push : goal.loop-rest-preserved-in_ok-push
+loop-rest-preserved-in_ok-push c = grind (arith, common_steps)
+
+pub loop-rest-preserved : goal.loop-rest-preserved
+loop-rest-preserved c = grind (arith)
+
+pub loop-rest-init : goal.loop-rest-init
+loop-rest-init c = grind (arith)

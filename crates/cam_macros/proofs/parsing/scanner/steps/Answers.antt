@@ -10,3 +10,9 @@ returns-clause-ok c = grind (arith, ended_behind)
 
 pub returns-clause-fault : goal.returns-clause-fault
 returns-clause-fault c = grind (arith, ended_behind)
+
+pub loop-first-smaller : goal.loop-first-smaller
+loop-first-smaller c = grind (arith)
+
+pub loop-first-smaller-in_ok-rest : goal.loop-first-smaller-in_ok-rest
+loop-first-smaller-in_ok-rest c = grind (arith)

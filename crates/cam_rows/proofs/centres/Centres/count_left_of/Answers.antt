@@ -1,4 +1,5 @@
 use Rattle.std.proofs.Common.{◌≡◌, ◌≤◌, pos, arith}
+use Rattle.std.proofs.lemmas.Grind.{common_steps}
 use Rattle.std.specs.Int.RustNames.{unsigned_abs}
 use Rattle.std.proofs.lemmas.Int.{ints}
 use Rattle.cam_shapes.proofs.Widths.{narrow}
@@ -40,3 +41,6 @@ pub returns-clause-few : goal.returns-clause-few
 returns-clause-few c =
     let short = few ((goal.at.returns-clause-few c).After-div_ceil) in
     omega (arith, short, c.from.ensures)
+
+pub returns-then-gap-le0-clause-each : goal.returns-then-gap-le0-clause-each
+returns-then-gap-le0-clause-each c = grind (arith, common_steps)

@@ -14,3 +14,9 @@ returns-clause-wide c =
     let start = (c.requires.row.centres 0 (omega (arith, c.requires.row.count))).x in
     wide_offsets c.args.self.now c.args.point.now _ _ c.requires.row (omega (arith, ints, start, c.requires.point.x))
     (search rules) c.requires.point
+
+pub overflow_mul-result : goal.overflow_mul-result
+overflow_mul-result c = grind (arith)
+
+pub overflow_sub-result : goal.overflow_sub-result
+overflow_sub-result c = search rules

@@ -20,3 +20,6 @@ returns c =
     let row = c.requires.rows c.args.steps (omega arith) in
     let place = (row.centres 0 (omega (arith, row.count.0))).y in
     rw c.wide_below.ensures (omega (arith, ints, place, c.requires.point.y))
+
+pub overflow_mul-result : goal.overflow_mul-result
+overflow_mul-result c = grind (arith)

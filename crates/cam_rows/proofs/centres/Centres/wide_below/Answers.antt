@@ -26,3 +26,6 @@ returns c =
     let step_is : to_z w64 (of_z w64 row.step) ≡ row.step = search rules in
     ap (λ y. record row { y = y })
     (rw (steps_is, step_is) (omega (arith, ints, first, there)))
+
+pub overflow_cast-row : goal.overflow_cast-row
+overflow_cast-row c = grind (arith)

@@ -33,3 +33,24 @@ returns-clause-chord g c =
     (omega (arith, ints, c.unsigned_abs-step.ensures.value)) (omega (arith, ints, c.unsigned_abs-step.ensures.value, step, c.requires.row.step))
     (omega (arith, ints, c.requires.point.x)) c.count_left_of-middle.ensures.each
     c.count_left_of-middle.ensures.few (left g c) (right g c) _ _ c.new.ensures c.new-2.ensures
+
+pub overflow_mul-point : goal.overflow_mul-point
+overflow_mul-point c = grind (arith)
+
+pub count_left_of-middle-requires-clause-row : goal.count_left_of-middle-requires-clause-row
+count_left_of-middle-requires-clause-row c = grind (arith)
+
+pub returns-clause-offsets : goal.returns-clause-offsets
+returns-clause-offsets c = assumption arith
+
+pub count_left_of-middle-requires-clause-short : goal.count_left_of-middle-requires-clause-short
+count_left_of-middle-requires-clause-short c = grind (arith)
+
+pub at-last_left-requires : goal.at-last_left-requires
+at-last_left-requires c = grind (arith)
+
+pub offsets_from-offsets-requires-clause-row : goal.offsets_from-offsets-requires-clause-row
+offsets_from-offsets-requires-clause-row c = grind (arith)
+
+pub at-first_right-requires : goal.at-first_right-requires
+at-first_right-requires c = grind (arith)

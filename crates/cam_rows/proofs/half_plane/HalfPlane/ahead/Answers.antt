@@ -57,3 +57,12 @@ returns c =
       numbers = dots_are way from top reach;
       step = refl;
     })
+
+pub overflow_mul-result-2 : goal.overflow_mul-result-2
+overflow_mul-result-2 c = search rules
+
+pub seen_from-requires-clause-spot : goal.seen_from-requires-clause-spot
+seen_from-requires-clause-spot c = grind (arith)
+
+pub overflow_mul-result : goal.overflow_mul-result
+overflow_mul-result c = search rules

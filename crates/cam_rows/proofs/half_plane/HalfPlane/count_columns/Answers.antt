@@ -1,4 +1,5 @@
 use Rattle.std.proofs.Common.{length, subst, arith}
+use Rattle.std.proofs.lemmas.Grind.{common_steps}
 use Rattle.cam_rows.specs.declared.half_plane.HalfPlane.{HalfPlane}
 use Rattle.cam_rows.specs.Machinery.Narrowing.{AreCounted, IsUp}
 use Rattle.cam_rows.specs.Runs.{end_in}
@@ -25,3 +26,18 @@ returns-in-Some c =
     subst (λ (numbers : HalfPlane). AreCounted c.args.columns (IsUp numbers) (length c.args.ends.now)
     (end_in c.count_ends.result c.count_ends.new.ends))
     (c.in-Some.ensures.falls c.requires.falls) c.count_ends.ensures
+
+pub columns_up_to-requires-clause-divisor : goal.columns_up_to-requires-clause-divisor
+columns_up_to-requires-clause-divisor c = grind (arith)
+
+pub returns : goal.returns
+returns c = grind (arith)
+
+pub columns_up_to-requires-clause-number : goal.columns_up_to-requires-clause-number
+columns_up_to-requires-clause-number c = grind (arith)
+
+pub number_below-requires : goal.number_below-requires
+number_below-requires c = grind (arith)
+
+pub overflow_sub-self : goal.overflow_sub-self
+overflow_sub-self c = grind (arith, common_steps)

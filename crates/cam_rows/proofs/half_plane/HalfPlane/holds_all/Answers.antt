@@ -22,3 +22,9 @@ returns c =
           (row.ensures.least k below) (column.ensures.least i within) (told.0 up)),
       (λ held. told.1 (held row.result column.result row.ensures.within column.ensures.within)),
     )
+
+pub returns-then-columns-eq0 : goal.returns-then-columns-eq0
+returns-then-columns-eq0 c = grind (arith)
+
+pub number_below-requires : goal.number_below-requires
+number_below-requires c = grind (arith)

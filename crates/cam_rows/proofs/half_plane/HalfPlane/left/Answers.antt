@@ -1,4 +1,5 @@
-use Rattle.std.proofs.Common.{arith, ◌≡◌, ℕ, ◌∙◌, ap, ◌+ℤ◌}
+use Rattle.std.proofs.Common.{arith, ◌≡◌, ℕ, ◌∙◌, ap, ◌+ℤ◌, rules}
+use Rattle.std.proofs.lemmas.Grind.{common_steps}
 use Rattle.cam_shapes.specs.Plane.{cross, seen_from, way}
 use Rattle.cam_shapes.proofs.Widths.{wide}
 use Rattle.cam_rows.specs.Machinery.Slopes.{lowered, number_on}
@@ -21,3 +22,15 @@ numbers c k i =
 
 pub returns : goal.returns
 returns c = grind (arith, numbers, turned_x)
+
+pub overflow_sub-to_the_left : goal.overflow_sub-to_the_left
+overflow_sub-to_the_left c = grind (arith, common_steps)
+
+pub ahead-requires-clause-reach : goal.ahead-requires-clause-reach
+ahead-requires-clause-reach c = grind (arith)
+
+pub ahead-requires-clause-row : goal.ahead-requires-clause-row
+ahead-requires-clause-row c = assumption arith
+
+pub ahead-requires-clause-way : goal.ahead-requires-clause-way
+ahead-requires-clause-way c = search rules

@@ -2,7 +2,7 @@ use Rattle.std.proofs.Common.{rules, arith}
 use Rattle.std.proofs.lemmas.Int.{ints}
 use Rattle.cam_rows.specs.Machinery.Narrowing.{IsUp}
 use Rattle.cam_rows.specs.Machinery.Slopes.{falling}
-use Rattle.cam_rows.proofs.NarrowedRuns.{next_run}
+use Rattle.cam_rows.proofs.NarrowedRuns.{next_run, all_runs, no_runs}
 use Rattle.cam_rows.proofs.SetRows.{ends_narrowed, firsts_narrowed}
 use Rattle.cam_rows.proofs.SlopeBits.{lacking_alike, up_alike}
 use Rattle.cam_rows.proofs.half_plane.HalfPlane.narrow.Goals as goal
@@ -28,3 +28,24 @@ returns-in-Some-2 c =
 
 pub loop-k-preserved : goal.loop-k-preserved
 loop-k-preserved c = search (rules, next_run)
+
+pub cut_firsts-requires-clause-rows : goal.cut_firsts-requires-clause-rows
+cut_firsts-requires-clause-rows c = grind (arith)
+
+pub narrowed-part-requires-clause-short : goal.narrowed-part-requires-clause-short
+narrowed-part-requires-clause-short c = omega (arith)
+
+pub bounds-firsts-k-in-loop-k : goal.bounds-firsts-k-in-loop-k
+bounds-firsts-k-in-loop-k c = omega (arith)
+
+pub bounds-ends-k-in-loop-k : goal.bounds-ends-k-in-loop-k
+bounds-ends-k-in-loop-k c = omega (arith)
+
+pub holds_all-requires-clause-short : goal.holds_all-requires-clause-short
+holds_all-requires-clause-short c = assumption arith
+
+pub returns-after-loop-k : goal.returns-after-loop-k
+returns-after-loop-k c = search (rules, all_runs, no_runs)
+
+pub returns-then-holds_all : goal.returns-then-holds_all
+returns-then-holds_all c = grind (arith)

@@ -1,4 +1,5 @@
-use Rattle.std.proofs.Common.{inl, inr, ◌^◌, ◌<◌, arith}
+use Rattle.std.proofs.Common.{inl, inr, ◌^◌, ◌<◌, arith, rules}
+use Rattle.std.proofs.lemmas.Grind.{common_steps}
 use Rattle.std.specs.Int.RustNames.{unsigned_abs}
 use Rattle.std.proofs.lemmas.Bool.{cases_lt}
 use Rattle.cam_rows.proofs.HalfPlanes.{falling_told, rising_told}
@@ -33,3 +34,30 @@ returns-then-step-gt0-clause-each c = λ i small.
         | inr late ↦ (omega (arith, most, both.0.0, late), both.0.1)
       ]),
     )
+
+pub number_below-number-requires : goal.number_below-number-requires
+number_below-number-requires c = assumption arith
+
+pub overflow_sub-step : goal.overflow_sub-step
+overflow_sub-step c = grind (arith, common_steps)
+
+pub columns_up_to-requires-then-step-gt0-clause-number : goal.columns_up_to-requires-then-step-gt0-clause-number
+columns_up_to-requires-then-step-gt0-clause-number c = search rules
+
+pub columns_up_to-requires-clause-number : goal.columns_up_to-requires-clause-number
+columns_up_to-requires-clause-number c = grind (arith)
+
+pub returns-then-number-lt0-clause-each : goal.returns-then-number-lt0-clause-each
+returns-then-number-lt0-clause-each c = grind (arith, common_steps)
+
+pub columns_up_to-requires-clause-divisor : goal.columns_up_to-requires-clause-divisor
+columns_up_to-requires-clause-divisor c = grind (arith)
+
+pub overflow_sub-number : goal.overflow_sub-number
+overflow_sub-number c = grind (arith, common_steps)
+
+pub returns-clause-each : goal.returns-clause-each
+returns-clause-each c = grind (arith, common_steps)
+
+pub columns_up_to-requires-then-step-gt0-clause-divisor : goal.columns_up_to-requires-then-step-gt0-clause-divisor
+columns_up_to-requires-then-step-gt0-clause-divisor c = grind (arith)

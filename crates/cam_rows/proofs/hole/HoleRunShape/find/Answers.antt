@@ -1,4 +1,5 @@
-use Rattle.std.proofs.Common.{sym}
+use Rattle.std.proofs.Common.{sym, arith}
+use Rattle.std.proofs.lemmas.Grind.{common_steps}
 use Rattle.cam_shapes.specs.Disc.{IsInHole}
 use Rattle.cam_rows.specs.Machinery.Narrowing.{IsNearer}
 use Rattle.cam_rows.proofs.Chords.{cast_size, in_any_hole}
@@ -13,3 +14,15 @@ returns c =
     (IsNearer disc.centre c.from-bound.result) (λ s. IsInHole s disc)
     (λ s. in_any_hole s disc _ _ c.requires.sound.diameter (sym (cast_size disc.diameter.0 c.requires.sound.diameter)) c.from-bound.ensures)
     narrowed.ensures
+
+pub overflow_mul-radius : goal.overflow_mul-radius
+overflow_mul-radius c = grind (arith, common_steps)
+
+pub narrow_to_circle-requires-clause-rows : goal.narrow_to_circle-requires-clause-rows
+narrow_to_circle-requires-clause-rows c = assumption arith
+
+pub narrow_to_circle-requires-clause-bound : goal.narrow_to_circle-requires-clause-bound
+narrow_to_circle-requires-clause-bound c = grind (arith, common_steps)
+
+pub overflow_cast-radius : goal.overflow_cast-radius
+overflow_cast-radius c = grind (arith, common_steps)

@@ -1,9 +1,10 @@
 use Rattle.std.proofs.Common.{arith}
+use Rattle.std.proofs.lemmas.Grind.{common_steps}
 use Rattle.std.proofs.lemmas.Int.{ints}
 use Rattle.cam_rows.specs.ArcRuns.{IsInHalf, IsOuter, in_turn}
 use Rattle.cam_rows.specs.Machinery.Narrowing.{IsNearer}
 use Rattle.cam_rows.proofs.ArcRuns.{in_outer}
-use Rattle.cam_rows.proofs.WideRows.{runs_kept, runs_like}
+use Rattle.cam_rows.proofs.WideRows.{runs_kept, runs_like, empty_runs}
 use Rattle.cam_rows.proofs.runs.arc.outer_runs.Goals as goal
 
 pub returns : goal.returns
@@ -26,3 +27,9 @@ returns c =
       }),
       (λ outer. (outer.turn, told.1 outer.near)),
     )) kept
+
+pub returns-then-arc-eq0 : goal.returns-then-arc-eq0
+returns-then-arc-eq0 c = grind (arith, empty_runs)
+
+pub returns-then-is_empty : goal.returns-then-is_empty
+returns-then-is_empty c = grind (arith, common_steps)

@@ -1,4 +1,4 @@
-use Rattle.std.proofs.Common.{of_z, w64, refl, ap}
+use Rattle.std.proofs.Common.{of_z, w64, refl, ap, arith}
 use Rattle.cam_shapes.specs.Bar.{IsInBar}
 use Rattle.cam_rows.proofs.AxisBars.{level_box, upright_box}
 use Rattle.cam_rows.proofs.PassedOn.{same_by_bits, some_by_bits}
@@ -23,3 +23,12 @@ returns-then-from-to-4 c =
     (same_by_bits bar.from.x bar.to.x c.requires.bar.from.x c.requires.bar.to.x c.if-from-to-3.true)
     (λ same. c.if-from-to-4.true (ap (of_z w64) same)) (refl, refl, refl, refl))
     runs.ensures
+
+pub slanted_runs-requires-clause-ends : goal.slanted_runs-requires-clause-ends
+slanted_runs-requires-clause-ends c = grind (arith)
+
+pub box_runs-requires-clause-ends : goal.box_runs-requires-clause-ends
+box_runs-requires-clause-ends c = grind (arith)
+
+pub box_runs-requires-then-from-to-4-clause-ends : goal.box_runs-requires-then-from-to-4-clause-ends
+box_runs-requires-then-from-to-4-clause-ends c = grind (arith)

@@ -1,4 +1,5 @@
 use Rattle.std.proofs.Common.{rules, ◌≡◌, ◌↔◌, ℕ, ◌+◌, ◌-◌, ◌<◌, ◌∙◌, ◌≤ℤ◌, ◌+ℤ◌, pos, length, to_z, of_z, inl, inr, arith}
+use Rattle.std.proofs.lemmas.Grind.{common_steps}
 use Rattle.std.specs.Int.{w64}
 use Rattle.std.proofs.lemmas.Int.{ints}
 use Rattle.cam_units.specs.declared.point.Point.{Point}
@@ -82,3 +83,12 @@ returns c =
       | inl early ↦ absurd (omega (arith, early, on.0))
       | inr late ↦ absurd (omega (arith, late, on.1))
     ]))
+
+pub rows_not_far-first-requires-clause-width : goal.rows_not_far-first-requires-clause-width
+rows_not_far-first-requires-clause-width c = grind (arith)
+
+pub narrow-requires-clause-ends : goal.narrow-requires-clause-ends
+narrow-requires-clause-ends c = omega (arith)
+
+pub narrow-requires-clause-few : goal.narrow-requires-clause-few
+narrow-requires-clause-few c = grind (arith, common_steps)

@@ -1,4 +1,5 @@
 use Rattle.std.proofs.Common.{◌≡◌, ◌<◌, ◌^◌, ◌*◌, pos, ◌*ℤ◌, ◌<ℤ◌, to_z, of_z, ap, ◌∙◌, arith}
+use Rattle.std.proofs.lemmas.Grind.{common_steps}
 use Rattle.std.specs.Int.{w128}
 use Rattle.std.proofs.lemmas.Int.{ints}
 use Rattle.cam_shapes.specs.Plane.{dot, square, way}
@@ -31,3 +32,15 @@ returns-clause-each c = λ z.
     let kept : to_z w128 (of_z w128 c.from-2.result) ≡ pos c.isqrt.result = omega (arith, ints) in
     rw kept (inside_by_root z w (dot a a) c.isqrt.result (c.from.result * length) wide long squared
     c.isqrt.ensures.square c.isqrt.ensures.greatest)
+
+pub overflow_cast-width : goal.overflow_cast-width
+overflow_cast-width c = grind (arith, common_steps)
+
+pub returns-clause-bound : goal.returns-clause-bound
+returns-clause-bound c = grind (arith, common_steps)
+
+pub returns-then-width-eq0-clause-each : goal.returns-then-width-eq0-clause-each
+returns-then-width-eq0-clause-each c = grind (arith, common_steps)
+
+pub overflow_mul-width : goal.overflow_mul-width
+overflow_mul-width c = grind (arith, common_steps)

@@ -58,3 +58,18 @@ returns-in-None c =
       (λ held. near.1 (held.0.1, held.1)),
       (λ within. let sides = near.0 within in ((omega arith, sides.0), sides.1)),
     )) two
+
+pub narrow_left-requires-in-None-clause-rows : goal.narrow_left-requires-in-None-clause-rows
+narrow_left-requires-in-None-clause-rows c = omega (arith)
+
+pub count_both-requires-clause-ends : goal.count_both-requires-clause-ends
+count_both-requires-clause-ends c = omega (arith)
+
+pub narrow_left-requires-in-None-clause-ends : goal.narrow_left-requires-in-None-clause-ends
+narrow_left-requires-in-None-clause-ends c = grind (arith)
+
+pub narrow_left-requires-clause-rows : goal.narrow_left-requires-clause-rows
+narrow_left-requires-clause-rows c = omega (arith)
+
+pub narrow_left-requires-clause-ends : goal.narrow_left-requires-clause-ends
+narrow_left-requires-clause-ends c = omega (arith)

@@ -6,7 +6,7 @@ use Rattle.cam_shapes.specs.declared.swept.Swept.{Swept}
 use Rattle.cam_shapes.specs.Swept.{IsSoundSwept, high_corner, low_corner}
 use Rattle.cam_rows.specs.Rows.{centre_at, row_below}
 use Rattle.cam_rows.proofs.PassedOn.{some_rows}
-use Rattle.cam_rows.proofs.WideRows.{all_found, in_box_run, one_more_run, top_is_wide}
+use Rattle.cam_rows.proofs.WideRows.{all_found, in_box_run, one_more_run, top_is_wide, no_run}
 use Rattle.cam_rows.proofs.runs.boxes.box_runs.Goals as goal
 
 -- the corners lie near the board
@@ -57,3 +57,18 @@ columns_between-all-requires-clause-right c =
 
 pub columns_between-all-requires-clause-row : goal.columns_between-all-requires-clause-row
 columns_between-all-requires-clause-row c = search (rules, top_is_wide, some_rows)
+
+pub high_corner-high-requires : goal.high_corner-high-requires
+high_corner-high-requires c = assumption arith
+
+pub offset_bounds-firsts-k : goal.offset_bounds-firsts-k
+offset_bounds-firsts-k c = omega (arith)
+
+pub offset_bounds-ends-k : goal.offset_bounds-ends-k
+offset_bounds-ends-k c = omega (arith)
+
+pub bounds-firsts-k : goal.bounds-firsts-k
+bounds-firsts-k c = omega (arith)
+
+pub bounds-ends-k : goal.bounds-ends-k
+bounds-ends-k c = omega (arith)

@@ -1,4 +1,5 @@
 use Rattle.std.proofs.Common.{rules, IsTrue, sym, arith}
+use Rattle.std.proofs.lemmas.Grind.{common_steps}
 use Rattle.cam_shapes.specs.Cap.{is_in_circle}
 use Rattle.cam_shapes.specs.Plane.{seen_from, way}
 use Rattle.cam_rows.specs.Rows.{centre_at, row_below}
@@ -60,3 +61,21 @@ loop-k-init g c = record {
   offsets = rw c.leap.ensures.same c.at_middle-chord.ensures.offsets;
   found = no_run _ _ _ _;
 }
+
+pub bounds-firsts-k : goal.bounds-firsts-k
+bounds-firsts-k c = grind (arith)
+
+pub bounds-ends-k : goal.bounds-ends-k
+bounds-ends-k c = omega (arith)
+
+pub run_at-run-requires-clause-chord : goal.run_at-run-requires-clause-chord
+run_at-run-requires-clause-chord c = assumption arith
+
+pub leap-requires-clause-chord : goal.leap-requires-clause-chord
+leap-requires-clause-chord c = assumption arith
+
+pub at_middle-chord-requires-clause-near : goal.at_middle-chord-requires-clause-near
+at_middle-chord-requires-clause-near c = grind (arith)
+
+pub overflow_add-radius : goal.overflow_add-radius
+overflow_add-radius c = grind (arith, common_steps)

@@ -59,3 +59,6 @@ returns-clause-each c = λ i within.
       (λ on. quarter.1 (reach.0 (near.0 on))),
       (λ inside. near.1 (reach.1 (quarter.0 inside))),
     )
+
+pub returns-clause-within : goal.returns-clause-within
+returns-clause-within c = grind (arith)

@@ -1,6 +1,6 @@
 use Rattle.std.proofs.Common.{length, arith}
 use Rattle.cam_shapes.specs.Box.{IsInObround}
-use Rattle.cam_rows.proofs.WideRows.{all_found, one_more_run, top_is_wide}
+use Rattle.cam_rows.proofs.WideRows.{all_found, one_more_run, top_is_wide, no_run}
 use Rattle.cam_rows.proofs.runs.obround.obround_runs.Goals as goal
 
 pub wide_below-requires-clause-top : goal.wide_below-requires-clause-top
@@ -20,3 +20,6 @@ pub returns : goal.returns
 returns c =
     all_found c.loop-k.firsts c.loop-k.ends c.args.top.now (λ s. IsInObround s c.args.obround.now) c.loop-k.k
     (omega (arith, c.loop-k-test.false)) c.loop-k.invariant
+
+pub loop-k-init : goal.loop-k-init
+loop-k-init c = grind (arith, no_run)

@@ -1,4 +1,5 @@
-use Rattle.std.proofs.Common.{ℕ, ◌-◌, ◌^◌, ◌<◌, ℤ, pos, ◌+ℤ◌, ◌-ℤ◌, ◌*ℤ◌, refl, sym, ◌∙◌, arith}
+use Rattle.std.proofs.Common.{ℕ, ◌-◌, ◌^◌, ◌<◌, ℤ, pos, ◌+ℤ◌, ◌-ℤ◌, ◌*ℤ◌, refl, sym, ◌∙◌, arith, rules}
+use Rattle.std.proofs.lemmas.Grind.{common_steps}
 use Rattle.std.proofs.lemmas.Bool.{true≢false}
 use Rattle.cam_shapes.proofs.Crossings.{less_is}
 use Rattle.cam_shapes.proofs.Widths.{at_most_is}
@@ -46,3 +47,9 @@ returns-else-from-last c =
     let off = rw (least, last) at c.if-from-last.false in
     let test = at_most_is (pos 0 -ℤ t.divisor) (after c.args.self t (c.args.rows - 1)) in
     rw (least, last) ((λ on. absurd (true≢false (sym on ∙ off))), (λ rest. test.1 rest.0))
+
+pub overflow_mul-change : goal.overflow_mul-change
+overflow_mul-change c = search rules
+
+pub overflow_sub-from : goal.overflow_sub-from
+overflow_sub-from c = grind (arith, common_steps)

@@ -1,4 +1,5 @@
 use Rattle.std.proofs.Common.{rules, arith}
+use Rattle.std.proofs.lemmas.Grind.{common_steps}
 use Rattle.std.proofs.lemmas.Int.{ints}
 use Rattle.cam_rows.proofs.slope.Steps.of.Goals as goal
 
@@ -15,3 +16,9 @@ overflow_cast-result-3 c = omega (arith, ints, c.is_short.ensures.0 c.if-not-is_
 
 pub returns : goal.returns
 returns c = search rules
+
+pub floor_division-columns-requires-clause-divisor : goal.floor_division-columns-requires-clause-divisor
+floor_division-columns-requires-clause-divisor c = grind (arith)
+
+pub floor_division-columns-requires-clause-number : goal.floor_division-columns-requires-clause-number
+floor_division-columns-requires-clause-number c = grind (arith, common_steps)

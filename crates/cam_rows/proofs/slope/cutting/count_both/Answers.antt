@@ -62,3 +62,12 @@ returns-clause-ends c =
     all_counted c.args.columns (length c.args.firsts.now) c.args.ends.now c.loop-k.ends
     (IsUp (falling c.args.high c.args.steps.now)) c.loop-k.k (omega (arith, c.loop-k-test.false, c.loop-k.invariant.firsts.size))
     c.loop-k.invariant.ends
+
+pub below-first-requires-clause-here : goal.below-first-requires-clause-here
+below-first-requires-clause-here c = grind (arith)
+
+pub below-end-requires-clause-here : goal.below-end-requires-clause-here
+below-end-requires-clause-here c = grind (arith)
+
+pub stays-requires-then-stays-clause-some : goal.stays-requires-then-stays-clause-some
+stays-requires-then-stays-clause-some c = grind (arith)

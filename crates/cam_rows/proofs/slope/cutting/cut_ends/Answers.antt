@@ -1,4 +1,5 @@
 use Rattle.std.proofs.Common.{◌-◌, ◌^◌, length, ◌<◌, slice_index, sym, arith, rules}
+use Rattle.std.proofs.lemmas.Grind.{common_steps}
 use Rattle.cam_rows.proofs.SetRows.{next_set, none_set}
 use Rattle.cam_rows.proofs.SlopeBits.{end_cut, end_cut_to, falling_below, nearer, stays_tells}
 use Rattle.cam_rows.proofs.Slopes.{lowered_none}
@@ -39,3 +40,6 @@ returns-then-stays c = λ k i within.
 
 pub returns : goal.returns
 returns c = λ k i within. c.loop-k.invariant.cut.above k (omega (arith, within, c.loop-k-test.false)) i
+
+pub returns-then-is_empty : goal.returns-then-is_empty
+returns-then-is_empty c = grind (arith, common_steps)

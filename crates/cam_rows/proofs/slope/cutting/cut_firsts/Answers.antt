@@ -27,3 +27,6 @@ loop-k-preserved c =
 
 pub returns : goal.returns
 returns c = λ k i within. c.loop-k.invariant.cut.above k (omega (arith, within, c.loop-k-test.false)) i
+
+pub below-crossing-requires-clause-here : goal.below-crossing-requires-clause-here
+below-crossing-requires-clause-here c = grind (arith)

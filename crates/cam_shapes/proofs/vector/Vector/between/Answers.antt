@@ -5,3 +5,6 @@ use Rattle.cam_shapes.proofs.vector.Vector.between.Goals as goal
 
 pub returns-clause-value : goal.returns-clause-value
 returns-clause-value c = same_vector _ _ (omega (arith, ints)) (omega (arith, ints))
+
+pub returns-clause-short : goal.returns-clause-short
+returns-clause-short c = omega (arith, ints)

@@ -18,3 +18,6 @@ returns-in-Some-Err-clause-after_fault c _ = reading-nil _
 
 pub returns-in-Some-Ok-clause-some : goal.returns-in-Some-Ok-clause-some
 returns-in-Some-Ok-clause-some c = grind (arith, word_given)
+
+pub invariant_of-self-in-Some-Ok : goal.invariant_of-self-in-Some-Ok
+invariant_of-self-in-Some-Ok c = grind (arith)

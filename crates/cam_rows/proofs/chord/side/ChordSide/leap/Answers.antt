@@ -16,3 +16,30 @@ widen-requires-clause-near g c = λ j before beyond. elim c.else-inside-gt0.bran
       j (c.min-inside.result - 1) (omega (arith, before)) beyond)))
   | else-inside-gt0-via-else-inside-gt0 w ↦ absurd (omega (arith, before, w.if-inside-gt0.false))
 ]
+
+pub overflow_mul-self : goal.overflow_mul-self
+overflow_mul-self c = grind (arith)
+
+pub returns-then-is_last_beyond-clause-reached : goal.returns-then-is_last_beyond-clause-reached
+returns-then-is_last_beyond-clause-reached c = assumption arith
+
+pub overflow_add-self : goal.overflow_add-self
+overflow_add-self c = grind (arith)
+
+pub widen-requires-clause-side : goal.widen-requires-clause-side
+widen-requires-clause-side c = grind (arith)
+
+pub returns-then-is_last_beyond-clause-side : goal.returns-then-is_last_beyond-clause-side
+returns-then-is_last_beyond-clause-side c = grind (arith)
+
+pub returns-else-inside-gt0-clause-reached : goal.returns-else-inside-gt0-clause-reached
+returns-else-inside-gt0-clause-reached c = assumption arith
+
+pub is_last_beyond-requires-clause-side : goal.is_last_beyond-requires-clause-side
+is_last_beyond-requires-clause-side c = grind (arith)
+
+pub narrow-requires-clause-side : goal.narrow-requires-clause-side
+narrow-requires-clause-side c = grind (arith)
+
+pub returns-else-inside-gt0-clause-side : goal.returns-else-inside-gt0-clause-side
+returns-else-inside-gt0-clause-side c = grind (arith)

@@ -18,3 +18,21 @@ returns-clause-reached g c =
       | else-loop-self-test w ↦ absurd (omega (arith, (past_start g.row.REACH c.loop-self.self c.loop-self.invariant.side).1 some, w.loop-self-test.false))
     ]) in
     record { near = reached.near; beyond = reached.beyond }
+
+pub loop-self-init : goal.loop-self-init
+loop-self-init c = grind (arith)
+
+pub overflow_sub-self-in-loop-self : goal.overflow_sub-self-in-loop-self
+overflow_sub-self-in-loop-self c = grind (arith)
+
+pub overflow_sub-self : goal.overflow_sub-self
+overflow_sub-self c = grind (arith)
+
+pub is_last_beyond-requires-clause-side : goal.is_last_beyond-requires-clause-side
+is_last_beyond-requires-clause-side c = grind (arith)
+
+pub loop-self-smaller : goal.loop-self-smaller
+loop-self-smaller c = grind (arith)
+
+pub returns-clause-side : goal.returns-clause-side
+returns-clause-side c = assumption arith

@@ -31,3 +31,15 @@ is_beyond-requires-clause-near g c =
     let some = (before_end g.row.REACH _ c.args.self.now s side c.loop-self.invariant.same c.from.ensures).0
     c.loop-self-test.true in
     rw side.next (side.near s.inside some)
+
+pub loop-self-preserved : goal.loop-self-preserved
+loop-self-preserved c = grind (arith)
+
+pub returns-clause-side : goal.returns-clause-side
+returns-clause-side c = assumption arith
+
+pub loop-self-smaller : goal.loop-self-smaller
+loop-self-smaller c = grind (arith)
+
+pub loop-self-init : goal.loop-self-init
+loop-self-init c = grind (arith)

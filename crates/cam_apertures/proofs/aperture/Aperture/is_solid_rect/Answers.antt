@@ -1,0 +1,8 @@
+use Rattle.std.proofs.Common.{arith}
+use Rattle.cam_apertures.proofs.aperture.Aperture.is_solid_rect.Goals as goal
+
+pub returns-in_default : goal.returns-in_default
+returns-in_default c = grind (arith)
+
+pub returns-in-Rect : goal.returns-in-Rect
+returns-in-Rect c = grind (arith)
