@@ -17,7 +17,7 @@ use Rattle.cam_units.specs.declared.turn.Turn.{Turn}
 use Rattle.cam_units.specs.declared.turn.Turn.TheVariants.{R0}
 use Rattle.cam_units.proofs.Ring.{Atom, Difference, Product, equal}
 use Rattle.cam_shapes.specs.Bar.{IsInCapsule, IsNearLine, IsNearSegment}
-use Rattle.cam_shapes.specs.Plane.{cross, place_of, seen_from, square, way}
+use Rattle.cam_shapes.specs.Plane.{cross, place_of, seen_from, way}
 use Rattle.cam_shapes.specs.Swept.{IsNearWay, corner_reach}
 use Rattle.cam_shapes.specs.declared.capsule.Capsule.{Capsule}
 use Rattle.cam_shapes.specs.declared.swept.Swept.{Swept}

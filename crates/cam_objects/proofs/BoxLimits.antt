@@ -1,31 +1,5 @@
 -- boxes whose corners stand in order, at most n from the origin
-use Rattle.std.proofs.Common.{
-  ◌≡◌,
-  ℕ,
-  ◌+◌,
-  ◌*◌,
-  ◌^◌,
-  ◌<◌,
-  ◌≤◌,
-  true,
-  false,
-  ◌||◌,
-  ℤ,
-  pos,
-  neg_ℤ,
-  ◌+ℤ◌,
-  ◌-ℤ◌,
-  ◌*ℤ◌,
-  ◌≤ℤ◌,
-  List,
-  [],
-  ◌∷◌,
-  refl,
-  sym,
-  subst,
-  ◌∙◌,
-  arith,
-}
+use Rattle.std.proofs.Common.{◌≡◌, ℕ, ◌+◌, ◌*◌, ◌^◌, ◌<◌, ◌≤◌, false, ◌||◌, ℤ, pos, neg_ℤ, ◌+ℤ◌, ◌-ℤ◌, ◌*ℤ◌, ◌≤ℤ◌, List, [], ◌∷◌, arith}
 use Rattle.std.specs.Prelude.{fold, ⊤}
 use Rattle.std.specs.List.{All}
 use Rattle.std.specs.Int.{int_min, int_max}

@@ -1,33 +1,6 @@
 -- an entry more changes the meaning of no number that is there
 use Rattle.std.proofs.Common.{arith, rules}
-use Rattle.std.proofs.Common.{
-  ◌≡◌,
-  ℕ,
-  ◌+◌,
-  ◌*◌,
-  ◌≤◌,
-  Bool,
-  true,
-  false,
-  cond,
-  pos,
-  ◌*ℤ◌,
-  List,
-  [],
-  ◌∷◌,
-  ◌++◌,
-  reverse,
-  None,
-  Some,
-  nat_eq,
-  slice_index_or,
-  sum_by,
-  refl,
-  sym,
-  ap,
-  subst,
-  ◌∙◌,
-}
+use Rattle.std.proofs.Common.{◌≡◌, ℕ, ◌+◌, ◌≤◌, false, pos, ◌*ℤ◌, List, [], ◌∷◌, ◌++◌, reverse, None, nat_eq, slice_index_or, sum_by, refl, sym, subst, ◌∙◌}
 use Rattle.std.specs.List.{All, flat_map, range_with_len}
 use Rattle.std.specs.Map.{lookup}
 use Rattle.std.proofs.lemmas.Bool.{eqb-true, false≢true}
@@ -39,25 +12,7 @@ use Rattle.cam_objects.specs.declared.item.Item.{Item}
 use Rattle.cam_objects.specs.declared.item.Item.TheVariants.{One, Repeat}
 use Rattle.cam_objects.specs.declared.object.Object.{Object}
 use Rattle.cam_objects.specs.declared.placing.place.Place.{Place}
-use Rattle.cam_objects.specs.Leaves.{
-  Meaning,
-  arc_leaves,
-  block_leaves,
-  draw_leaves,
-  entry_meaning,
-  flashed,
-  item_leaves,
-  leaves_of,
-  meaning_in,
-  no_meaning,
-  object_leaves,
-  origin,
-  placed,
-  polarity_in,
-  shifted,
-  stands_for,
-  round_width,
-}
+use Rattle.cam_objects.specs.Leaves.{block_leaves, entry_meaning, item_leaves, leaves_of, meaning_in, no_meaning, object_leaves, origin, shifted, stands_for}
 use Rattle.cam_objects.specs.Soundness.{AreOnBoard, IsSoundContent, IsSoundItem, MayAddEntry, objects_of}
 use Rattle.cam_objects.specs.Weights.{block_count, entry_weight, item_count, no_weight, object_count, weight_in}
 use Rattle.cam_objects.proofs.KeptFacts.{sound_grows}

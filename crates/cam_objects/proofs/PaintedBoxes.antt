@@ -1,36 +1,5 @@
 -- the box of the control points of what an object or a repeat paints, and whether it lies on the board
-use Rattle.std.proofs.Common.{
-  ◌≡◌,
-  ℕ,
-  zero,
-  suc,
-  ◌-◌,
-  ◌*◌,
-  ◌<◌,
-  Bool,
-  true,
-  false,
-  ℤ,
-  pos,
-  ◌+ℤ◌,
-  ◌*ℤ◌,
-  ◌≤ℤ◌,
-  List,
-  [],
-  ◌∷◌,
-  reverse,
-  Option,
-  None,
-  Some,
-  IsTrue,
-  ◌↔◌,
-  refl,
-  sym,
-  ap,
-  subst,
-  ◌∙◌,
-  arith,
-}
+use Rattle.std.proofs.Common.{◌≡◌, ℕ, zero, suc, ◌-◌, ◌*◌, ◌<◌, Bool, true, false, ℤ, pos, ◌*ℤ◌, List, [], ◌∷◌, reverse, Option, None, Some, IsTrue, ◌↔◌, refl, sym, ap, subst, ◌∙◌, arith}
 use Rattle.std.specs.List.{All}
 use Rattle.std.specs.Option.{IsSome}
 use Rattle.std.specs.Int.RustNames.{unsigned_abs}

@@ -11,7 +11,6 @@ use Rattle.cam_units.specs.declared.turn.Turn.{Turn}
 use Rattle.cam_units.specs.declared.turn.Turn.TheVariants.{R0, R90, R180, R270, M0, M90, M180, M270}
 use Rattle.cam_apertures.specs.Turned.{turned_box, turned_corners}
 use Rattle.cam_objects.specs.declared.placing.place.Place.{Place}
-use Rattle.cam_objects.specs.Bounds.{moved}
 use Rattle.cam_objects.specs.Machinery.Boxes.{IsBackFrom, IsNearBox, IsNearSpot, placed_bounds, turned_back}
 
 -- ---- a coordinate that is moved back

@@ -1,44 +1,7 @@
 -- what the entries of a sound dictionary paint has sizes, so that its boxes stand in order
 use Rattle.std.proofs.lemmas.Grind.{common_steps}
 use Rattle.std.proofs.Common.{rules}
-use Rattle.std.proofs.Common.{
-  ◌≡◌,
-  ℕ,
-  zero,
-  suc,
-  ◌+◌,
-  ◌*◌,
-  ◌<◌,
-  ◌≤◌,
-  Bool,
-  true,
-  false,
-  cond,
-  ℤ,
-  pos,
-  ◌+ℤ◌,
-  ◌-ℤ◌,
-  ◌*ℤ◌,
-  List,
-  [],
-  ◌∷◌,
-  length,
-  take,
-  reverse,
-  get_or,
-  map,
-  Option,
-  None,
-  Some,
-  nat_eq,
-  sym,
-  ap,
-  subst,
-  ◌∙◌,
-  inl,
-  inr,
-  arith,
-}
+use Rattle.std.proofs.Common.{◌≡◌, ℕ, zero, suc, ◌+◌, ◌*◌, ◌<◌, ◌≤◌, Bool, true, false, cond, ℤ, pos, ◌+ℤ◌, ◌-ℤ◌, ◌*ℤ◌, List, [], ◌∷◌, length, take, reverse, get_or, map, Option, nat_eq, sym, ap, subst, ◌∙◌, arith}
 use Rattle.std.specs.List.{All, flat_map}
 use Rattle.std.specs.Option.{IfSome}
 use Rattle.std.specs.Int.RustNames.{unsigned_abs}
@@ -79,32 +42,7 @@ use Rattle.cam_objects.specs.declared.entry.Entry.{Entry}
 use Rattle.cam_objects.specs.declared.entry.Entry.TheVariants.{Aperture, Block}
 use Rattle.cam_objects.specs.declared.placing.place.Place.{Place}
 use Rattle.cam_objects.specs.Bounds.{bounds_of, box_of_all, box_of_cap, box_of_contour, box_of_shape, circle_square, root}
-use Rattle.cam_objects.specs.Leaves.{
-  Filled,
-  Leaf,
-  Meaning,
-  Shape,
-  Stamp,
-  Stroke,
-  Sweep,
-  Drilled,
-  arc_leaves,
-  block_leaves,
-  draw_leaves,
-  entry_meaning,
-  flashed,
-  leaf,
-  meaning,
-  meaning_in,
-  no_meaning,
-  object_leaves,
-  placed,
-  polarity_in,
-  Swept,
-  drawn,
-  round_width,
-  turned_tip,
-}
+use Rattle.cam_objects.specs.Leaves.{Filled, Leaf, Meaning, Shape, Stamp, Stroke, Sweep, Drilled, arc_leaves, block_leaves, draw_leaves, entry_meaning, leaf, meaning, meaning_in, no_meaning, object_leaves, Swept, drawn, round_width, turned_tip}
 use Rattle.cam_objects.specs.Machinery.Boxes.{AreSized, IsNearBox, IsSizedShape, IsBoxReach, IsSizedTip}
 use Rattle.cam_objects.specs.Machinery.Painting.{meaning_before}
 use Rattle.cam_objects.specs.Soundness.{

@@ -40,3 +40,9 @@ in_contour-requires c = record { spot = reached c.args.spot c.requires.spot; con
 pub returns-in-Filled : goal.returns-in-Filled
 returns-in-Filled c =
     subst (λ (f : Figure). IsTrue c.in_contour.result ↔ Covers (shape_of f) c.args.spot) (sym c.in-Filled.is) c.in_contour.ensures
+
+pub covers-requires-clause-sound : goal.covers-requires-clause-sound
+covers-requires-clause-sound c = grind (arith)
+
+pub returns-in-Stamp : goal.returns-in-Stamp
+returns-in-Stamp c = grind (arith)

@@ -1,4 +1,5 @@
 use Rattle.std.proofs.Common.{◌<◌, ◌≡◌, length, arith, ap}
+use Rattle.std.proofs.lemmas.Grind.{common_steps}
 use Rattle.std.proofs.lemmas.List.Edits.{map_over_more}
 use Rattle.cam_objects.specs.Shifting.{shifted_object}
 use Rattle.cam_objects.proofs.object.shift_objects.Goals as goal
@@ -11,3 +12,6 @@ loop-object-preserved c =
     rw (c.shift.ensures, ← c.object-item.is)
     (map_over_more (shifted_object c.args.by) c.args.objects.now c.loop-object.object-items c.loop-object.object-index
     c.object-item.result within c.loop-object.invariant c.object-item.is)
+
+pub returns : goal.returns
+returns c = grind (arith, common_steps)

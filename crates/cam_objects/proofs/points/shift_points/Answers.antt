@@ -1,4 +1,5 @@
 use Rattle.std.proofs.Common.{◌<◌, ◌≡◌, length, arith, ap}
+use Rattle.std.proofs.lemmas.Grind.{common_steps}
 use Rattle.std.proofs.lemmas.List.{get_or_default}
 use Rattle.std.proofs.lemmas.List.Edits.{map_over_more}
 use Rattle.cam_shapes.specs.Shifting.{shifted_point}
@@ -13,3 +14,6 @@ loop-point-preserved c =
     rw c.shifted.ensures
     (map_over_more (shifted_point c.args.by) c.args.points.now c.loop-point.point-items c.loop-point.point-index _ within
     c.loop-point.invariant (get_or_default c.loop-point.point-items c.loop-point.point-index _ _ here))
+
+pub returns : goal.returns
+returns c = grind (arith, common_steps)

@@ -1,4 +1,4 @@
-use Rattle.std.proofs.Common.{◌↔◌, IsTrue, ◌&&◌, sym, subst}
+use Rattle.std.proofs.Common.{◌↔◌, IsTrue, ◌&&◌, sym, subst, arith}
 use Rattle.cam_units.specs.declared.bounds.Bounds.{Bounds}
 use Rattle.cam_units.specs.declared.bounds.Bounds.TheVariants.{Closed}
 use Rattle.cam_objects.specs.Enclosed.{IsEnclosed}
@@ -15,3 +15,9 @@ returns-in-Closed-Closed c =
     (subst (λ (outer : Bounds). IsTrue ((a && b) && d) ↔ IsEnclosed (Closed k.low k.high) outer) (sym k.is-1)
     (enclosed k.low k.high k.least k.greatest a b d c.is_between.ensures c.is_between-in-Closed-Closed.ensures
     c.is_between-in-Closed-Closed-2.ensures))
+
+pub returns-in_default-2 : goal.returns-in_default-2
+returns-in_default-2 c = grind (arith)
+
+pub returns-in_default : goal.returns-in_default
+returns-in_default c = grind (arith)

@@ -1,4 +1,5 @@
 use Rattle.std.proofs.Common.{rules, List, ap, sym, ◌∙◌, arith}
+use Rattle.std.proofs.lemmas.Grind.{common_steps}
 use Rattle.std.proofs.lemmas.List.{take_all}
 use Rattle.cam_objects.specs.declared.object.Object.{Object}
 use Rattle.cam_objects.specs.Bounds.{bounds_of, box_of_all}
@@ -16,3 +17,6 @@ returns-clause-value c =
 
 pub returns-clause-near : goal.returns-clause-near
 returns-clause-near c = search (rules, returns-clause-value, near_block)
+
+pub loop-object-preserved : goal.loop-object-preserved
+loop-object-preserved c = grind (arith, common_steps)

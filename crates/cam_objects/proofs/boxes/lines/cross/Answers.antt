@@ -1,4 +1,4 @@
-use Rattle.std.proofs.Common.{◌≡◌, ◌*ℤ◌, arith}
+use Rattle.std.proofs.Common.{◌≡◌, ◌*ℤ◌, arith, rules}
 use Rattle.cam_units.specs.Board.{IsInReach}
 use Rattle.cam_units.specs.declared.point.Spot.{Spot}
 use Rattle.cam_shapes.specs.declared.vector.Vector.{Vector}
@@ -41,3 +41,9 @@ returns-clause-short c =
     let bound = cross_bound (vector c.args.way) (vector c.args.seen) (short c.args.way c.requires.way)
     (short c.args.seen c.requires.seen) in
     rw (first c, second c, kept (crossed c.args.way c.args.seen) bound) bound
+
+pub overflow_mul-result-2 : goal.overflow_mul-result-2
+overflow_mul-result-2 c = search rules
+
+pub overflow_mul-result : goal.overflow_mul-result
+overflow_mul-result c = search rules

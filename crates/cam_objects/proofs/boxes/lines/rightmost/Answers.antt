@@ -1,4 +1,4 @@
-use Rattle.std.proofs.Common.{◌≡◌, ◌⊎◌, inl, inr, ℤ, pos, ◌-ℤ◌, ◌*ℤ◌, ◌≤ℤ◌, to_z, w64, arith}
+use Rattle.std.proofs.Common.{◌≡◌, ◌⊎◌, inl, inr, ℤ, pos, ◌-ℤ◌, ◌*ℤ◌, ◌≤ℤ◌, to_z, w64, arith, rules}
 use Rattle.std.proofs.lemmas.Int.{ints}
 use Rattle.cam_objects.proofs.BesideLines.{far_above, far_below, less_apart, near_above, near_below}
 use Rattle.cam_objects.proofs.boxes.lines.rightmost.Goals.{then-way-lt0, else-way-lt0}
@@ -34,3 +34,9 @@ returns-else-way-lt0-2-clause-least c = λ p s inside.
     (near_below c.args.way.x _ s.y _ c.args.low.y (omega (arith, ints, c.if-way-lt0-2.false, c.requires.way.x))
     (omega (arith, ints, c.requires.low.y)) inside.below)
     (greatest c.args.way.y c.args.low.x c.args.high.x x s.x _ side inside.left inside.right)
+
+pub returns-then-way-lt0-2-clause-place : goal.returns-then-way-lt0-2-clause-place
+returns-then-way-lt0-2-clause-place c = search rules
+
+pub returns-else-way-lt0-2-clause-place : goal.returns-else-way-lt0-2-clause-place
+returns-else-way-lt0-2-clause-place c = search rules

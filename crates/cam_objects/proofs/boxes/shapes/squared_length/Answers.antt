@@ -29,3 +29,15 @@ returns-clause-value c =
     let v = way c.args.from.now c.args.to.now in
     sum_of_squares v.x v.y c.distance-x.result c.distance-y.result
     (omega (arith, ints, c.distance-x.ensures.value)) (omega (arith, ints, c.distance-y.ensures.value))
+
+pub distance-y-requires-clause-from : goal.distance-y-requires-clause-from
+distance-y-requires-clause-from c = grind (arith)
+
+pub distance-y-requires-clause-to : goal.distance-y-requires-clause-to
+distance-y-requires-clause-to c = grind (arith)
+
+pub distance-x-requires-clause-from : goal.distance-x-requires-clause-from
+distance-x-requires-clause-from c = grind (arith)
+
+pub distance-x-requires-clause-to : goal.distance-x-requires-clause-to
+distance-x-requires-clause-to c = grind (arith)

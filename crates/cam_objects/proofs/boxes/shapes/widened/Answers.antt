@@ -18,3 +18,15 @@ returns-in-Closed-clause-sides c =
 
 pub returns-in-Closed-clause-even : goal.returns-in-Closed-clause-even
 returns-in-Closed-clause-even c = λ same. grind (arith, returns-in-Closed-clause-sides, alike)
+
+pub overflow_sub-result-in-Closed : goal.overflow_sub-result-in-Closed
+overflow_sub-result-in-Closed c = grind (arith)
+
+pub overflow_add-result-in-Closed : goal.overflow_add-result-in-Closed
+overflow_add-result-in-Closed c = grind (arith)
+
+pub overflow_sub-result : goal.overflow_sub-result
+overflow_sub-result c = grind (arith)
+
+pub overflow_add-result : goal.overflow_add-result
+overflow_add-result c = grind (arith)

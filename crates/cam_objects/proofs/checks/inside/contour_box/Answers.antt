@@ -1,4 +1,5 @@
 use Rattle.std.proofs.Common.{◌≡◌, List, ◌∷◌, sym, subst, arith}
+use Rattle.std.proofs.lemmas.Grind.{common_steps}
 use Rattle.std.specs.List.{All, flat_map}
 use Rattle.std.proofs.lemmas.List.Elements.{All-head, All-tail}
 use Rattle.cam_units.specs.Board.{IsOnBoard}
@@ -29,3 +30,6 @@ joined_points-all-requires-in-Curve c =
     let k = c.args.contour.now in
     subst (λ s. All IsOnBoard (points_of_seg s)) c.in-Curve.is
     (on_board k.start k.segs _ c.requires c.as_slice-seg-items.ensures c.loop-seg.seg-index _ (omega arith))
+
+pub loop-seg-preserved : goal.loop-seg-preserved
+loop-seg-preserved c = grind (arith, common_steps)

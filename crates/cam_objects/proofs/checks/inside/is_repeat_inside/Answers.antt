@@ -1,4 +1,4 @@
-use Rattle.std.proofs.Common.{sym, ap, ◌∙◌}
+use Rattle.std.proofs.Common.{sym, ap, ◌∙◌, arith}
 use Rattle.std.proofs.lemmas.Bool.{false_from_ne_true, false≢true}
 use Rattle.cam_units.specs.declared.point.Point.{Point}
 use Rattle.cam_objects.specs.declared.item.Item.TheVariants.{Repeat}
@@ -44,3 +44,18 @@ returns c =
     c.painted_boxes-one.ensures (c.fits_box.ensures.0 c.if-not-fits_box.false)
     (c.moved.ensures ∙ ap (λ (o : Point). moved o c.painted_boxes-one.result) c.last.ensures.value) c.fits_box-2.ensures)
     (inside_law es (Repeat copies.columns copies.rows copies.i copies.j c.args.objects.now))
+
+pub last-requires-clause-up : goal.last-requires-clause-up
+last-requires-clause-up c = grind (arith)
+
+pub last-requires-clause-copies : goal.last-requires-clause-copies
+last-requires-clause-copies c = grind (arith)
+
+pub painted_boxes-one-requires : goal.painted_boxes-one-requires
+painted_boxes-one-requires c = grind (arith)
+
+pub moved-requires-clause-bounds : goal.moved-requires-clause-bounds
+moved-requires-clause-bounds c = grind (arith)
+
+pub last-requires-clause-across : goal.last-requires-clause-across
+last-requires-clause-across c = grind (arith)

@@ -29,3 +29,6 @@ pub returns-in_default : goal.returns-in_default
 returns-in_default c =
     c.standing_box.ensures ∙ sym (painted_standing
     (meaning_in c.args.entries.now) c.args.object.now c.in_default.not-Flash c.requires.drawable)
+
+pub bounds-requires-clause-bounds : goal.bounds-requires-clause-bounds
+bounds-requires-clause-bounds c = grind (arith)

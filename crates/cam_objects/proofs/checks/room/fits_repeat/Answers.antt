@@ -1,4 +1,5 @@
-use Rattle.std.proofs.Common.{◌↔◌, ◌*◌, ◌≤◌, IsTrue, length, rules}
+use Rattle.std.proofs.Common.{◌↔◌, ◌*◌, ◌≤◌, IsTrue, length, rules, arith}
+use Rattle.std.proofs.lemmas.Grind.{common_steps}
 use Rattle.std.specs.List.{All}
 use Rattle.cam_objects.specs.Soundness.{has_few_segs, segs_of}
 use Rattle.cam_objects.specs.Weights.{block_count, weight_in}
@@ -14,3 +15,6 @@ returns-then-all c =
     same_test c.is_some.result _ told
     (both (all has_few_segs (λ o. length (segs_of o) ≤ 1000000) (λ o. at_most (length (segs_of o)) 1000000) os)
     (both (at_most (length os) 1000000) (at_most count 4000000)))
+
+pub returns-else-all : goal.returns-else-all
+returns-else-all c = grind (arith, common_steps)

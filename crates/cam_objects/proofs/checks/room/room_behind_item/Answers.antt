@@ -13,3 +13,9 @@ returns-then-objects-gt-LEAF_LIMIT-clause-past c =
     subst (λ (item : Item). c.args.room < item_count w item) (sym r.is)
     (past_room w r.objects (r.columns * r.rows) c.args.room (omega (arith, same)) c.requires
     (omega (arith, ap length c.as_slice-objects.ensures)))
+
+pub returns-else-objects-gt-LEAF_LIMIT-clause-fits : goal.returns-else-objects-gt-LEAF_LIMIT-clause-fits
+returns-else-objects-gt-LEAF_LIMIT-clause-fits c = grind (arith)
+
+pub returns-else-objects-gt-LEAF_LIMIT-clause-past : goal.returns-else-objects-gt-LEAF_LIMIT-clause-past
+returns-else-objects-gt-LEAF_LIMIT-clause-past c = grind (arith)

@@ -11,3 +11,9 @@ returns-in-Some-clause-distinct c = grind arith
 
 pub returns-in-None-clause-distinct : goal.returns-in-None-clause-distinct
 returns-in-None-clause-distinct c = grind arith
+
+pub returns-in-Some-clause-absent : goal.returns-in-Some-clause-absent
+returns-in-Some-clause-absent c = grind (arith)
+
+pub returns-in-None-clause-absent : goal.returns-in-None-clause-absent
+returns-in-None-clause-absent c = grind (arith)

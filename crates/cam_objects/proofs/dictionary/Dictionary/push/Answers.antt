@@ -1,4 +1,4 @@
-use Rattle.std.proofs.Common.{ℕ, List, [], ◌∷◌, ◌++◌, sym, ap, subst, ◌∙◌}
+use Rattle.std.proofs.Common.{ℕ, List, [], ◌∷◌, ◌++◌, sym, ap, subst, ◌∙◌, arith}
 use Rattle.cam_objects.specs.Cells.{Reaches}
 use Rattle.cam_objects.specs.declared.entry.Entry.{Entry}
 use Rattle.cam_objects.specs.declared.checks.facts.Facts.{Facts}
@@ -33,3 +33,24 @@ pub returns-clause-ok : goal.returns-clause-ok
 returns-clause-ok c =
     c.insert_new.ensures
     ∙ ap (λ (es : List (ℕ × Entry)). es ++ (c.args.number, c.args.entry) ∷ []) (c.make_room.ensures.entries ∙ c.self.view_is)
+
+pub invariant_of-self : goal.invariant_of-self
+invariant_of-self c = grind (arith)
+
+pub insert_new-requires-clause-absent : goal.insert_new-requires-clause-absent
+insert_new-requires-clause-absent c = grind (arith)
+
+pub insert_new-requires-clause-room : goal.insert_new-requires-clause-room
+insert_new-requires-clause-room c = grind (arith)
+
+pub invariant_of-self-2 : goal.invariant_of-self-2
+invariant_of-self-2 c = grind (arith)
+
+pub invariant_of-self-3 : goal.invariant_of-self-3
+invariant_of-self-3 c = grind (arith)
+
+pub of-facts-requires : goal.of-facts-requires
+of-facts-requires c = grind (arith)
+
+pub entry_cells-cells-requires : goal.entry_cells-cells-requires
+entry_cells-cells-requires c = grind (arith)

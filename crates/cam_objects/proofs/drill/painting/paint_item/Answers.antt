@@ -54,3 +54,12 @@ paint_rout-requires-clause-points g c =
 pub paint_rout-requires-clause-diameter : goal.paint_rout-requires-clause-diameter
 paint_rout-requires-clause-diameter g c =
     tool_size c.args.tools.now c.tool.result c.in-Some.diameter c.requires.tools (sym c.in-Some.ensures)
+
+pub returns-else-is_decided_in : goal.returns-else-is_decided_in
+returns-else-is_decided_in c = grind (arith)
+
+pub returns-in_default : goal.returns-in_default
+returns-in_default c = grind (arith)
+
+pub returns-in-Hit : goal.returns-in-Hit
+returns-in-Hit c = grind (arith)

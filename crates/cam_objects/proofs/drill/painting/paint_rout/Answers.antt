@@ -23,3 +23,6 @@ loop-k-preserved g c =
 
 pub returns : goal.returns
 returns g c = grind (arith, paints_rout)
+
+pub returns-then-points-eq1 : goal.returns-then-points-eq1
+returns-then-points-eq1 c = grind (arith)

@@ -1,4 +1,5 @@
 use Rattle.std.proofs.Common.{◌≡◌, ◌-◌, drop, subst, arith}
+use Rattle.std.proofs.lemmas.Grind.{common_steps}
 use Rattle.cam_objects.specs.Canvases.{Paints}
 use Rattle.cam_objects.specs.Drilling.{drill_item_leaves, drill_leaves}
 use Rattle.cam_objects.proofs.Canvases.{paints_listed}
@@ -18,3 +19,6 @@ returns g c =
     let first : c.loop-place.place ≡ 0 = omega arith in
     subst (λ k. Paints canvas.has canvas.place canvas.ink c.args.canvas.now
     (drill_leaves layer.tools (drop k layer.items.items)) c.loop-place.canvas) first c.loop-place.invariant
+
+pub loop-place-init : goal.loop-place-init
+loop-place-init c = grind (arith, common_steps)

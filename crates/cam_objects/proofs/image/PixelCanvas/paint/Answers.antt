@@ -4,7 +4,6 @@ use Rattle.std.proofs.lemmas.Bool.{false≢true}
 use Rattle.cam_units.specs.declared.point.Spot.{Spot}
 use Rattle.cam_objects.specs.Canvases.{leaf_of}
 use Rattle.cam_objects.specs.Image.{IsUncovered}
-use Rattle.cam_objects.specs.Tests.{covers}
 use Rattle.cam_objects.proofs.Canvases.{paints_off}
 use Rattle.cam_objects.proofs.Inking.{uncovered_cons, uncovered_nil}
 use Rattle.cam_objects.proofs.LastInks.{ink_of, or_decided}

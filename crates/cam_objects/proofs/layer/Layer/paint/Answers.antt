@@ -1,4 +1,5 @@
 use Rattle.std.proofs.Common.{◌-◌, arith}
+use Rattle.std.proofs.lemmas.Grind.{common_steps}
 use Rattle.cam_objects.specs.Leaves.{item_leaves, meaning_in}
 use Rattle.cam_objects.proofs.Canvases.{paints_listed}
 use Rattle.cam_objects.proofs.layer.Layer.paint.Goals as goal
@@ -12,3 +13,6 @@ loop-place-preserved g c =
 
 pub returns : goal.returns
 returns g c = grind arith
+
+pub loop-place-init : goal.loop-place-init
+loop-place-init c = grind (arith, common_steps)

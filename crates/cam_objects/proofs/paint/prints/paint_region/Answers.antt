@@ -26,3 +26,6 @@ paint_leaf-requires g c =
     let place = c.args.place.now in
     sound_print _ c.requires.contour
     (c.bounds.ensures ∙ ap (placed_bounds place) c.contour_bounds.ensures ∙ sym (shapes_so.filled place c.args.contour.now))
+
+pub returns : goal.returns
+returns c = grind (arith)

@@ -1,4 +1,4 @@
-use Rattle.std.proofs.Common.{ap, sym, subst, ◌∙◌}
+use Rattle.std.proofs.Common.{ap, sym, subst, ◌∙◌, arith}
 use Rattle.cam_units.specs.Board.{IsOnBoard}
 use Rattle.cam_objects.specs.Bounds.{box_of_shape}
 use Rattle.cam_objects.proofs.Canvases.{sound_print}
@@ -19,3 +19,6 @@ drawn_bounds-requires-clause-to g c = subst IsOnBoard (sym c.point-to.ensures) c
 pub paint_leaf-requires : goal.paint_leaf-requires
 paint_leaf-requires g c =
     sound_print _ c.drawn.ensures.sound (c.drawn_bounds.ensures ∙ ap (λ s. box_of_shape s) (sym c.drawn.ensures.shape))
+
+pub returns : goal.returns
+returns c = grind (arith)

@@ -1,4 +1,4 @@
-use Rattle.std.proofs.Common.{sym, subst}
+use Rattle.std.proofs.Common.{sym, subst, arith}
 use Rattle.cam_units.specs.Board.{IsOnBoard}
 use Rattle.cam_objects.proofs.Canvases.{sound_print}
 use Rattle.cam_objects.proofs.paint.prints.paint_sweep.Goals as goal
@@ -12,3 +12,9 @@ paint_leaf-requires g c =
       centre = subst IsOnBoard (sym c.point-3.ensures) c.requires.centre.there;
       width = c.requires.width;
     }) c.sweep_bounds.ensures
+
+pub sweep_bounds-requires : goal.sweep_bounds-requires
+sweep_bounds-requires c = grind (arith)
+
+pub returns : goal.returns
+returns c = grind (arith)

@@ -17,3 +17,6 @@ returns c =
     subst (λ (layer : DrillLayer). IsTrue c.item_covers.result
     ↔ IsCoveredBy (leaves_at (drill_item_lists layer.tools layer.items.items) c.args.place) c.args.at)
     c.layer.ensures.value c.item_covers.ensures
+
+pub item_covers-requires-clause-sound : goal.item_covers-requires-clause-sound
+item_covers-requires-clause-sound c = grind (arith)

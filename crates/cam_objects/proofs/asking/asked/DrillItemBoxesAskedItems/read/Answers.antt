@@ -1,4 +1,5 @@
 use Rattle.std.proofs.Common.{◌≡◌, List, arith}
+use Rattle.std.proofs.lemmas.Grind.{common_steps}
 use Rattle.std.proofs.lemmas.List.{length-map}
 use Rattle.cam_objects.specs.Bounds.{bounds_of}
 use Rattle.cam_objects.specs.Drilling.{drill_item_leaves}
@@ -12,3 +13,9 @@ returns-clause-value c =
     at_place (drill_item_leaves layer.tools) layer.items.items c.args.place
     (λ (leaves : List Leaf). c.read.result ≡ bounds_of leaves)
     (omega (arith, c.requires, length-map {B = List Leaf} layer.items.items (drill_item_leaves layer.tools))) c.read.ensures.value
+
+pub read-requires : goal.read-requires
+read-requires c = grind (arith, common_steps)
+
+pub returns-clause-list : goal.returns-clause-list
+returns-clause-list c = grind (arith)

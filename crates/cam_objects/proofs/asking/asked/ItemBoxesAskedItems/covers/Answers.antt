@@ -12,3 +12,6 @@ returns c =
     subst (λ (layer : Layer). IsTrue c.item_covers.result
     ↔ IsCoveredBy (leaves_at (item_lists layer.apertures layer.items.items) c.args.place) c.args.at)
     c.layer.ensures.value c.item_covers.ensures
+
+pub item_covers-requires-clause-sound : goal.item_covers-requires-clause-sound
+item_covers-requires-clause-sound c = grind (arith)

@@ -1,5 +1,4 @@
 use Rattle.std.proofs.Common.{◌<◌, ◌≡◌, length, arith, ap, ◌∙◌}
-use Rattle.std.specs.List.{insert}
 use Rattle.std.proofs.lemmas.List.{append-nil, drop_all, take_all, take_at}
 use Rattle.std.proofs.lemmas.List.Edits.{map_over_more}
 use Rattle.cam_objects.specs.Machinery.FirstCopies.{once_come}

@@ -1,4 +1,4 @@
-use Rattle.std.proofs.Common.{◌∙◌, ℕ, List, sym, ap, subst}
+use Rattle.std.proofs.Common.{◌∙◌, ℕ, List, sym, ap, subst, arith}
 use Rattle.std.proofs.lemmas.Option.{get_or_from_slice_get}
 use Rattle.cam_objects.specs.declared.entry.Entry.{Entry}
 use Rattle.cam_objects.specs.declared.item.Item.{Item}
@@ -34,3 +34,6 @@ returns-clause-there c = λ item here at.
     (ap (λ (os : List Object). Repeat r.columns r.rows r.i r.j os) c.as_slice-objects.ensures
     ∙ sym r.is ∙ c.index.ensures ∙ get_or_from_slice_get layer.items.items c.args.place item c.index.result.now at)
     whole
+
+pub returns-clause-place : goal.returns-clause-place
+returns-clause-place c = grind (arith)

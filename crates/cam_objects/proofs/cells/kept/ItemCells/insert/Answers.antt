@@ -1,4 +1,4 @@
-use Rattle.std.proofs.Common.{arith, insert}
+use Rattle.std.proofs.Common.{arith}
 use Rattle.std.proofs.lemmas.List.Edits.{get_or-insert_at}
 use Rattle.cam_objects.proofs.KeptBoxes.{beside_inserted}
 use Rattle.cam_objects.proofs.cells.kept.ItemCells.insert.Goals as goal

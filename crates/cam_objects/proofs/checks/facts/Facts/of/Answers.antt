@@ -1,4 +1,5 @@
-use Rattle.std.proofs.Common.{List, sym, subst}
+use Rattle.std.proofs.Common.{List, sym, subst, arith}
+use Rattle.std.proofs.lemmas.Grind.{common_steps}
 use Rattle.std.specs.List.{All}
 use Rattle.cam_objects.specs.declared.object.Object.{Object}
 use Rattle.cam_objects.specs.Leaves.{block_leaves, meaning_in, origin}
@@ -32,3 +33,6 @@ returns-in-Block c =
     c.painted_boxes.result c.block_bounds.result
     c.in-Block.is c.as_slice-objects.ensures c.leaf_count.ensures.value c.depth.ensures.value c.painted_boxes.ensures
     c.block_bounds.ensures.value
+
+pub returns-in-Aperture : goal.returns-in-Aperture
+returns-in-Aperture c = grind (arith, common_steps)

@@ -1,4 +1,4 @@
-use Rattle.std.proofs.Common.{rules, ◌↔◌, pos, ◌*ℤ◌, FitsSigned, w64, sym, subst}
+use Rattle.std.proofs.Common.{rules, ◌↔◌, pos, ◌*ℤ◌, FitsSigned, w64, sym, subst, arith}
 use Rattle.std.proofs.lemmas.Int.{to_z-of_z}
 use Rattle.cam_units.specs.declared.bounds.Bounds.TheVariants.{Closed}
 use Rattle.cam_units.specs.declared.point.Point.{Point}
@@ -18,3 +18,12 @@ returns-in-Closed-Closed-clause-each c = λ k other here.
     let by : Point = record { x = other; y = pos k *ℤ c.args.self.now.j } in
     subst (λ b. IsInRun c.over.result k ↔ MeetsUpright (moved by b) c.args.canvas) (sym at.is-0)
     (subst (λ b. IsInRun c.over.result k ↔ MeetsUpright (moved by (Closed at.low at.high)) b) (sym at.is-1) each)
+
+pub over-requires : goal.over-requires
+over-requires c = grind (arith)
+
+pub returns-in_default-2-clause-each : goal.returns-in_default-2-clause-each
+returns-in_default-2-clause-each c = grind (arith)
+
+pub returns-in_default-clause-each : goal.returns-in_default-clause-each
+returns-in_default-clause-each c = grind (arith)

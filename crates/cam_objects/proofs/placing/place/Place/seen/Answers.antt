@@ -1,4 +1,5 @@
-use Rattle.std.proofs.Common.{ap, sym, subst, rules, ◌∙◌, FitsSigned, w64}
+use Rattle.std.proofs.Common.{ap, sym, subst, rules, ◌∙◌, FitsSigned, w64, arith}
+use Rattle.std.proofs.lemmas.Grind.{common_steps}
 use Rattle.std.proofs.lemmas.Int.{to_z-of_z}
 use Rattle.cam_units.specs.Boxes.{HaveCommonPlace}
 use Rattle.cam_units.specs.declared.bounds.Bounds.{Bounds}
@@ -33,3 +34,18 @@ returns c = λ b near common.
     (simp to_z-of_z at c.moved_back-3.ensures) (simp to_z-of_z at c.moved_back-4.ensures)
     (subst (λ (d : Bounds). HaveCommonPlace (placed_bounds p b) d) c.in-Closed.is common) in
     subst (HaveCommonPlace b) (sym ((simp to_z-of_z at c.turned.ensures) ∙ ap (λ (t : Turn). turned_box t (Closed low' high')) c.turned_back.ensures)) found
+
+pub moved_back-requires : goal.moved_back-requires
+moved_back-requires c = grind (arith)
+
+pub moved_back-requires-2 : goal.moved_back-requires-2
+moved_back-requires-2 c = grind (arith, common_steps)
+
+pub turned-requires : goal.turned-requires
+turned-requires c = search rules
+
+pub moved_back-requires-3 : goal.moved_back-requires-3
+moved_back-requires-3 c = grind (arith, common_steps)
+
+pub moved_back-requires-4 : goal.moved_back-requires-4
+moved_back-requires-4 c = search rules
