@@ -16,18 +16,7 @@ use Rattle.cam_objects.specs.declared.object.Object.{Object}
 use Rattle.cam_objects.specs.Bounds.{bounds_of, box_of_shape}
 use Rattle.cam_objects.specs.Drilling.{diameter_of}
 use Rattle.cam_objects.specs.DrillSoundness.{IsSoundDrillItem, drill_count_of}
-use Rattle.cam_objects.specs.Leaves.{
-  Meaning,
-  Shape,
-  arc_leaves,
-  draw_leaves,
-  flashed,
-  item_leaves,
-  meaning_in,
-  object_leaves,
-  origin,
-  round_width,
-}
+use Rattle.cam_objects.specs.Leaves.{Meaning, Shape, arc_leaves, draw_leaves, item_leaves, meaning_in, object_leaves, origin}
 use Rattle.cam_objects.specs.Soundness.{IsInside, IsSoundItem, objects_of, points_of, segs_of}
 use Rattle.cam_objects.specs.Weights.{Weight, item_count, object_count, weight_in}
 use Rattle.cam_objects.proofs.BoardLeaves.{board_alike}

@@ -1,7 +1,6 @@
 -- The boxes that a step carries are those of the edit that it was planned for, and its answer carries the same.
 use Rattle.std.proofs.Common.{arith, ◌≡◌, List}
 use Rattle.cam_edits.specs.declared.board_step.BoardStep.{BoardStep}
-use Rattle.cam_edits.specs.declared.board_step.BoardStep.TheVariants as steps
 use Rattle.cam_edits.specs.declared.edit.Change.{Change}
 use Rattle.cam_edits.specs.declared.edit.Edit.{Edit}
 use Rattle.cam_edits.specs.BoardSteps.{step_boxes, inverse_board_step}

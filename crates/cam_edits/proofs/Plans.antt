@@ -19,7 +19,7 @@ use Rattle.cam_edits.specs.Editing.{drill_step_checks, drill_step_of, edited, ed
 use Rattle.cam_edits.specs.Editing.{judged_drill, with_drill, with_gerber, with_step}
 use Rattle.cam_edits.specs.Machinery.PlaceLaws.{element_at}
 use Rattle.cam_edits.specs.Planning.{IsPlan, IsRefused, IsStepOf}
-use Rattle.cam_edits.specs.Sheets.{AreSound, Content, Gerber, Drill, IsSound, Sheet, sheet}
+use Rattle.cam_edits.specs.Sheets.{AreSound, Content, Gerber, Drill, IsSound, Sheet}
 use Rattle.cam_edits.specs.Steps.{IsFit, IsSoundStep}
 use Rattle.cam_edits.specs.Touched.{drill_touched, touched}
 use Rattle.cam_edits.proofs.EditedLists.{all_here}

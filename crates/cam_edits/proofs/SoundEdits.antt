@@ -28,7 +28,7 @@ use Rattle.cam_edits.specs.Machinery.PlaceLaws.{changed_is, element_at, reordere
 use Rattle.cam_edits.specs.Moving.{way}
 use Rattle.cam_edits.specs.Places.{changed, changed_to, reordered}
 use Rattle.cam_edits.specs.Planning.{EditsStaySound}
-use Rattle.cam_edits.specs.Sheets.{AreSound, Content, Gerber, IsSound, IsSoundGerber, Sheet, sheet}
+use Rattle.cam_edits.specs.Sheets.{AreSound, Content, Gerber, IsSound, IsSoundGerber, Sheet}
 use Rattle.cam_edits.specs.Steps.{after_step, items_after, with_aperture, with_object, with_polarity}
 use Rattle.cam_edits.proofs.ChangedItems.{count_with_polarity, sound_with_polarity}
 use Rattle.cam_edits.proofs.EditedLists.{all_here, length_behind, length_of_other, set_here, split_here, sum_behind, sum_of_other}

@@ -11,7 +11,7 @@ use Rattle.cam_units.proofs.Ring.Polynomial.{Atom, Sum, Difference, Product}
 use Rattle.cam_tiles.specs.declared.grid.Grid.{Grid}
 use Rattle.cam_tiles.specs.declared.window.Window.{Window}
 use Rattle.cam_tiles.specs.Picture.{accepts, centre_of, coarsest_pitch, middle}
-use Rattle.cam_tiles.specs.Tiles.{IsGrid, across, centre_in, columns, grid_of, first_column, rows, tiles_of, top}
+use Rattle.cam_tiles.specs.Tiles.{IsGrid, across, centre_in, grid_of, first_column, tiles_of, top}
 use Rattle.cam_tiles.proofs.WindowLemmas.{accepted}
 
 -- middles that stand so many pitches further on, and so many back

@@ -30,3 +30,12 @@ returns-clause-value c =
     let n : c.len-k.result ≡ length layer.attributes.items = omega (arith, layer.attributes.ok.0) in
     ap (λ k. Ok (PutAttribute k (attribute_of c.args.key c.args.fields))) n
     ∙ put (content_of layer) c.args.key c.args.fields good wrote at (omega (arith, layer.attributes.ok.0))
+
+pub returns-then-not-is_key-clause-value : goal.returns-then-not-is_key-clause-value
+returns-then-not-is_key-clause-value c = grind (arith)
+
+pub returns-then-not-are_fields-clause-value : goal.returns-then-not-are_fields-clause-value
+returns-then-not-are_fields-clause-value c = grind (arith)
+
+pub returns-in-Some-clause-fits : goal.returns-in-Some-clause-fits
+returns-in-Some-clause-fits c = grind (arith)

@@ -34,3 +34,6 @@ returns c =
     moved (drill_content_of layer) c.args.k c.args.by x
     (read_at layer.items.items c.deref.result.now c.args.k x c.deref.ensures.value read.0 read.1) c.can_move.result
     c.can_move.ensures c.if-not-can_move.false
+
+pub can_move-requires-clause-by : goal.can_move-requires-clause-by
+can_move-requires-clause-by c = grind (arith)

@@ -17,3 +17,6 @@ mend-requires c = grind (arith, boxes_in, shifted_cells)
 
 pub returns-in-None : goal.returns-in-None
 returns-in-None c = grind (arith, drill_leaves, boxes_in)
+
+pub returns-in-Some : goal.returns-in-Some
+returns-in-Some c = grind (arith)

@@ -31,3 +31,6 @@ pub returns : goal.returns
 returns c =
     renewed_all c.args.t c.args.layer.now c.loop-place.cells c.loop-place.place c.loop-place.invariant.renewed
     (omega (arith, c.loop-place-test.false, c.len-count.ensures, c.args.layer.now.items.ok.0))
+
+pub loop-place-init : goal.loop-place-init
+loop-place-init c = grind (arith)

@@ -1,4 +1,5 @@
 use Rattle.std.proofs.Common.{ℕ, None, Some, arith}
+use Rattle.std.proofs.lemmas.Grind.{common_steps}
 use Rattle.std.proofs.lemmas.List.{length-map}
 use Rattle.cam_objects.specs.DrillSoundness.{tool_of}
 use Rattle.cam_edits.specs.Machinery.Shifts.{tools_of}
@@ -50,3 +51,9 @@ returns-in-None-Some c =
     (tool_at items at.to read.result.now tool.result (omega (arith, within, length-map {B = ℕ} items tool_of)) read.ensures
     tool.ensures)
     (c.insert.ensures.came, c.insert.ensures.behind)
+
+pub index-requires-in-None-Some : goal.index-requires-in-None-Some
+index-requires-in-None-Some c = grind (arith, common_steps)
+
+pub index-requires : goal.index-requires
+index-requires c = grind (arith, common_steps)

@@ -1,4 +1,5 @@
 use Rattle.std.proofs.Common.{◌∙◌, ℕ, ◌+◌, ap, inl, inr, slice_index, sym, arith}
+use Rattle.std.proofs.lemmas.Grind.{common_steps}
 use Rattle.std.proofs.lemmas.Bool.{cases_eq, cases_lt}
 use Rattle.std.proofs.lemmas.List.{length-map}
 use Rattle.cam_objects.specs.DrillSoundness.{tool_of}
@@ -29,3 +30,6 @@ loop-next-preserved c =
             ]
           ];
     }
+
+pub returns : goal.returns
+returns c = grind (arith, common_steps)

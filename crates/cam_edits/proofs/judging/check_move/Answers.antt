@@ -22,3 +22,6 @@ returns-then-not-can_move c = grind (arith, moved_off, read_at)
 
 pub returns : goal.returns
 returns c = grind (arith, moved, read_at)
+
+pub can_move-requires-clause-by : goal.can_move-requires-clause-by
+can_move-requires-clause-by c = grind (arith)

@@ -10,3 +10,6 @@ read xs k o h = grind (arith, none_at, read_at)
 
 pub returns-in-Some : goal.returns-in-Some
 returns-in-Some g c = grind (arith, read)
+
+pub returns-in-None : goal.returns-in-None
+returns-in-None c = grind (arith)

@@ -26,3 +26,15 @@ returns-in-Some-Some g c =
     let x = edit.2.0 in
     c.renew.ensures.cells was.before x was.known
     (edit.2.1 ∙ ap (λ k. insert (remove was.before k) at.to x) c.if-from-to.true ∙ sym (set_is was.before at.to x edit.1))
+
+pub returns-in-Some-None : goal.returns-in-Some-None
+returns-in-Some-None c = grind (arith)
+
+pub returns-in-Some-Some-2 : goal.returns-in-Some-Some-2
+returns-in-Some-Some-2 c = grind (arith)
+
+pub returns-in-None-None : goal.returns-in-None-None
+returns-in-None-None c = grind (arith)
+
+pub returns-in-None-Some : goal.returns-in-None-Some
+returns-in-None-Some c = grind (arith)

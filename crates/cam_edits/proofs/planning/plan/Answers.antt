@@ -113,3 +113,9 @@ returns-clause-planned c =
     (sym c.in_ok-step-in-Drill.ensures.value) c.in_ok-boxes-in-Drill.boxes c.in_ok-boxes-in-Drill.ensures
     c.in_ok-step-in-Drill.ensures.fits
     (sound_there c.args.edit sheets c.in-Some.sheet named c.in-Some.ensures.within c.requires (Drill layer) holds)
+
+pub returns-in-Gerber-clause-refused : goal.returns-in-Gerber-clause-refused
+returns-in-Gerber-clause-refused c = grind (arith)
+
+pub returns-clause-refused : goal.returns-clause-refused
+returns-clause-refused c = grind (arith)

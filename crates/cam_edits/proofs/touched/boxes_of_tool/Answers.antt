@@ -65,3 +65,6 @@ returns c =
     ∙ boxes_of_all layer.tools c.args.t c.args.d layer.items.items layer.items.items c.loop-place.place refl
     (omega (arith, c.loop-place-test.false, c.len.ensures, layer.items.ok.0))
     ∙ diameter_boxes (drill_content_of layer) c.args.t c.args.d
+
+pub loop-place-smaller : goal.loop-place-smaller
+loop-place-smaller c = grind (arith)

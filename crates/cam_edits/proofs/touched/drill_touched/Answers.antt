@@ -1,4 +1,4 @@
-use Rattle.std.proofs.Common.{◌≡◌, IfOk, List, ◌<◌, rules, subst, sym}
+use Rattle.std.proofs.Common.{◌≡◌, IfOk, List, ◌<◌, rules, subst, sym, arith}
 use Rattle.cam_units.specs.declared.bounds.Bounds.{Bounds}
 use Rattle.cam_edits.specs.Moving.{way}
 use Rattle.cam_edits.proofs.TouchedDrillBoxes.{delete_box, delete_within, insert_box, move_boxes, move_within, reorder_boxes}
@@ -82,3 +82,6 @@ returns-in-Tool c =
     (tool_boxes _ _ c.requires.accepted c.in-Tool.k c.in-Tool.t c.in-Tool.is _ c.index-in-Tool.ensures _ _
     c.item_bounds-in-Tool.ensures c.bounds_with_tool-after.ensures)
     c.two_boxes-in-Tool.ensures
+
+pub returns-in-Diameter : goal.returns-in-Diameter
+returns-in-Diameter c = grind (arith)

@@ -1,5 +1,6 @@
 use Rattle.std.proofs.Common.{◌≡◌, ◌+◌, get_or, None, Some, inl, inr, sym, ap, subst, ◌∙◌, arith}
 use Rattle.std.proofs.lemmas.Bool.{cases_lt}
+use Rattle.cam_tiles.proofs.TileCounts.{few_tiles}
 use Rattle.cam_tiles.specs.Machinery.Masks.{HoldsCentres}
 use Rattle.cam_tiles.specs.Tables.{Tile}
 use Rattle.cam_tiles.specs.Tiles.{grid_of}
@@ -32,3 +33,12 @@ loop-k-preserved c = λ j within dirty column row inside.
             absurd cc)
       ])
     ]
+
+pub overflow_add-first : goal.overflow_add-first
+overflow_add-first c = grind (arith, few_tiles)
+
+pub overflow_cast-k : goal.overflow_cast-k
+overflow_cast-k c = grind (arith, few_tiles)
+
+pub returns : goal.returns
+returns c = grind (arith)

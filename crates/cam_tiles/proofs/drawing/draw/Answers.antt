@@ -1,5 +1,6 @@
 use Rattle.std.proofs.Common.{◌≡◌, ◌+◌, ◌<◌, ℕ, List, Some, None, length, get_or, ap, sym, subst, ◌∙◌, arith}
 use Rattle.std.proofs.lemmas.List.{get_or_default}
+use Rattle.cam_tiles.proofs.TileCounts.{few_tiles}
 use Rattle.cam_objects.specs.Tests.{is_black}
 use Rattle.cam_tiles.specs.Machinery.Shown.{leaves_of}
 use Rattle.cam_tiles.specs.Tables.{Tile, all_drawn_from}
@@ -41,3 +42,15 @@ pub returns : goal.returns
 returns c =
     let draw : ℕ → List ℕ = λ k. tile_rows (is_black (leaves_of c.args.shown.now)) (grid_of c.args.window.now k) in
     sym (c.loop-k.invariant ∙ all_done draw c.args.first c.loop-k.k c.loop-k.tiles (omega arith))
+
+pub overflow_cast-k : goal.overflow_cast-k
+overflow_cast-k c = grind (arith, few_tiles)
+
+pub overflow_add-first : goal.overflow_add-first
+overflow_add-first c = grind (arith, few_tiles)
+
+pub offset_bounds-tiles-k-then-is_none : goal.offset_bounds-tiles-k-then-is_none
+offset_bounds-tiles-k-then-is_none c = grind (arith)
+
+pub bounds-tiles-k-then-is_none : goal.bounds-tiles-k-then-is_none
+bounds-tiles-k-then-is_none c = grind (arith)

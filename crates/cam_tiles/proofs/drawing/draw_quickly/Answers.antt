@@ -64,3 +64,27 @@ overflow_add-start c = omega (arith, begun c)
 
 pub offset_bounds-tiles-start : goal.offset_bounds-tiles-start
 offset_bounds-tiles-start c = let few = (here c).few in omega (arith, few)
+
+pub returns-then-first-across-ne0 : goal.returns-then-first-across-ne0
+returns-then-first-across-ne0 c = grind (arith)
+
+pub draw_row-requires-clause-index : goal.draw_row-requires-clause-index
+draw_row-requires-clause-index c = assumption arith
+
+pub slice_bounds-part-start : goal.slice_bounds-part-start
+slice_bounds-part-start c = grind (arith, some_across)
+
+pub same-swath : goal.same-swath
+same-swath c = grind (arith)
+
+pub nonzero_rem-first : goal.nonzero_rem-first
+nonzero_rem-first c = grind (arith, some_across)
+
+pub loop-row-init : goal.loop-row-init
+loop-row-init c = grind (arith)
+
+pub returns-in_default : goal.returns-in_default
+returns-in_default c = grind (arith)
+
+pub slice_bounds-part-count : goal.slice_bounds-part-count
+slice_bounds-part-count c = grind (arith, some_across)

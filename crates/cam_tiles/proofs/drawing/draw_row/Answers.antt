@@ -72,3 +72,9 @@ pub returns-in_err-paint-clause-tiles : goal.returns-in_err-paint-clause-tiles
 returns-in_err-paint-clause-tiles c =
     part_partly_drawn _ c.args.first c.dirty_among-dirty.result.first _ c.args.tiles.now _
     (omega (arith, c.if-dirty.false, c.dirty_among-dirty.ensures.end)) (none_partly_drawn _ _ _)
+
+pub returns-clause-index : goal.returns-clause-index
+returns-clause-index c = grind (arith)
+
+pub returns-then-dirty-clause-tiles : goal.returns-then-dirty-clause-tiles
+returns-then-dirty-clause-tiles c = grind (arith)

@@ -18,3 +18,6 @@ returns c =
     let t : Table = record { window = w; tiles = c.args.tiles.now } in
     let all : c.loop-row.row ≡ w.height = omega arith in
     c.loop-row.invariant ∙ ap (λ n. header w.width w.height ++ rows_of (is_pixel_black t) w.width n) all
+
+pub push_row-requires-clause-row : goal.push_row-requires-clause-row
+push_row-requires-clause-row c = grind (arith)

@@ -1,4 +1,5 @@
-use Rattle.std.proofs.Common.{◌∙◌, ap, length, refl, subst, arith, List}
+use Rattle.std.proofs.Common.{◌∙◌, ap, length, refl, subst, arith, List, rules}
+use Rattle.std.proofs.lemmas.Grind.{common_steps}
 use Rattle.cam_units.specs.declared.point.Point.{Point}
 use Rattle.cam_objects.specs.declared.drill_item.DrillItem.{DrillItem}
 use Rattle.cam_objects.specs.Shifting.{shifted_drill_item}
@@ -73,3 +74,12 @@ returns-in-Tool-clause-content c = grind (arith, read_there, set_is_changed)
 
 pub returns-in-Tool-clause-answer : goal.returns-in-Tool-clause-answer
 returns-in-Tool-clause-answer c = grind (arith, read_there)
+
+pub returns-in-Move-clause-answer : goal.returns-in-Move-clause-answer
+returns-in-Move-clause-answer c = search rules
+
+pub returns-in-Reorder-clause-room : goal.returns-in-Reorder-clause-room
+returns-in-Reorder-clause-room c = grind (arith, common_steps)
+
+pub returns-in-Reorder-clause-content : goal.returns-in-Reorder-clause-content
+returns-in-Reorder-clause-content c = grind (arith, common_steps)

@@ -4,3 +4,6 @@ use Rattle.cam_edits.proofs.indexed.IndexedLayer.fits.Goals as goal
 
 pub returns : goal.returns
 returns c = grind (arith, sound_by)
+
+pub returns-then-not-fits : goal.returns-then-not-fits
+returns-then-not-fits c = grind (arith)

@@ -19,3 +19,9 @@ invariant_of-self c = record { kept = c.mend_kept.ensures; tools = c.follow.ensu
 pub returns-clause-room : goal.returns-clause-room
 returns-clause-room c = λ rest room.
     c.play-answer.ensures.room rest (subst (HasDrillRoom (rest ++ c.args.step ∷ [])) (sym c.self.view_is) room)
+
+pub play-answer-requires-clause-room : goal.play-answer-requires-clause-room
+play-answer-requires-clause-room c = grind (arith)
+
+pub play-answer-requires-clause-fits : goal.play-answer-requires-clause-fits
+play-answer-requires-clause-fits c = grind (arith)

@@ -1,4 +1,4 @@
-use Rattle.std.proofs.Common.{refl}
+use Rattle.std.proofs.Common.{refl, arith}
 use Rattle.cam_objects.specs.Shifting.{shifted_item}
 use Rattle.cam_edits.specs.Moving.{IsMovableItem, way}
 use Rattle.cam_edits.specs.Steps.{HasAperture, IsOne, with_aperture, with_object, with_polarity}
@@ -37,3 +37,6 @@ returns-in-TakeAttribute c = λ content fit. rw (c.between-in-TakeAttribute.ensu
 
 pub returns-in-SetFields : goal.returns-in-SetFields
 returns-in-SetFields c = λ content fit. rw (c.between-in-SetFields.ensures, c.in-SetFields.is) refl
+
+pub returns-in-Insert : goal.returns-in-Insert
+returns-in-Insert c = grind (arith)

@@ -1,4 +1,4 @@
-use Rattle.std.proofs.Common.{refl}
+use Rattle.std.proofs.Common.{refl, arith}
 use Rattle.cam_objects.specs.Shifting.{shifted_drill_item}
 use Rattle.cam_edits.specs.DrillSteps.{with_tool}
 use Rattle.cam_edits.specs.Moving.{IsMovableDrillItem, way}
@@ -25,3 +25,6 @@ returns-in-Tool c = λ content fit.
 
 pub returns-in-Diameter : goal.returns-in-Diameter
 returns-in-Diameter c = λ content fit. rw (c.between-in-Diameter.ensures, c.in-Diameter.is) refl
+
+pub returns-in-Insert : goal.returns-in-Insert
+returns-in-Insert c = grind (arith)

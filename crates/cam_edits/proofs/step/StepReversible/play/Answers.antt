@@ -1,4 +1,5 @@
 use Rattle.std.proofs.Common.{◌∙◌, ap, length, refl, subst, arith, List}
+use Rattle.std.proofs.lemmas.Grind.{common_steps}
 use Rattle.cam_objects.specs.declared.attribute.Attribute.{Attribute}
 use Rattle.cam_objects.specs.declared.item.Item.{Item}
 use Rattle.cam_units.specs.declared.point.Point.{Point}
@@ -135,3 +136,12 @@ returns-in-PutAttribute-clause-content c =
 pub returns-in-TakeAttribute-clause-content : goal.returns-in-TakeAttribute-clause-content
 returns-in-TakeAttribute-clause-content c =
     rw c.in-TakeAttribute.is (ap (λ (attributes : List Attribute). record (content_of c.args.layer.now) { attributes = attributes }) c.remove-in-TakeAttribute.ensures.items)
+
+pub returns-in-Reorder-clause-room : goal.returns-in-Reorder-clause-room
+returns-in-Reorder-clause-room c = grind (arith, common_steps)
+
+pub returns-in-SetFields-clause-room : goal.returns-in-SetFields-clause-room
+returns-in-SetFields-clause-room c = grind (arith, common_steps)
+
+pub returns-in-Reorder-clause-content : goal.returns-in-Reorder-clause-content
+returns-in-Reorder-clause-content c = grind (arith, common_steps)

@@ -1,4 +1,5 @@
 use Rattle.std.proofs.Common.{◌≡◌, ◌≤◌, List, map, reverse, sym, ap, subst, ◌∙◌, arith}
+use Rattle.std.proofs.lemmas.Grind.{common_steps}
 use Rattle.std.specs.List.{All, flat_map}
 use Rattle.std.specs.Vec.{with_items}
 use Rattle.std.proofs.lemmas.List.{with_items_is}
@@ -71,3 +72,12 @@ returns c =
       listed = subst (λ (those : List Boxed). AreListed those c.in_ok-rows.rows) c.deref.ensures.value c.in_ok-rows.ensures.listed;
       contours = c.in_ok-contours.ensures.parts;
     }
+
+pub look-requires-clause-seen : goal.look-requires-clause-seen
+look-requires-clause-seen c = grind (arith, common_steps)
+
+pub new-requires-2-clause-few : goal.new-requires-2-clause-few
+new-requires-2-clause-few c = grind (arith)
+
+pub contours_of-requires-clause-few : goal.contours_of-requires-clause-few
+contours_of-requires-clause-few c = grind (arith)

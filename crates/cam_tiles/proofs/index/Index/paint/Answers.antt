@@ -87,3 +87,18 @@ returns-clause-index c =
       listed = subst (λ those. AreListed those c.go_to.new.self) c.deref.ensures.value c.in_ok-go_to.ensures.listed;
       contours = index.contours;
     }
+
+pub nonzero_div-tile : goal.nonzero_div-tile
+nonzero_div-tile c = grind (arith)
+
+pub paint_listed-requires-clause-contours : goal.paint_listed-requires-clause-contours
+paint_listed-requires-clause-contours c = assumption arith
+
+pub returns-then-not-has_place-clause-index : goal.returns-then-not-has_place-clause-index
+returns-then-not-has_place-clause-index c = assumption arith
+
+pub paint_listed-requires-clause-ready : goal.paint_listed-requires-clause-ready
+paint_listed-requires-clause-ready c = assumption arith
+
+pub paint_listed-requires-clause-boxed : goal.paint_listed-requires-clause-boxed
+paint_listed-requires-clause-boxed c = assumption arith

@@ -41,3 +41,12 @@ loop-k-preserved c =
             kept = ap (map bare) w.boxed-is ∙ now.invariant.kept;
           })
     ]
+
+pub bounds-boxed-k-in-Some : goal.bounds-boxed-k-in-Some
+bounds-boxed-k-in-Some c = omega (arith)
+
+pub returns-clause-parts : goal.returns-clause-parts
+returns-clause-parts c = assumption arith
+
+pub loop-k-init : goal.loop-k-init
+loop-k-init c = grind (arith)

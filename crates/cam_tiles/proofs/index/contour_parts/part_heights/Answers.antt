@@ -1,3 +1,5 @@
+use Rattle.std.proofs.Common.{arith}
+use Rattle.std.proofs.lemmas.Grind.{common_steps}
 use Rattle.cam_tiles.proofs.ContourParts.{next_within}
 use Rattle.cam_tiles.proofs.index.contour_parts.part_heights.Goals as goal
 
@@ -10,3 +12,9 @@ loop-seg-preserved c =
           c.end-here.result c.args.part.now here.seg-index _ c.loop-seg-test.true c.end-here.ensures.value
           c.segment_heights.ensures c.joined-heights.ensures here.invariant.within;
     }
+
+pub loop-seg-init : goal.loop-seg-init
+loop-seg-init c = grind (arith)
+
+pub returns : goal.returns
+returns c = grind (arith, common_steps)

@@ -5,3 +5,6 @@ use Rattle.cam_tiles.proofs.index.contour_parts.segment_heights.Goals as goal
 
 pub returns-in-Curve : goal.returns-in-Curve
 returns-in-Curve c = λ s changes. grind (arith, either_differs, met_apart)
+
+pub returns-in-Line : goal.returns-in-Line
+returns-in-Line c = grind (arith)

@@ -1,4 +1,5 @@
 use Rattle.std.proofs.Common.{FitsSigned, w64, arith, rules}
+use Rattle.std.proofs.lemmas.Grind.{common_steps}
 use Rattle.std.proofs.lemmas.Int.{clamps, ints, to_z-of_z}
 use Rattle.cam_tiles.specs.Machinery.Lattices.{place_at}
 use Rattle.cam_tiles.proofs.Lattices.{between_counts, some_steps}
@@ -15,3 +16,6 @@ returns-clause-each c = λ n there.
     between_counts n _ _ (place_at l n) l.first c.args.low c.args.high _ (omega (arith, ints, way))
     (omega (arith, ints, clamps, c.max.ensures.value, low, first, near)) (c.count_through.ensures.each n there)
     (simp to_z-of_z at (c.count_through-2.ensures.each n there))
+
+pub overflow_sub-max : goal.overflow_sub-max
+overflow_sub-max c = grind (arith, common_steps)

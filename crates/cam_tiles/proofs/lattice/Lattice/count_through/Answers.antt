@@ -1,4 +1,5 @@
 use Rattle.std.proofs.Common.{◌+◌, ◌<◌, ◌-◌, ◌/◌, ◌^◌, FitsSigned, w64, of_z, to_z, arith, rules}
+use Rattle.std.proofs.lemmas.Grind.{common_steps}
 use Rattle.std.proofs.Math.IntN.{nat_abs}
 use Rattle.std.proofs.lemmas.Int.{ints}
 use Rattle.cam_tiles.proofs.Lattices.{counted, few_counted, first_short, further, on_fits, on_kept, way_on_fits}
@@ -55,3 +56,6 @@ returns-clause-each c = λ n there.
 
 pub returns-clause-few : goal.returns-clause-few
 returns-clause-few c = omega (arith, few (goal.at.returns-clause-few c).After-abs_diff)
+
+pub returns-then-place-self-clause-each : goal.returns-then-place-self-clause-each
+returns-then-place-self-clause-each c = grind (arith, common_steps)

@@ -34,3 +34,6 @@ returns-in-Drilled c =
     as_drawn c.args.figure.now _ c.at-in-Drilled.result c.at-in-Drilled.ensures
     (rw c.in-Drilled.is at c.requires.sound, sound_hole hole _ c.hole.ensures (omega (arith, ints), omega (arith, ints)))
     (λ s. rw c.in-Drilled.is (whole s c.in-Drilled.disc hole c.hole.ensures))
+
+pub returns-in-Some : goal.returns-in-Some
+returns-in-Some c = grind (arith)

@@ -1,4 +1,4 @@
-use Rattle.std.proofs.Common.{◌≡◌, ◌+◌, None, Some, [], not, ap, sym, subst, ◌∙◌}
+use Rattle.std.proofs.Common.{◌≡◌, ◌+◌, None, Some, [], not, ap, sym, subst, ◌∙◌, arith}
 use Rattle.std.specs.Prelude.{is_none, slice_index_or}
 use Rattle.std.proofs.lemmas.List.{get_or_default}
 use Rattle.cam_tiles.proofs.OpenedWords.{AreOpenBefore, next_closed, next_open, none_before}
@@ -25,3 +25,6 @@ loop-tile-preserved c =
           c.loop-tile.invariant c.loop-tile-test.true c.requires.all
           (same ∙ ap (λ b. not (not b)) w.if-is_none.false))
     ]
+
+pub open-requires-clause-few : goal.open-requires-clause-few
+open-requires-clause-few c = grind (arith)

@@ -40,3 +40,9 @@ returns c =
           let tile = (c.tiles.ensures.each (column / 64)).1 (column, (on.0, (on.1, refl))) in
           (omega (arith, tile.0), omega (arith, tile.1));
     }
+
+pub band-rows-requires-clause-grid : goal.band-rows-requires-clause-grid
+band-rows-requires-clause-grid c = assumption arith
+
+pub returns-in_default : goal.returns-in_default
+returns-in_default c = grind (arith)

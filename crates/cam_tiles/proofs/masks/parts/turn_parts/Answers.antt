@@ -1,4 +1,5 @@
-use Rattle.std.proofs.Common.{◌≡◌, ◌+◌, List, drop, sym, ap, subst, ◌∙◌}
+use Rattle.std.proofs.Common.{◌≡◌, ◌+◌, List, drop, sym, ap, subst, ◌∙◌, arith}
+use Rattle.std.proofs.lemmas.Grind.{common_steps}
 use Rattle.std.specs.List.{All}
 use Rattle.cam_units.specs.Board.{IsOnBoard}
 use Rattle.cam_units.specs.declared.point.Point.{Point}
@@ -60,3 +61,9 @@ returns c =
     (rest_turned (TurnsSo c.args.field.now) (turning c.args.field.now) contour.start here.here
     c.turn_part-end.result here.rest.now contour.segs c.turn_part-end.ensures.end here.invariant.turned
     c.turn_part-end.ensures.turned c.turn_edge.ensures)
+
+pub loop-part_heights-init : goal.loop-part_heights-init
+loop-part_heights-init c = grind (arith)
+
+pub turn_met-here-requires-clause-heights : goal.turn_met-here-requires-clause-heights
+turn_met-here-requires-clause-heights c = grind (arith, common_steps)

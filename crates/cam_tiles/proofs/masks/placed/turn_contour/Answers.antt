@@ -1,4 +1,4 @@
-use Rattle.std.proofs.Common.{refl, subst, sym}
+use Rattle.std.proofs.Common.{refl, subst, sym, arith}
 use Rattle.cam_units.specs.Board.{IsOnBoard}
 use Rattle.cam_shapes.specs.Placing.{placed_contour}
 use Rattle.cam_shapes.proofs.Places.{offset_short}
@@ -42,3 +42,6 @@ returns c =
     c.args.placing.turn c.args.placing.offset c.args.contour.now c.point-start.result c.loop-seg.here
     c.as_slice-seg-items.result.now c.loop-seg.seg-index c.loop-seg-test.false c.point-start.ensures
     c.as_slice-seg-items.ensures c.loop-seg.invariant.turned c.turn_edge.ensures)
+
+pub turn_placed-here-requires-clause-seg : goal.turn_placed-here-requires-clause-seg
+turn_placed-here-requires-clause-seg c = grind (arith)

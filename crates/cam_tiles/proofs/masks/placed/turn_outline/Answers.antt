@@ -1,4 +1,4 @@
-use Rattle.std.proofs.Common.{◌-◌, List, length, take, drop, sym, subst}
+use Rattle.std.proofs.Common.{◌-◌, List, length, take, drop, sym, subst, arith}
 use Rattle.std.proofs.lemmas.List.Elements.{All-drop, All-take}
 use Rattle.cam_units.specs.Board.{IsOnBoard}
 use Rattle.cam_units.specs.declared.point.Point.{Point}
@@ -51,3 +51,6 @@ returns-in_default c =
     c.args.marks.now c.args.marks.now
     (empty_turned (TurnsSo c.args.field.now) (turning c.args.field.now) c.args.turn origin.offset
     c.args.points.now c.args.marks.now c.in_default.len_below)
+
+pub turn_edge-requires-clause-to : goal.turn_edge-requires-clause-to
+turn_edge-requires-clause-to c = grind (arith)

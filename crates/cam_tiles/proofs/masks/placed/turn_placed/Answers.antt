@@ -1,4 +1,4 @@
-use Rattle.std.proofs.Common.{IsTrue, sym, ap, subst, ◌∙◌, rules}
+use Rattle.std.proofs.Common.{IsTrue, sym, ap, subst, ◌∙◌, rules, arith}
 use Rattle.cam_shapes.specs.declared.segments.Seg.{Seg}
 use Rattle.cam_shapes.specs.Contour.{end_of}
 use Rattle.cam_shapes.specs.Placing.{IsPlaceableSeg}
@@ -28,3 +28,6 @@ returns-in-Line-clause-turned c =
 
 pub returns-clause-board : goal.returns-clause-board
 returns-clause-board c = c.end.ensures.on_board c.seg-seg.ensures.sound
+
+pub returns-clause-turned : goal.returns-clause-turned
+returns-clause-turned c = grind (arith)

@@ -21,3 +21,9 @@ returns c =
       some = rw (next_is c.isqrt.result short) (omega (arith, ints));
       short = rw (next_is c.isqrt.result short) (omega (arith, ints, short));
     }
+
+pub overflow_add-result : goal.overflow_add-result
+overflow_add-result c = grind (arith)
+
+pub overflow_cast-result : goal.overflow_cast-result
+overflow_cast-result c = grind (arith)

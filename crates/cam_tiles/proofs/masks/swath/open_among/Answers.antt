@@ -19,3 +19,6 @@ loop-end-preserved c = record {
     | inr behind ↦ c.loop-end.invariant.done tile behind until
   ];
 }
+
+pub returns-else-past_done-end-clause-done : goal.returns-else-past_done-end-clause-done
+returns-else-past_done-end-clause-done c = grind (arith)

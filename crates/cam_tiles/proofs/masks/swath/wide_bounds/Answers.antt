@@ -23,3 +23,12 @@ returns c column row near below =
     between_corners g c.args.columns wide column row near below _ _ _ _
     (to_z-of_z w64 g.x x_fits) (to_z-of_z w64 g.y y_fits) (last_kept g c.args.columns wide fits c.from.result c.from.ensures)
     (long_near _ _ bottom (wide.centres 0 (g.rows - 1) wide.count.0 (omega (arith, wide.grid.rows))).y)
+
+pub levels-requires : goal.levels-requires
+levels-requires c = grind (arith)
+
+pub height-requires-clause-row : goal.height-requires-clause-row
+height-requires-clause-row c = grind (arith)
+
+pub height-requires-clause-levels : goal.height-requires-clause-levels
+height-requires-clause-levels c = assumption arith

@@ -1,4 +1,5 @@
-use Rattle.std.proofs.Common.{◌-◌, IsTrue, rules, arith}
+use Rattle.std.proofs.Common.{◌-◌, IsTrue, rules, arith, refl}
+use Rattle.std.proofs.lemmas.Grind.{common_steps}
 use Rattle.cam_shapes.specs.Cap.{is_in_cap}
 use Rattle.cam_tiles.proofs.Fields.{field_rows}
 use Rattle.cam_tiles.proofs.TurnedMarks.{no_rows, runs_turned}
@@ -30,3 +31,39 @@ returns c =
     (λ row s on held. ((rw c.levels.ensures.value at c.band-band.ensures.rows) row s on).1 (c.heights.ensures s held))
     c.cap_runs.new.firsts c.cap_runs.new.ends
     (search rules) c.cap_runs.ensures c.mark_runs.ensures
+
+pub mark_runs-requires-clause-rows : goal.mark_runs-requires-clause-rows
+mark_runs-requires-clause-rows c = grind (arith, common_steps)
+
+pub band-band-requires : goal.band-band-requires
+band-band-requires c = assumption arith
+
+pub slice_bounds-firsts-end-2 : goal.slice_bounds-firsts-end-2
+slice_bounds-firsts-end-2 c = grind (arith, common_steps)
+
+pub mark_runs-requires-clause-same : goal.mark_runs-requires-clause-same
+mark_runs-requires-clause-same c = grind (arith)
+
+pub slice_bounds-ends-end : goal.slice_bounds-ends-end
+slice_bounds-ends-end c = grind (arith)
+
+pub mark_runs-requires-clause-ends : goal.mark_runs-requires-clause-ends
+mark_runs-requires-clause-ends c = grind (arith)
+
+pub height-requires-clause-levels : goal.height-requires-clause-levels
+height-requires-clause-levels c = assumption arith
+
+pub levels-requires-2 : goal.levels-requires-2
+levels-requires-2 c = assumption arith
+
+pub slice_bounds-ends-end-2 : goal.slice_bounds-ends-end-2
+slice_bounds-ends-end-2 c = grind (arith, common_steps)
+
+pub levels-requires : goal.levels-requires
+levels-requires c = assumption arith
+
+pub cap_runs-requires-clause-ends : goal.cap_runs-requires-clause-ends
+cap_runs-requires-clause-ends c = refl
+
+pub slice_bounds-firsts-end : goal.slice_bounds-firsts-end
+slice_bounds-firsts-end c = grind (arith)

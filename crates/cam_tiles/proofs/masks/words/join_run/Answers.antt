@@ -22,3 +22,9 @@ loop-tile-preserved c =
     here.invariant
     (word_joined (length c.args.words.now) c.args.how here.words tile row _ c.join_row.result bits refl c.requires.row
     (omega (arith, c.requires.row, c.requires.wide.room, c.requires.wide.tiles)) c.join_row.ensures)
+
+pub returns : goal.returns
+returns c = grind (arith)
+
+pub loop-tile-init : goal.loop-tile-init
+loop-tile-init c = grind (arith)

@@ -33,3 +33,9 @@ loop-row-preserved c =
           (more here.words (joins_none columns how IsNext here.words
           (λ row column held. omega (arith, held.1.0, held.1.1, w.if-first-end.false))))
     ]
+
+pub returns : goal.returns
+returns c = grind (arith)
+
+pub loop-row-init : goal.loop-row-init
+loop-row-init c = grind (arith)

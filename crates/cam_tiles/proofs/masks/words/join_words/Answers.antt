@@ -16,3 +16,6 @@ loop-k-preserved c =
     c.args.words.now here.words _ (λ row column low near. next_word others k row column low) here.invariant
     (word_joined (length c.args.words.now) c.args.how here.words (k / 64) (k % 64) k c.join_row.result
     (slice_index others k) (omega arith) (omega arith) (omega arith) c.join_row.ensures)
+
+pub returns : goal.returns
+returns c = grind (arith)

@@ -53,3 +53,9 @@ returns-clause-tiles g c =
     let table : List Tile → Table = λ tiles. record { window = raster.window; tiles = tiles } in
     let items = with_items_is raster.tiles _ (told.size ∙ sym (ap length was) ∙ c.deref_mut.ensures.len) in
     ap table (items ∙ told.as_many) ∙ ap (redrawn image c.args.at_most) c.self.view_is
+
+pub returns-clause-drawn : goal.returns-clause-drawn
+returns-clause-drawn c = grind (arith)
+
+pub returns-clause-asked : goal.returns-clause-asked
+returns-clause-asked c = grind (arith)

@@ -5,7 +5,7 @@ use Rattle.std.proofs.lemmas.List.Sums.{count_by-le-length}
 use Rattle.cam_tiles.specs.Machinery.Kept.{table_of}
 use Rattle.cam_tiles.specs.Machinery.Spans.{is_in_span}
 use Rattle.cam_tiles.specs.Touched.{box_touched}
-use Rattle.cam_tiles.proofs.TileCounts.{few_tiles}
+use Rattle.cam_tiles.proofs.TileCounts.{few_tiles, some_across}
 use Rattle.cam_tiles.proofs.DrawnTiles.{dirty}
 use Rattle.cam_tiles.proofs.WipedTiles.{still_clean, touched_empty, touched_spans}
 use Rattle.cam_tiles.proofs.raster.Raster.touch.Goals as goal
@@ -69,3 +69,15 @@ returns c =
     (λ k. c.wipe.ensures.each k ∙ ap (λ tiles. cond (here k) None (get_or tiles k None)) c.deref_mut.ensures.value)
     ∙ ap (λ box. box_touched box (table_of kept)) (sym c.in-Closed.is)
     ∙ ap (box_touched c.args.bounds) c.self.view_is
+
+pub wipe-requires-clause-wide : goal.wipe-requires-clause-wide
+wipe-requires-clause-wide c = grind (arith, few_tiles, some_across)
+
+pub wipe-requires-clause-few : goal.wipe-requires-clause-few
+wipe-requires-clause-few c = grind (arith, few_tiles, some_across)
+
+pub wipe-requires-clause-above : goal.wipe-requires-clause-above
+wipe-requires-clause-above c = grind (arith, few_tiles, some_across)
+
+pub first_in-self-inside-requires : goal.first_in-self-inside-requires
+first_in-self-inside-requires c = grind (arith, few_tiles, some_across)

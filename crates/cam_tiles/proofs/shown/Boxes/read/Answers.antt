@@ -1,4 +1,5 @@
-use Rattle.std.proofs.Common.{◌≡◌, ◌<◌, [], List, length, get_or, sym, subst}
+use Rattle.std.proofs.Common.{◌≡◌, ◌<◌, [], List, length, get_or, sym, subst, arith}
+use Rattle.std.proofs.lemmas.Grind.{common_steps}
 use Rattle.cam_objects.specs.Bounds.{bounds_of}
 use Rattle.cam_objects.specs.Drilling.{drill_item_leaves}
 use Rattle.cam_objects.specs.Leaves.{Leaf, item_leaves, meaning_in}
@@ -25,3 +26,15 @@ returns-in-Drill-clause-value c =
     let within = subst (λ (b : Boxes). k < length (lists_of b)) c.in-Drill.is c.requires in
     subst (λ (b : Boxes). IsBox (get_or (lists_of b) k [])) (sym c.in-Drill.is)
     (at_place (drill_item_leaves layer.tools) layer.items.items k IsBox within box.ensures.value)
+
+pub read-requires : goal.read-requires
+read-requires c = grind (arith, common_steps)
+
+pub read-requires-in-Drill : goal.read-requires-in-Drill
+read-requires-in-Drill c = grind (arith, common_steps)
+
+pub returns-in-Drill-clause-lists : goal.returns-in-Drill-clause-lists
+returns-in-Drill-clause-lists c = grind (arith)
+
+pub returns-in-Gerber-clause-lists : goal.returns-in-Gerber-clause-lists
+returns-in-Gerber-clause-lists c = grind (arith)

@@ -1,4 +1,5 @@
 use Rattle.std.proofs.Common.{◌≡◌, ◌<◌, [], ◌∷◌, length, get_or, sym, ap, subst, ◌∙◌, arith}
+use Rattle.std.proofs.lemmas.Grind.{common_steps}
 use Rattle.std.proofs.lemmas.List.{length-map}
 use Rattle.cam_objects.specs.Leaves.{Filled, item_leaves, leaf, meaning_in}
 use Rattle.cam_objects.specs.declared.item.Item.TheVariants.{One}
@@ -33,3 +34,6 @@ returns-in-One-Region-clause-leaves c =
     (sym c.in-Gerber.is)
     (region_leaves layer.items.items c.args.place c.index.result.now region.contour region.dark
     (within (goal.at.returns-in-One-Region-clause-leaves c).In-Gerber) (sym c.index.ensures ∙ is) layer.apertures)
+
+pub index-requires : goal.index-requires
+index-requires c = grind (arith, common_steps)

@@ -17,3 +17,6 @@ returns-clause-tiles c =
           ∙ sym (all_clean (λ k. tile_rows (picture_of c.args.self.now) (grid k)) c.args.first tiles
           (omega (arith, c.dirty_in-dirty.ensures, w.if-dirty-gt0.false)))
     ]
+
+pub returns-clause-asked : goal.returns-clause-asked
+returns-clause-asked c = grind (arith)

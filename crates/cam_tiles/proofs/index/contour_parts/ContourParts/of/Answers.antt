@@ -39,3 +39,6 @@ loop-rest-preserved c =
 
 pub returns-clause-heights : goal.returns-clause-heights
 returns-clause-heights c = search (rules, all_found)
+
+pub loop-rest-init : goal.loop-rest-init
+loop-rest-init c = grind (arith)

@@ -87,3 +87,18 @@ returns-in_ok-push-clause-lists c = same_lists (goal.at.returns-in_ok-push-claus
 
 pub returns-in_err-push-clause-lists : goal.returns-in_err-push-clause-lists
 returns-in_err-push-clause-lists c = same_lists (goal.at.returns-in_err-push-clause-lists c).After-seen
+
+pub returns-then-line_misses-clause-lists : goal.returns-then-line_misses-clause-lists
+returns-then-line_misses-clause-lists c = grind (arith)
+
+pub returns-then-line_misses-clause-onward : goal.returns-then-line_misses-clause-onward
+returns-then-line_misses-clause-onward c = omega (arith)
+
+pub returns-in_ok-push-clause-onward : goal.returns-in_ok-push-clause-onward
+returns-in_ok-push-clause-onward c = omega (arith)
+
+pub returns-in_default-clause-lists : goal.returns-in_default-clause-lists
+returns-in_default-clause-lists c = grind (arith)
+
+pub returns-in_default-clause-onward : goal.returns-in_default-clause-onward
+returns-in_default-clause-onward c = omega (arith)

@@ -16,3 +16,9 @@ returns c =
     c.take_out.new.other fit.0 fit.1 left.columns
     (tells_round grid c.args.columns c.args.arc.now c.args.heights (relative c.args.at) _ _ _ _ _ c.requires.heights
     c.find_between.ensures c.find_among.ensures c.find_beyond.ensures c.find.ensures c.find-2.ensures)
+
+pub find-requires-2-clause-sound : goal.find-requires-2-clause-sound
+find-requires-2-clause-sound c = assumption arith
+
+pub find-requires-2-clause-grid : goal.find-requires-2-clause-grid
+find-requires-2-clause-grid c = assumption arith

@@ -91,3 +91,24 @@ invariant_of-self-2 c =
 
 pub returns-clause-done : goal.returns-clause-done
 returns-clause-done c = λ other after until row column low there. grind (arith, all)
+
+pub index-requires-then-index-tile : goal.index-requires-then-index-tile
+index-requires-then-index-tile c = grind (arith)
+
+pub index_mut-requires : goal.index_mut-requires
+index_mut-requires c = grind (arith)
+
+pub overflow_add-tile : goal.overflow_add-tile
+overflow_add-tile c = grind (arith)
+
+pub overflow_add-result : goal.overflow_add-result
+overflow_add-result c = grind (arith)
+
+pub slice_bounds-known_rows-end : goal.slice_bounds-known_rows-end
+slice_bounds-known_rows-end c = grind (arith)
+
+pub index_mut-requires-2 : goal.index_mut-requires-2
+index_mut-requires-2 c = grind (arith)
+
+pub index-requires-2 : goal.index-requires-2
+index-requires-2 c = grind (arith)

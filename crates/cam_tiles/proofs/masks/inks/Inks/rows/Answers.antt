@@ -37,3 +37,18 @@ returns-clause-each c = λ row i low small.
       ← c.deref-2.ensures.value,
     )
     (c.loop-row.invariant.done row i (omega (arith, low, c.loop-row-test.false)) small)))
+
+pub offset_bounds-deref-tile-2 : goal.offset_bounds-deref-tile-2
+offset_bounds-deref-tile-2 c = grind (arith)
+
+pub overflow_add-dark : goal.overflow_add-dark
+overflow_add-dark c = grind (arith)
+
+pub slice_bounds-dark-end : goal.slice_bounds-dark-end
+slice_bounds-dark-end c = grind (arith)
+
+pub overflow_mul-dark-2 : goal.overflow_mul-dark-2
+overflow_mul-dark-2 c = grind (arith)
+
+pub overflow_mul-dark : goal.overflow_mul-dark
+overflow_mul-dark c = grind (arith)

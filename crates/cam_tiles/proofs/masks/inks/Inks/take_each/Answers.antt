@@ -1,3 +1,5 @@
+use Rattle.std.proofs.Common.{arith}
+use Rattle.std.proofs.lemmas.Grind.{common_steps}
 use Rattle.cam_tiles.proofs.LentInks.{few_tiles, next_lent, others_long, still_inked, takes_all, words_long}
 use Rattle.cam_tiles.proofs.masks.inks.Inks.take_each.Goals as goal
 
@@ -24,3 +26,6 @@ returns c =
     takes_all _ c.self.invariant _ _ c.deref.ensures.value c.deref_mut.ensures.value _ c.deref_mut-2.ensures.value _ _ _ _
     c.deref_mut.ensures.len c.deref_mut-2.ensures.len c.take_rows.auto.decided c.take_rows.auto.dark c.take_rows.ensures
     _ c.self.view_is
+
+pub slice_bounds-next-end : goal.slice_bounds-next-end
+slice_bounds-next-end c = grind (arith, common_steps)

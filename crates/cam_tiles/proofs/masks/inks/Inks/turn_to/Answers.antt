@@ -1,4 +1,5 @@
 use Rattle.std.proofs.Common.{◌*◌, refl, ◌∙◌, arith, length}
+use Rattle.std.proofs.lemmas.Grind.{common_steps}
 use Rattle.std.proofs.lemmas.List.{with_items_is}
 use Rattle.cam_tiles.proofs.OpenedWords.{all_open, all_set, zeros}
 use Rattle.cam_tiles.proofs.masks.inks.Inks.turn_to.Goals as goal
@@ -14,3 +15,15 @@ returns-clause-open c =
     all_open c.args.columns c.args.rows c.args.tiles.now _ refl
     (λ row column low inside. rw now (c.open_dirty.ensures.each row column low inside))
     (λ w. rw c.in_ok-refill-2.ensures (zeros (64 * length c.args.tiles.now) w))
+
+pub open_dirty-requires-clause-few : goal.open_dirty-requires-clause-few
+open_dirty-requires-clause-few c = assumption arith
+
+pub open_dirty-requires-clause-rows : goal.open_dirty-requires-clause-rows
+open_dirty-requires-clause-rows c = assumption arith
+
+pub invariant_of-self-2 : goal.invariant_of-self-2
+invariant_of-self-2 c = grind (arith, common_steps)
+
+pub open_dirty-requires-clause-size : goal.open_dirty-requires-clause-size
+open_dirty-requires-clause-size c = grind (arith, common_steps)

@@ -1,4 +1,4 @@
-use Rattle.std.proofs.Common.{length}
+use Rattle.std.proofs.Common.{length, arith}
 use Rattle.cam_tiles.proofs.RunInks.{takes_joined, takes_next, takes_body, takes_two, next_stays}
 use Rattle.cam_tiles.proofs.masks.inks.taking.take_pieces.Goals as goal
 
@@ -37,3 +37,18 @@ take_run-requires-in-loop-row-3-clause-known c =
     let before = next_stays c.args.ink _ _ _ _ c.take_run.ensures before in
     let before = next_stays c.args.ink _ _ _ _ c.take_run-in-loop-row.ensures before in
     next_stays c.args.ink _ _ _ _ c.take_run-in-loop-row-2.ensures before
+
+pub take_run-requires-in-loop-row-3-clause-dark : goal.take_run-requires-in-loop-row-3-clause-dark
+take_run-requires-in-loop-row-3-clause-dark c = grind (arith)
+
+pub take_run-requires-in-loop-row-3-clause-few : goal.take_run-requires-in-loop-row-3-clause-few
+take_run-requires-in-loop-row-3-clause-few c = assumption arith
+
+pub take_run-requires-in-loop-row-3-clause-row : goal.take_run-requires-in-loop-row-3-clause-row
+take_run-requires-in-loop-row-3-clause-row c = grind (arith)
+
+pub take_run-requires-in-loop-row-3-clause-decided : goal.take_run-requires-in-loop-row-3-clause-decided
+take_run-requires-in-loop-row-3-clause-decided c = grind (arith)
+
+pub take_run-requires-in-loop-row-2-clause-few : goal.take_run-requires-in-loop-row-2-clause-few
+take_run-requires-in-loop-row-2-clause-few c = assumption arith

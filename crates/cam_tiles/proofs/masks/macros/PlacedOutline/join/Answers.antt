@@ -1,4 +1,5 @@
 use Rattle.std.proofs.Common.{◌-◌, ◌*◌, ◌≤◌, IsTrue, length, refl, subst, sym, ◌∙◌, arith, rules}
+use Rattle.std.proofs.lemmas.Grind.{common_steps}
 use Rattle.cam_units.specs.declared.point.Spot.{Spot}
 use Rattle.cam_shapes.specs.Contour.{IsInContour}
 use Rattle.cam_shapes.specs.Outline.{outline_of}
@@ -64,3 +65,18 @@ returns c =
     (λ k within. c.fill.ensures.clones k 0 (rw c.fill.ensures.len at within) refl)
     (search rules)
     c.turn_outline.ensures c.spread_marks.ensures) c.join_words.ensures)))
+
+pub spread_marks-requires : goal.spread_marks-requires
+spread_marks-requires c = grind (arith, common_steps)
+
+pub join_words-requires-clause-tiles : goal.join_words-requires-clause-tiles
+join_words-requires-clause-tiles c = grind (arith)
+
+pub slice_bounds-spare-end-2 : goal.slice_bounds-spare-end-2
+slice_bounds-spare-end-2 c = grind (arith, common_steps)
+
+pub join_words-requires-clause-same : goal.join_words-requires-clause-same
+join_words-requires-clause-same c = grind (arith, common_steps)
+
+pub turn_outline-requires-clause-wide : goal.turn_outline-requires-clause-wide
+turn_outline-requires-clause-wide c = grind (arith, common_steps)

@@ -59,3 +59,6 @@ returns c =
 
 pub returns-in_default : goal.returns-in_default
 returns-in_default c = grind (arith, joined_none, no_outline)
+
+pub turn_edge-requires-2-clause-to : goal.turn_edge-requires-2-clause-to
+turn_edge-requires-2-clause-to c = grind (arith)

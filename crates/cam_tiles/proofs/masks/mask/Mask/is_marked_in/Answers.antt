@@ -42,3 +42,6 @@ returns c =
     subst (λ (n : Marking). IsBitSet (slice_index n.rows row) column) (sym c.self.view_is)
     (c.loop-row.invariant column row from (omega (arith, until, c.loop-row-test.false)) set)) in
     rw c.in-Closed.is ((λ _. subst (AllMarked low high) c.self.view_is all), (λ _. refl))
+
+pub loop-row-init : goal.loop-row-init
+loop-row-init c = omega (arith)

@@ -30,3 +30,30 @@ returns-in-Rectangle c = grind (arith, joins_it)
 pub returns-in-Obround : goal.returns-in-Obround
 returns-in-Obround c =
     joins_it _ _ c.args.placed.now.at c.args.how _ _ c.in-Obround.is c.join_pierced-in-Obround.ensures
+
+pub join-requires-clause-sound : goal.join-requires-clause-sound
+join-requires-clause-sound c = grind (arith)
+
+pub join-requires-in-Round-clause-sound : goal.join-requires-in-Round-clause-sound
+join-requires-in-Round-clause-sound c = grind (arith)
+
+pub join-requires-in-Swept-clause-sound : goal.join-requires-in-Swept-clause-sound
+join-requires-in-Swept-clause-sound c = grind (arith)
+
+pub join_pierced-requires-clause-hole : goal.join_pierced-requires-clause-hole
+join_pierced-requires-clause-hole c = grind (arith)
+
+pub join_pierced-requires-clause-sound : goal.join_pierced-requires-clause-sound
+join_pierced-requires-clause-sound c = grind (arith)
+
+pub join_pierced-requires-in-Rectangle-clause-sound : goal.join_pierced-requires-in-Rectangle-clause-sound
+join_pierced-requires-in-Rectangle-clause-sound c = grind (arith)
+
+pub join_pierced-requires-in-Obround-clause-hole : goal.join_pierced-requires-in-Obround-clause-hole
+join_pierced-requires-in-Obround-clause-hole c = grind (arith)
+
+pub join_pierced-requires-in-Rectangle-clause-hole : goal.join_pierced-requires-in-Rectangle-clause-hole
+join_pierced-requires-in-Rectangle-clause-hole c = grind (arith)
+
+pub join_pierced-requires-in-Obround-clause-sound : goal.join_pierced-requires-in-Obround-clause-sound
+join_pierced-requires-in-Obround-clause-sound c = grind (arith)

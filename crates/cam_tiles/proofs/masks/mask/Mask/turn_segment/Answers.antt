@@ -1,3 +1,4 @@
+use Rattle.std.proofs.Common.{arith}
 use Rattle.cam_shapes.specs.declared.cap.Cap.{Cap}
 use Rattle.cam_shapes.specs.Cap.{is_in_cap}
 use Rattle.cam_shapes.specs.Edge.{crosses_ray, edge}
@@ -13,3 +14,6 @@ returns-in-Curve c =
     rw c.in-Curve.is (turns_twice (λ s. crosses_ray (relative origin.offset s) (edge c.args.here c.in-Curve.to))
     (λ s. is_in_cap (relative origin.offset s) cap) c.args.self.now c.turn_edge-in-Curve.new.self c.turn.new.self
     c.turn_edge-in-Curve.ensures c.turn.ensures)
+
+pub returns-in-Line : goal.returns-in-Line
+returns-in-Line c = grind (arith)

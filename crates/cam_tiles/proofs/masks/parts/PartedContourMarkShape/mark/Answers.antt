@@ -1,4 +1,5 @@
 use Rattle.std.proofs.Common.{◌*◌, drop, refl, rules, arith}
+use Rattle.std.proofs.lemmas.Grind.{common_steps}
 use Rattle.std.proofs.lemmas.List.{places}
 use Rattle.cam_shapes.specs.Contour.{IsInContour}
 use Rattle.cam_tiles.proofs.Fields.{field_of_wide}
@@ -16,3 +17,6 @@ returns c =
     (drop (64 * c.div_ceil.result) c.args.marks.now) (omega (arith, c.div_ceil.ensures, c.new-field.ensures.columns))
     (search (rules, places)) (λ k within. c.fill.ensures.clones k 0 (rw c.fill.ensures.len at within) refl)
     c.turn_parts.auto.marks c.spread_marks.auto.marks c.turn_parts.ensures c.spread_marks.ensures)
+
+pub turn_parts-requires-clause-wide : goal.turn_parts-requires-clause-wide
+turn_parts-requires-clause-wide c = grind (arith, common_steps)

@@ -49,3 +49,12 @@ pub returns-then-are_empty : goal.returns-then-are_empty
 returns-then-are_empty g c =
     (found g (goal.at.returns-then-are_empty g c).After-find).1 (c.are_empty.ensures.0 c.if-are_empty.true) c.clear.new.self
     c.clear.ensures
+
+pub returns-then-end-first : goal.returns-then-end-first
+returns-then-end-first c = grind (arith)
+
+pub find-requires-clause-ends : goal.find-requires-clause-ends
+find-requires-clause-ends c = omega (arith)
+
+pub are_empty-requires : goal.are_empty-requires
+are_empty-requires c = grind (arith)

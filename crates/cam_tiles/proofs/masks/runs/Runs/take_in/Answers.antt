@@ -37,3 +37,24 @@ returns-clause-columns c = λ row column. (
 
 pub returns-clause-fits : goal.returns-clause-fits
 returns-clause-fits c = λ rows fit fit_other. grind (arith, taken_fit, without_rows)
+
+pub bounds-self-k-in-loop-row-2 : goal.bounds-self-k-in-loop-row-2
+bounds-self-k-in-loop-row-2 c = grind (arith)
+
+pub bounds-self-k-in-loop-row-3 : goal.bounds-self-k-in-loop-row-3
+bounds-self-k-in-loop-row-3 c = grind (arith)
+
+pub offset_bounds-self-k-in-loop-row-3 : goal.offset_bounds-self-k-in-loop-row-3
+offset_bounds-self-k-in-loop-row-3 c = grind (arith)
+
+pub bounds-other-k : goal.bounds-other-k
+bounds-other-k c = grind (arith)
+
+pub offset_bounds-self-k-in-loop-row-2 : goal.offset_bounds-self-k-in-loop-row-2
+offset_bounds-self-k-in-loop-row-2 c = grind (arith)
+
+pub bounds-other-k-in-loop-row : goal.bounds-other-k-in-loop-row
+bounds-other-k-in-loop-row c = grind (arith)
+
+pub offset_bounds-other-k-in-loop-row : goal.offset_bounds-other-k-in-loop-row
+offset_bounds-other-k-in-loop-row c = grind (arith)

@@ -35,3 +35,15 @@ returns-clause-columns c = λ row column. (
     λ there. c.clear.ensures.none row column there,
   )),
 )
+
+pub returns-else-self-k-clause-fits : goal.returns-else-self-k-clause-fits
+returns-else-self-k-clause-fits c = grind (arith)
+
+pub bounds-self-k-then-self-k-2 : goal.bounds-self-k-then-self-k-2
+bounds-self-k-then-self-k-2 c = grind (arith)
+
+pub offset_bounds-self-k-then-self-k-2 : goal.offset_bounds-self-k-then-self-k-2
+offset_bounds-self-k-then-self-k-2 c = grind (arith)
+
+pub offset_bounds-other-k-then-self-k : goal.offset_bounds-other-k-then-self-k
+offset_bounds-other-k-then-self-k c = grind (arith)

@@ -41,3 +41,9 @@ paint_marked-requires-clause-within c column row there on =
     let here = reached (goal.at.paint_marked-requires-clause-within c).After-columns_between-columns in
     let within = (here column there.0).1 (c.requires.sides (place_in c.args.self.now column row) on) in
     (c.tiles.ensures.each (column / 64)).1 (column, (within.0, (within.1, refl)))
+
+pub paint_marked-requires-clause-tiles : goal.paint_marked-requires-clause-tiles
+paint_marked-requires-clause-tiles c = grind (arith)
+
+pub columns_between-columns-requires-clause-grid : goal.columns_between-columns-requires-clause-grid
+columns_between-columns-requires-clause-grid c = grind (arith)

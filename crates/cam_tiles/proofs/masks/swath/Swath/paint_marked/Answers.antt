@@ -120,3 +120,27 @@ returns g c =
     missed_done shape s.grid s.columns s.inks first end c.args.tiles.first c.args.tiles.end inv.grid.rows.1
     (λ column row near below. within column row (near, below)) c.open_among-tiles.ensures.done column row near below
     (elim apart [ inl early ↦ inl (omega arith) | inr late ↦ inr (omega arith) ])))
+
+pub overflow_mul-columns : goal.overflow_mul-columns
+overflow_mul-columns c = grind (arith)
+
+pub overflow_sub-columns : goal.overflow_sub-columns
+overflow_sub-columns c = grind (arith)
+
+pub take_marked-requires-clause-some : goal.take_marked-requires-clause-some
+take_marked-requires-clause-some c = assumption arith
+
+pub from_tile-part-requires-clause-tile : goal.from_tile-part-requires-clause-tile
+from_tile-part-requires-clause-tile c = grind (arith)
+
+pub overflow_mul-tiles : goal.overflow_mul-tiles
+overflow_mul-tiles c = grind (arith)
+
+pub from_tile-part-requires-clause-grid : goal.from_tile-part-requires-clause-grid
+from_tile-part-requires-clause-grid c = grind (arith)
+
+pub take_marked-requires-clause-end : goal.take_marked-requires-clause-end
+take_marked-requires-clause-end c = grind (arith)
+
+pub take_marked-requires-clause-room : goal.take_marked-requires-clause-room
+take_marked-requires-clause-room c = grind (arith)

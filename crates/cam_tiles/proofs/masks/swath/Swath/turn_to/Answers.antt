@@ -89,3 +89,9 @@ invariant_of-self-in_err-resize-2 c = no_columns _ c.self.invariant.grid refl c.
 
 pub invariant_of-self-in_err-turn_to : goal.invariant_of-self-in_err-turn_to
 invariant_of-self-in_err-turn_to c = no_columns _ c.self.invariant.grid refl c.in_err-turn_to.ensures.none
+
+pub returns-clause-columns : goal.returns-clause-columns
+returns-clause-columns c = grind (arith)
+
+pub returns-clause-grid : goal.returns-clause-grid
+returns-clause-grid c = assumption arith

@@ -116,3 +116,9 @@ returns-in-Filled c =
     subst
     (λ (f : Figure). PaintsSwath c.args.self.now (leaf (shape_of f) c.args.print.dark ∷ []) c.paint_marked-in-Filled.new.self)
     (sym c.in-Filled.is) c.paint_marked-in-Filled.ensures
+
+pub returns-in_default-placed_of : goal.returns-in_default-placed_of
+returns-in_default-placed_of c = grind (arith)
+
+pub returns-in_default-placed_of-2 : goal.returns-in_default-placed_of-2
+returns-in_default-placed_of-2 c = grind (arith)

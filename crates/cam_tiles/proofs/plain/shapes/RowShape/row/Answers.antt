@@ -1,3 +1,4 @@
+use Rattle.std.proofs.Common.{arith}
 use Rattle.cam_tiles.proofs.plain.shapes.RowShape.row.Goals as goal
 
 pub returns-in-Disc : goal.returns-in-Disc
@@ -29,3 +30,27 @@ returns-in-Edge c = rw c.in-Edge.is c.edge_row.ensures
 
 pub returns-in-Cap : goal.returns-in-Cap
 returns-in-Cap c = rw c.in-Cap.is c.cap_row.ensures
+
+pub bar_row-requires-clause-bar : goal.bar_row-requires-clause-bar
+bar_row-requires-clause-bar c = grind (arith)
+
+pub disc_row-requires-clause-disc : goal.disc_row-requires-clause-disc
+disc_row-requires-clause-disc c = grind (arith)
+
+pub arc_row-requires-clause-arc : goal.arc_row-requires-clause-arc
+arc_row-requires-clause-arc c = grind (arith)
+
+pub rect_row-requires-clause-rectangle : goal.rect_row-requires-clause-rectangle
+rect_row-requires-clause-rectangle c = grind (arith)
+
+pub obround_row-requires-clause-obround : goal.obround_row-requires-clause-obround
+obround_row-requires-clause-obround c = grind (arith)
+
+pub capsule_row-requires-clause-capsule : goal.capsule_row-requires-clause-capsule
+capsule_row-requires-clause-capsule c = grind (arith)
+
+pub hole_row-requires-clause-disc : goal.hole_row-requires-clause-disc
+hole_row-requires-clause-disc c = grind (arith)
+
+pub swept_row-requires-clause-swept : goal.swept_row-requires-clause-swept
+swept_row-requires-clause-swept c = grind (arith)

@@ -1,0 +1,11 @@
+use Rattle.std.proofs.Common.{arith}
+use Rattle.cam_edits.proofs.board.SheetContent.reserve.Goals as goal
+
+pub returns-in-Gerber-clause-content : goal.returns-in-Gerber-clause-content
+returns-in-Gerber-clause-content c = grind (arith)
+
+pub returns-in-Gerber-clause-room : goal.returns-in-Gerber-clause-room
+returns-in-Gerber-clause-room c = grind (arith)
+
+pub returns-in-Drill-clause-content : goal.returns-in-Drill-clause-content
+returns-in-Drill-clause-content c = grind (arith)
