@@ -13,7 +13,6 @@ use Rattle.cam_refusals.specs.FileFaults.{no_memory}
 use Rattle.cam_gerber.specs.Computing.{reading_of}
 use Rattle.cam_gerber.proofs.Reading.{means_its_reading, reading_is}
 use Rattle.cam_gerber.proofs.LeastFaults.{faults_are_numbered}
-use Rattle.cam_gerber.proofs.LeastFaults as least
 use Rattle.cam_gerber.proofs.SoundReadings.{content_is_sound}
 use Rattle.cam_gerber.proofs.SoundReadings as sound
 

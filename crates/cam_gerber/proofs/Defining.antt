@@ -1,7 +1,7 @@
 -- Definitions of apertures and macros.
 use Rattle.std.proofs.Common.{◌≡◌, ℕ, suc, ◌+◌, take, arith, List, [], ◌∷◌, ◌++◌, Bool, true, false, cond, Option, Some}
 use Rattle.std.proofs.Common.{None, refl, sym, ap, ap₂, ◌∙◌, subst, inr}
-use Rattle.std.specs.Prelude.{unwrap_or, is_none, is_some, nat_eq, not, ◌==◌, ◌||◌, MatchOption}
+use Rattle.std.specs.Prelude.{unwrap_or, is_none, is_some, nat_eq, ◌==◌, ◌||◌, MatchOption}
 use Rattle.cam_refusals.specs.declared.refusal.Refusal.{Refusal}
 use Rattle.cam_refusals.specs.declared.refusal.Refusal.TheVariants.{NoUnit, Redefined, StrayBlock, UnknownCommand}
 use Rattle.cam_refusals.specs.declared.refusal.Refusal.TheVariants as refusal

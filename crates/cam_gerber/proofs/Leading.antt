@@ -24,7 +24,6 @@ use Rattle.cam_gerber.specs.Machinery.OpenNumbers.{AreWithin}
 use Rattle.cam_gerber.specs.Machinery.Tracking.{Obeys, Tracks, content_in}
 use Rattle.cam_gerber.proofs.OpenNumbers.{opens_within}
 use Rattle.cam_gerber.proofs.Reading.{means_its_reading, same_said}
-use Rattle.cam_gerber.proofs.Reading as reading
 use Rattle.cam_gerber.proofs.SoundReadings.{stated_within}
 
 end_same : (command : Command) → is_end (statement_said command) ≡ is_end_command command

@@ -1,5 +1,5 @@
 -- Each statement without a fault leaves what is in hand sound.
-use Rattle.std.proofs.Common.{◌≡◌, ℕ, ◌+◌, ◌*◌, ◌<◌, ◌≤◌, List, [], ◌∷◌, ◌++◌, drop, length, map, Bool, true, false}
+use Rattle.std.proofs.Common.{◌≡◌, ℕ, ◌+◌, ◌*◌, ◌<◌, List, [], ◌∷◌, ◌++◌, drop, length, map, Bool, true, false}
 use Rattle.std.proofs.Common.{cond, Option, Some, None, nat_eq, refl, arith, lit≤}
 use Rattle.std.specs.Prelude.{◌||◌, ◌&&◌, not, IfSome, unsigned_abs}
 use Rattle.std.specs.Option.{option_map}

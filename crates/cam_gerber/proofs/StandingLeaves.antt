@@ -12,19 +12,7 @@ use Rattle.cam_shapes.specs.declared.segments.Seg.TheVariants.{Line, Curve}
 use Rattle.cam_shapes.specs.Placing.{placed_direction, placed_seg}
 use Rattle.cam_objects.specs.declared.object.Object.{Object}
 use Rattle.cam_objects.specs.declared.object.Object.TheVariants.{Flash, Draw, Arc, Region}
-use Rattle.cam_objects.specs.Leaves.{
-  Leaf,
-  Meaning,
-  arc_leaves,
-  draw_leaves,
-  object_leaves,
-  origin,
-  placed,
-  polarity_in,
-  drawn,
-  round_width,
-  turned_tip,
-}
+use Rattle.cam_objects.specs.Leaves.{Leaf, Meaning, arc_leaves, draw_leaves, object_leaves, origin, placed, polarity_in, drawn, round_width}
 use Rattle.cam_objects.specs.Soundness.{AreOnBoard, points_of, points_of_seg, points_of_shape}
 use Rattle.cam_objects.proofs.Placed.{turned_on_board}
 use Rattle.cam_objects.specs.declared.tip.Tip.{Tip}

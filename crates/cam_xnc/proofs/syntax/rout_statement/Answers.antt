@@ -18,3 +18,15 @@ returns-in-Some-coordinates c = grind (arith, common_steps)
 pub returns-in-None-coordinates : goal.returns-in-None-coordinates
 unfolding rout_statement
 returns-in-None-coordinates c = grind (arith, common_steps)
+
+pub slice_bounds-coordinates-count : goal.slice_bounds-coordinates-count
+unfolding rout_statement
+slice_bounds-coordinates-count c = grind (arith)
+
+pub slice_bounds-coordinates-count-then-starts_with-2 : goal.slice_bounds-coordinates-count-then-starts_with-2
+unfolding rout_statement
+slice_bounds-coordinates-count-then-starts_with-2 c = grind (arith)
+
+pub slice_bounds-coordinates-start-then-starts_with-2 : goal.slice_bounds-coordinates-start-then-starts_with-2
+unfolding rout_statement
+slice_bounds-coordinates-start-then-starts_with-2 c = grind (arith)

@@ -1,4 +1,5 @@
-use Rattle.std.proofs.Common.{◌≡◌, [], ◌∷◌, ◌++◌, None, cond, ap, ap₂, ◌∙◌}
+use Rattle.std.proofs.Common.{◌≡◌, [], ◌∷◌, ◌++◌, None, cond, ap, ap₂, ◌∙◌, arith}
+use Rattle.std.proofs.lemmas.Grind.{common_steps}
 use Rattle.cam_objects.specs.Attributes.{attribute_of, attribute_place}
 use Rattle.cam_gerber.proofs.KeptAttributes.{grown, new_key}
 use Rattle.cam_gerber.proofs.attributes.Attributes.push.Goals as goal
@@ -14,3 +15,9 @@ invariant_of-self-in-Ok c =
     c.in-Ok.ensures.ok
     (c.in_ok-insert.ensures.keys
     ∙ ap (λ b. cond b keys (keys ++ key ∷ [])) (new_key key.items keys list c.self.invariant none))
+
+pub invariant_of-self-in-Err : goal.invariant_of-self-in-Err
+invariant_of-self-in-Err c = grind (arith, common_steps)
+
+pub returns-in-Ok : goal.returns-in-Ok
+returns-in-Ok c = grind (arith)

@@ -1,5 +1,4 @@
 use Rattle.std.proofs.Common.{arith}
-use Rattle.cam_gerber.specs.Faults.{can_draw}
 use Rattle.cam_gerber.proofs.Dictionary.{absent_tip, aperture_tip, block_tip, nothing_draws}
 use Rattle.cam_gerber.proofs.built.Built.can_draw.Goals as goal
 

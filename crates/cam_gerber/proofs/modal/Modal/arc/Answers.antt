@@ -1,4 +1,3 @@
-use Rattle.std.proofs.Common.{false}
 use Rattle.cam_gerber.specs.Machinery.Tracking.{centre_by, moved_point}
 use Rattle.cam_gerber.proofs.Paths.{on_board_test, centre_outside}
 use Rattle.cam_gerber.proofs.modal.Modal.arc.Goals as goal

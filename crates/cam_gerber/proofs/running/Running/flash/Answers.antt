@@ -1,4 +1,4 @@
-use Rattle.std.proofs.Common.{sym, ap, ◌∙◌}
+use Rattle.std.proofs.Common.{sym, ap, ◌∙◌, arith}
 use Rattle.cam_objects.specs.declared.object.Object.TheVariants.{Flash}
 use Rattle.cam_objects.specs.Soundness.{is_on_board}
 use Rattle.cam_gerber.proofs.Flashing.{flash_tracks}
@@ -22,3 +22,6 @@ pub weight_inside-requires : goal.weight_inside-requires
 weight_inside-requires c =
     flash_well c.args.self.now c.in-Some.aperture c.in-Some-moved_point.at c.turn.result c.args.self.now.modal.dark c.requires c.in-Some.is
     (ap is_on_board c.in-Some-moved_point.ensures.0 ∙ c.in-Some-moved_point.ensures.1)
+
+pub returns-then-is_full : goal.returns-then-is_full
+returns-then-is_full c = grind (arith)

@@ -1,4 +1,5 @@
-use Rattle.std.proofs.Common.{◌<◌, length, refl, rules}
+use Rattle.std.proofs.Common.{◌<◌, length, refl, rules, arith}
+use Rattle.std.proofs.lemmas.Grind.{common_steps}
 use Rattle.cam_gerber.proofs.Innermost.{made_in_block}
 use Rattle.cam_gerber.proofs.running.Running.keep.Goals as goal
 
@@ -14,3 +15,9 @@ returns-in-Some c = record {
       c.push.new.self _ none t maker is count room some
       c.in-Some.ensures.value c.in_ok-push.ensures c.saturating_add-block.ensures refl;
 }
+
+pub returns-in-Some-repeat : goal.returns-in-Some-repeat
+returns-in-Some-repeat c = grind (arith, common_steps)
+
+pub returns : goal.returns
+returns c = grind (arith)

@@ -110,3 +110,9 @@ returns-in-MultiQuadrant c =
         attributes = t.attributes;
       },
     ))
+
+pub returns-in-DefineMacro : goal.returns-in-DefineMacro
+returns-in-DefineMacro c = grind (arith)
+
+pub returns-in-DefineAperture : goal.returns-in-DefineAperture
+returns-in-DefineAperture c = grind (arith)

@@ -1,4 +1,5 @@
 use Rattle.std.proofs.Common.{◌≡◌, ◌∷◌, sym, ap, subst, ◌∙◌, length, None, arith}
+use Rattle.std.proofs.lemmas.Grind.{common_steps}
 use Rattle.std.proofs.lemmas.Bool.{lt-leb}
 use Rattle.cam_refusals.specs.Checks.{first_holding}
 use Rattle.cam_commands.specs.Commands.{OpenBlock}
@@ -20,3 +21,6 @@ returns c = λ past none t.
     (c.in_ok-push_front.ensures.items
     ∙ ap (λ objects. record { number = c.in-Some.number; objects = objects; leaves = 0 } ∷ c.args.self.now.frames.blocks.items)
     c.new-objects.ensures))
+
+pub returns-then-len-ge-DEPTH_LIMIT : goal.returns-then-len-ge-DEPTH_LIMIT
+returns-then-len-ge-DEPTH_LIMIT c = grind (arith, common_steps)

@@ -11,3 +11,12 @@ returns-in-Plot-true c = λ past none t. grind (arith, operates)
 
 pub returns-in-Plot-false : goal.returns-in-Plot-false
 returns-in-Plot-false c = λ past none t. grind (arith, operates)
+
+pub returns-in-Move-true : goal.returns-in-Move-true
+returns-in-Move-true c = grind (arith)
+
+pub returns-in-Flash-false : goal.returns-in-Flash-false
+returns-in-Flash-false c = grind (arith)
+
+pub returns-in-Move-false : goal.returns-in-Move-false
+returns-in-Move-false c = grind (arith)

@@ -47,3 +47,9 @@ loop-answer-preserved c = grind (arith, goes_on)
 pub returns : goal.returns
 returns c =
     unended c.args.bytes.now c.loop-answer.self c.loop-answer.words c.loop-answer.invariant c.in_default.ensures.none.0
+
+pub loop-answer-smaller : goal.loop-answer-smaller
+loop-answer-smaller c = grind (arith)
+
+pub returns-in-Err-Memory : goal.returns-in-Err-Memory
+returns-in-Err-Memory c = grind (arith)

@@ -1,4 +1,5 @@
 use Rattle.std.proofs.Common.{arith, sym, subst, ◌∙◌}
+use Rattle.std.proofs.lemmas.Grind.{common_steps}
 use Rattle.cam_gerber.specs.Machinery.WellMade.{IsWellMadeItem}
 use Rattle.cam_gerber.proofs.Closing.{closing_well, settles_empty, settles_some}
 use Rattle.cam_gerber.proofs.running.Running.settle.Goals as goal
@@ -15,3 +16,6 @@ add_item-requires c =
 
 pub returns : goal.returns
 returns c = λ past none t. grind (arith, settles_some)
+
+pub returns-in_default : goal.returns-in_default
+returns-in_default c = grind (arith, common_steps)

@@ -34,3 +34,6 @@ returns c = λ past none t out plots.
     ∙ c.is_full.ensures past object (record { frames = t.frames; built = t.built }) (record { leaves = leaves; depth = depth }))
     (subst (λ made. Keeps made 1 c.args.self.now c.keep.new.self) c.stroke-object.ensures c.in_ok-keep.ensures)
     (subst (λ to. IsOperated c.keep.new.self.modal c.args.operation.now to c.operated.new.self) c.end.ensures.value c.operated.ensures)
+
+pub returns-then-not-can_draw : goal.returns-then-not-can_draw
+returns-then-not-can_draw c = grind (arith)

@@ -1,4 +1,4 @@
-use Rattle.std.proofs.Common.{[], ◌∷◌, refl, sym, ◌∙◌, inl}
+use Rattle.std.proofs.Common.{[], ◌∷◌, refl, sym, ◌∙◌, inl, arith}
 use Rattle.cam_xnc.specs.Bytes.{line_packed}
 use Rattle.cam_xnc.specs.Machinery.Cutters.{found}
 use Rattle.cam_xnc.specs.Syntax.{statement_of}
@@ -39,3 +39,30 @@ returns-then-holds_bad_byte-clause-fault c =
     inl (takes c.args.bytes.now c.loop-line.invariant.0 (found c.in-Some.line) _ c.next.new.self code c.leading_skipped.result
     (statement_of (line_packed code)) c.loop-line.invariant.2 c.in-Some.ensures.some c.code_of-code.ensures.value
     (sym c.is_blank.ensures ∙ c.if-is_blank.false) c.leading_skipped.ensures.value refl ∙ rw bad refl)
+
+pub loop-line-smaller-then-is_blank : goal.loop-line-smaller-then-is_blank
+loop-line-smaller-then-is_blank c = grind (arith)
+
+pub returns-in-Err-Memory-clause-fault : goal.returns-in-Err-Memory-clause-fault
+returns-in-Err-Memory-clause-fault c = grind (arith)
+
+pub returns-in_default-statement_of-clause-fault : goal.returns-in_default-statement_of-clause-fault
+returns-in_default-statement_of-clause-fault c = grind (arith)
+
+pub returns-in-Err-Memory-clause-ends : goal.returns-in-Err-Memory-clause-ends
+returns-in-Err-Memory-clause-ends c = grind (arith)
+
+pub returns-clause-fault : goal.returns-clause-fault
+returns-clause-fault c = grind (arith)
+
+pub returns-in-Err-Fault-clause-ends : goal.returns-in-Err-Fault-clause-ends
+returns-in-Err-Fault-clause-ends c = grind (arith)
+
+pub returns-then-is_last_line-clause-ends : goal.returns-then-is_last_line-clause-ends
+returns-then-is_last_line-clause-ends c = grind (arith)
+
+pub loop-line-preserved-then-is_blank : goal.loop-line-preserved-then-is_blank
+loop-line-preserved-then-is_blank c = grind (arith)
+
+pub loop-line-smaller : goal.loop-line-smaller
+loop-line-smaller c = grind (arith)
