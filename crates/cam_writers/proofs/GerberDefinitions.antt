@@ -1,5 +1,5 @@
 -- What the definitions of apertures of canonical texts say, and their form: the number, the name and the parameters.
-use Rattle.std.proofs.Common.{◌≡◌, ℕ, ◌+◌, ◌^◌, ◌<◌, ◌≤◌, List, [], ◌∷◌, ◌++◌, length, map, Bool, true, false}
+use Rattle.std.proofs.Common.{◌≡◌, ℕ, ◌^◌, ◌<◌, ◌≤◌, List, [], ◌∷◌, ◌++◌, length, map, Bool, true, false}
 use Rattle.std.proofs.Common.{eqb, ltb, Some, None, refl, ap, ◌∙◌, arith, append-nil, codes, decimal}
 use Rattle.std.specs.Prelude.{ℤ, pos, not, ◌==◌, unsigned_abs, if◌then◌else◌}
 use Rattle.std.specs.Char.{is_ascii_digit}

@@ -1,4 +1,4 @@
-use Rattle.std.proofs.Common.{◌≡◌, true}
+use Rattle.std.proofs.Common.{◌≡◌, true, arith}
 use Rattle.std.proofs.lemmas.Result.{err_from_is_err_and}
 use Rattle.cam_script.specs.Words.{is_name}
 use Rattle.cam_script.proofs.RefusedMemory.{edit_made, edit_refused, edit_starved}
@@ -26,3 +26,9 @@ returns c =
     rw (c.from.ensures, c.in_ok-name.ensures.ok)
     (edit_made c.args.verb.now c.args.words.now c.in-Some.name.now c.next.new.self
     c.in-Some.ensures.some named c.in_ok-change.change c.in_ok-change.ensures)
+
+pub returns-in_default : goal.returns-in_default
+returns-in_default c = grind (arith)
+
+pub returns-then-not-is_name : goal.returns-then-not-is_name
+returns-then-not-is_name c = grind (arith)

@@ -1,4 +1,4 @@
-use Rattle.std.proofs.Common.{◌∙◌, sym}
+use Rattle.std.proofs.Common.{◌∙◌, sym, arith}
 use Rattle.std.proofs.lemmas.Result.{err_from_is_err_and}
 use Rattle.cam_script.proofs.Forms.{line_read, line_refused, line_without_words}
 use Rattle.cam_script.proofs.parse.parse_line.Goals as goal
@@ -21,3 +21,9 @@ returns c =
     line_read c.args.line.now c.in-Some.verb.now c.next.new.self c.if-line-gt-LINE_LIMIT.false
     (sym c.new-words.ensures ∙ c.in-Some.ensures.some)
     (λ e. c.if-first_byte-eq35.false (c.first_byte.ensures ∙ e)) c.in_ok-line.line c.in_ok-line.ensures
+
+pub returns-then-line-gt-LINE_LIMIT : goal.returns-then-line-gt-LINE_LIMIT
+returns-then-line-gt-LINE_LIMIT c = grind (arith)
+
+pub returns-then-first_byte-eq35 : goal.returns-then-first_byte-eq35
+returns-then-first_byte-eq35 c = grind (arith)

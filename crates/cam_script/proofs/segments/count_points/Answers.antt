@@ -27,3 +27,9 @@ pub returns : goal.returns
 returns c =
     counts_all (points_in c.args.words.now) (points_in c.loop-x.rest) c.loop-x.count c.loop-x.invariant.counted
     (ap points_in c.in_default.ensures.none.0)
+
+pub overflow_add-count : goal.overflow_add-count
+overflow_add-count c = grind (arith)
+
+pub loop-x-smaller : goal.loop-x-smaller
+loop-x-smaller c = grind (arith)

@@ -27,3 +27,9 @@ pub returns : goal.returns
 returns c =
     counts_all (segs_in c.args.words.now) (segs_in c.loop-form.rest) c.loop-form.count c.loop-form.invariant.counted
     (ap segs_in c.in_default.ensures.none.0)
+
+pub loop-form-smaller : goal.loop-form-smaller
+loop-form-smaller c = grind (arith)
+
+pub overflow_add-count : goal.overflow_add-count
+overflow_add-count c = grind (arith)

@@ -1,4 +1,5 @@
 use Rattle.cam_undo.proofs.Plays.{after_group-snoc, answers-snoc, front_fits, last_fits}
+use Rattle.std.proofs.lemmas.Grind.{common_steps}
 use Rattle.cam_undo.proofs.groups.play_group.Goals as goal
 use Rattle.std.proofs.Common.{◌∙◌, append_assoc, arith, sym}
 
@@ -35,3 +36,12 @@ loop-step-preserved g c =
         rw c.unwrap.ensures at c.push.ensures.len,
       );
     }
+
+pub loop-step-init : goal.loop-step-init
+loop-step-init c = grind (arith)
+
+pub returns-clause-answers : goal.returns-clause-answers
+returns-clause-answers c = grind (arith, common_steps)
+
+pub returns-clause-content : goal.returns-clause-content
+returns-clause-content c = grind (arith)

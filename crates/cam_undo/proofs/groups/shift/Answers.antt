@@ -1,4 +1,5 @@
 use Rattle.cam_undo.proofs.Lasts.{keep_last-room, steps_of-snoc, with_last}
+use Rattle.std.proofs.lemmas.Grind.{common_steps}
 use Rattle.cam_undo.proofs.Plays.{last_group_fits}
 use Rattle.cam_undo.proofs.groups.shift.Goals as goal
 use Rattle.cam_undo.specs.Kept.{steps_of}
@@ -38,3 +39,30 @@ returns-in-Some-pop_back-clause-shifted g c =
       ) refl;
       played = rw (c.play_group.ensures.content, c.room.ensures.content) refl;
     }
+
+pub returns-in-Some-pop_back-clause-count : goal.returns-in-Some-pop_back-clause-count
+returns-in-Some-pop_back-clause-count c = grind (arith, common_steps)
+
+pub returns-in_default-pop_back-clause-refused : goal.returns-in_default-pop_back-clause-refused
+returns-in_default-pop_back-clause-refused c = assumption arith
+
+pub returns-in_default-pop_back-clause-count : goal.returns-in_default-pop_back-clause-count
+returns-in_default-pop_back-clause-count c = grind (arith)
+
+pub returns-in_err-played-clause-capacity : goal.returns-in_err-played-clause-capacity
+returns-in_err-played-clause-capacity c = grind (arith)
+
+pub returns-in-Some-pop_back-clause-refused : goal.returns-in-Some-pop_back-clause-refused
+returns-in-Some-pop_back-clause-refused c = assumption arith
+
+pub returns-in_default-pop_back-clause-capacity : goal.returns-in_default-pop_back-clause-capacity
+returns-in_default-pop_back-clause-capacity c = grind (arith)
+
+pub returns-in-Some-pop_back-clause-capacity : goal.returns-in-Some-pop_back-clause-capacity
+returns-in-Some-pop_back-clause-capacity c = grind (arith)
+
+pub returns-in_err-played-clause-count : goal.returns-in_err-played-clause-count
+returns-in_err-played-clause-count c = omega (arith)
+
+pub returns-in_default-pop_back-clause-shifted : goal.returns-in_default-pop_back-clause-shifted
+returns-in_default-pop_back-clause-shifted c = grind (arith)

@@ -1,4 +1,5 @@
 use Rattle.std.proofs.Common.{◌∙◌, ℕ, pos, sym, ap, arith}
+use Rattle.std.proofs.lemmas.Grind.{common_steps}
 use Rattle.std.specs.Global.{Vec}
 use Rattle.cam_writers.proofs.InForce.{tool_added}
 use Rattle.cam_writers.proofs.Walks.{never_past}
@@ -20,3 +21,6 @@ loop-place-preserved c =
           (never_past c.args.tools.now c.loop-place.place (0, record { 0 = pos 0 }) (omega (arith, c.loop-place.invariant.end))
           (sym c.at.ensures ∙ w.in_default.is))
     ]
+
+pub returns : goal.returns
+returns c = grind (arith, common_steps)

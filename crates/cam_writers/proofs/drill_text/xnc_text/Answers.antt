@@ -1,4 +1,5 @@
-use Rattle.std.proofs.Common.{◌∙◌, ap}
+use Rattle.std.proofs.Common.{◌∙◌, ap, arith}
+use Rattle.std.proofs.lemmas.Grind.{common_steps}
 use Rattle.cam_objects.proofs.SoundItems.{meets_drill}
 use Rattle.cam_objects.specs.Contents.{drill_content_of}
 use Rattle.cam_objects.specs.DrillSoundness.{IsSoundDrillItem, tool_of}
@@ -25,3 +26,6 @@ returns-clause-text c =
 
 pub returns-clause-reads_back : goal.returns-clause-reads_back
 returns-clause-reads_back c = ap drill_reading_of (returns-clause-text c) ∙ reads_back (drill_content_of c.args.layer.now) c.requires
+
+pub loop-item-preserved : goal.loop-item-preserved
+loop-item-preserved c = grind (arith, common_steps)

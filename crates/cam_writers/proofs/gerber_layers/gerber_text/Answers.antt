@@ -1,4 +1,5 @@
 use Rattle.std.proofs.Common.{arith, ◌∙◌, ap}
+use Rattle.std.proofs.lemmas.Grind.{common_steps}
 use Rattle.cam_objects.specs.Contents.{content_of}
 use Rattle.cam_gerber.specs.Computing.{reading_of}
 use Rattle.cam_writers.specs.Phrases.{spelled}
@@ -26,3 +27,6 @@ pub returns-clause-reads_back : goal.returns-clause-reads_back
 returns-clause-reads_back c =
     ap reading_of (returns-clause-text c)
     ∙ gerber_reads_back (content_of c.args.layer.now) c.requires.attributes c.requires.content
+
+pub loop-item-preserved : goal.loop-item-preserved
+loop-item-preserved c = grind (arith, common_steps)

@@ -1,4 +1,5 @@
 use Rattle.std.proofs.Common.{◌≡◌, ◌∙◌, ℕ, ◌+◌, ◌<◌, List, [], ◌∷◌, ◌++◌, Some, ap, append_assoc, arith, length, sym, take}
+use Rattle.std.proofs.lemmas.Grind.{common_steps}
 use Rattle.std.proofs.lemmas.List.{flat_map_more, take_more}
 use Rattle.std.proofs.lemmas.Option.{get_or_from_slice_get}
 use Rattle.std.specs.Prelude.{codes, slice_get}
@@ -25,3 +26,6 @@ loop-place-preserved c =
     c.loop-place.text.items c.extend_from_slice.new.self.items c.push_primitive.new.text.items
     (omega (arith, c.loop-place-test.true, c.len-place-end.ensures)) c.at-primitive.ensures c.loop-place.invariant
     c.in_ok-extend_from_slice.ensures.items c.in_ok-push_primitive.ensures
+
+pub returns : goal.returns
+returns c = grind (arith, common_steps)

@@ -1,9 +1,10 @@
 use Rattle.cam_undo.proofs.Lasts.{steps_of-kept}
+use Rattle.std.proofs.lemmas.Grind.{common_steps}
 use Rattle.cam_undo.proofs.Ties.{accepted_state, accepted_tied, keeps}
 use Rattle.cam_undo.proofs.history.History.accept.Goals as goal
 use Rattle.cam_undo.specs.Kept.{steps_of}
 use Rattle.cam_undo.specs.Timelines.{with_step}
-use Rattle.std.proofs.Common.{◌≡◌, None, Some, ap, refl}
+use Rattle.std.proofs.Common.{◌≡◌, None, Some, ap, refl, arith}
 
 pub returns-in-Some-clause-kept : goal.returns-in-Some-clause-kept
 returns-in-Some-clause-kept g c =
@@ -51,3 +52,15 @@ returns-clause-accepted g c =
     accepted_state g.S.Reversible g.met.S.Reversible.answer_fits g.met.S.Reversible.gives_back_content
     c.args.self.now _ c.args.step (g.S.Reversible.content c.args.doc.now) (g.S.Reversible.content c.play_onto-2.new.doc)
     (returns-clause-kept g c) c.in_ok-play_onto-2.ensures.content c.requires.fits
+
+pub returns-clause-depth : goal.returns-clause-depth
+returns-clause-depth c = grind (arith)
+
+pub invariant_of-self-in_err-play_onto-2 : goal.invariant_of-self-in_err-play_onto-2
+invariant_of-self-in_err-play_onto-2 c = assumption arith
+
+pub returns-in-Some-clause-depth : goal.returns-in-Some-clause-depth
+returns-in-Some-clause-depth c = grind (arith)
+
+pub invariant_of-self-2 : goal.invariant_of-self-2
+invariant_of-self-2 c = grind (arith, common_steps)

@@ -1,4 +1,5 @@
 use Rattle.cam_undo.proofs.Lasts.{steps_of-kept, steps_of-none}
+use Rattle.std.proofs.lemmas.Grind.{common_steps}
 use Rattle.cam_undo.proofs.Ties.{ended_kept, ended_state_as, ended_tied_as, keeps}
 use Rattle.cam_undo.proofs.history.History.end.Given.{Over}
 use Rattle.cam_undo.proofs.history.History.end.Goals as goal
@@ -55,3 +56,24 @@ returns-then-len-gt0-clause-ended g c doc =
     (steps_of c.self.inside.future.items) c.in-Some.group.items (g.S.Reversible.content doc) (no_future g c)
     (edited g c)
     ∙ ap (λ kept. ended kept.depth (timeline_at g.S.Reversible kept (g.S.Reversible.content doc))) (same g c))
+
+pub returns-else-len-gt0-clause-ended : goal.returns-else-len-gt0-clause-ended
+returns-else-len-gt0-clause-ended c = grind (arith, common_steps)
+
+pub returns-in_default-clause-refused : goal.returns-in_default-clause-refused
+returns-in_default-clause-refused c = grind (arith)
+
+pub returns-in_default-clause-tied : goal.returns-in_default-clause-tied
+returns-in_default-clause-tied c = grind (arith)
+
+pub returns-else-len-gt0-clause-tied : goal.returns-else-len-gt0-clause-tied
+returns-else-len-gt0-clause-tied c = grind (arith, common_steps)
+
+pub returns-else-len-gt0-clause-kept : goal.returns-else-len-gt0-clause-kept
+returns-else-len-gt0-clause-kept c = grind (arith)
+
+pub invariant_of-self-then-len-gt0 : goal.invariant_of-self-then-len-gt0
+invariant_of-self-then-len-gt0 c = grind (arith, common_steps)
+
+pub invariant_of-self-else-len-gt0 : goal.invariant_of-self-else-len-gt0
+invariant_of-self-else-len-gt0 c = grind (arith)

@@ -2,7 +2,7 @@ use Rattle.cam_undo.proofs.Lasts.{last_steps, no_last_steps}
 use Rattle.cam_undo.proofs.Ties.{undo_leads}
 use Rattle.cam_undo.proofs.history.History.last_undo.Goals as goal
 use Rattle.circular_buffer.specs.Buffer.{last_item}
-use Rattle.std.proofs.Common.{◌∙◌, ◌≡◌, None, Some, ap, sym}
+use Rattle.std.proofs.Common.{◌∙◌, ◌≡◌, None, Some, ap, sym, arith}
 use Rattle.std.specs.Option.{option_copied}
 
 pub returns-in-Some-clause-leads : goal.returns-in-Some-clause-leads
@@ -17,3 +17,6 @@ pub returns-in-None-clause-kept : goal.returns-in-None-clause-kept
 returns-in-None-clause-kept g c =
     let ring : last_item c.self.inside.past.items ≡ None = sym c.back.ensures ∙ ap option_copied c.in-None.is in
     rw (← c.self.view_is) (sym (no_last_steps c.self.inside.past.items ring))
+
+pub returns-in-None-clause-leads : goal.returns-in-None-clause-leads
+returns-in-None-clause-leads c = assumption arith

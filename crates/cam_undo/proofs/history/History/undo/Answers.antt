@@ -1,4 +1,5 @@
 use Rattle.cam_undo.proofs.Lasts.{closed, filled, length-steps_of}
+use Rattle.std.proofs.lemmas.Grind.{common_steps}
 use Rattle.cam_undo.proofs.Ties.{keeps, may_undo_as, undone_kept, undone_state, undone_tied}
 use Rattle.cam_undo.proofs.history.History.undo.Given.{Over}
 use Rattle.cam_undo.proofs.history.History.undo.Goals as goal
@@ -7,7 +8,7 @@ use Rattle.cam_undo.specs.Kept.{steps_of}
 use Rattle.cam_undo.specs.Machine.{undo_fault, undone}
 use Rattle.cam_undo.specs.Timelines.{Fits, timeline_at, with_last_undone}
 use Rattle.cam_undo.specs.declared.fault.HistoryFault.TheVariants.{Memory}
-use Rattle.std.proofs.Common.{◌∙◌, ◌<◌, ◌≡◌, IfErr, None, ap, length, refl, rules, subst, sym}
+use Rattle.std.proofs.Common.{◌∙◌, ◌<◌, ◌≡◌, IfErr, None, ap, length, refl, rules, subst, sym, arith}
 
 none : (g : Over) (c : In_ok-shift g) → c.self.inside.group ≡ None
 none g c = closed c.self.inside.group (sym c.is_some.ensures ∙ c.if-is_some.false)
@@ -70,3 +71,30 @@ returns-clause-undone g c =
     (g.S.Reversible.content c.args.doc.now) (g.S.Reversible.content c.shift.new.doc) c.in_ok-shift.ensures.shifted
     (tied g c)
     ∙ ap (λ kept. undone (timeline_at g.S.Reversible kept (g.S.Reversible.content c.args.doc.now))) (same g c))
+
+pub returns-then-is_empty-clause-refused : goal.returns-then-is_empty-clause-refused
+returns-then-is_empty-clause-refused c = grind (arith)
+
+pub shift-requires-clause-some : goal.shift-requires-clause-some
+shift-requires-clause-some c = grind (arith)
+
+pub returns-then-is_some-clause-fault : goal.returns-then-is_some-clause-fault
+returns-then-is_some-clause-fault c = grind (arith)
+
+pub returns-then-is_empty-clause-fault : goal.returns-then-is_empty-clause-fault
+returns-then-is_empty-clause-fault c = grind (arith, common_steps)
+
+pub invariant_of-self : goal.invariant_of-self
+invariant_of-self c = grind (arith)
+
+pub returns-clause-fault : goal.returns-clause-fault
+returns-clause-fault c = assumption arith
+
+pub returns-clause-refused : goal.returns-clause-refused
+returns-clause-refused c = assumption arith
+
+pub shift-requires-clause-fits : goal.shift-requires-clause-fits
+shift-requires-clause-fits c = grind (arith)
+
+pub invariant_of-self-2 : goal.invariant_of-self-2
+invariant_of-self-2 c = grind (arith)

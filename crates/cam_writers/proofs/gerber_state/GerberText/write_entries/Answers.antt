@@ -1,4 +1,5 @@
 use Rattle.std.proofs.Common.{subst, arith, sym, take, ◌+◌, ◌<◌, ℕ, [], length}
+use Rattle.std.proofs.lemmas.Grind.{common_steps}
 use Rattle.cam_objects.specs.declared.entry.Entry.{Entry}
 use Rattle.cam_objects.specs.declared.entry.Entry.TheVariants.{Block}
 use Rattle.std.specs.List.{fold}
@@ -35,3 +36,6 @@ loop-place-preserved c =
           (never_past c.args.entries.now c.loop-place.place (0, Block [])
           (omega (arith, c.loop-place-test.true, c.len-place-end.ensures.value)) w.in_default.ensures.past)
     ]
+
+pub returns : goal.returns
+returns c = grind (arith, common_steps)

@@ -1,4 +1,5 @@
-use Rattle.std.proofs.Common.{◌∙◌, sym, subst}
+use Rattle.std.proofs.Common.{◌∙◌, sym, subst, arith}
+use Rattle.std.proofs.lemmas.Grind.{common_steps}
 use Rattle.cam_units.specs.Board.{IsOnBoard}
 use Rattle.cam_writers.proofs.GerberTracks.{end_more, ends_on_board, segment_tracked}
 use Rattle.cam_writers.proofs.gerber_state.GerberText.write_segments.Goals as goal
@@ -15,3 +16,6 @@ loop-seg-preserved c = record {
       c.write_segment.new.self c.loop-seg-test.true
       c.loop-seg.invariant.here (c.in_ok-write_segment.ensures _ (c.loop-seg.invariant.tracks phrases h));
 }
+
+pub returns : goal.returns
+returns c = grind (arith, common_steps)

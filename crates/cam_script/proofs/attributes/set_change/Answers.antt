@@ -1,0 +1,14 @@
+use Rattle.std.proofs.Common.{arith}
+use Rattle.cam_script.proofs.attributes.set_change.Goals as goal
+
+pub returns-then-is_some : goal.returns-then-is_some
+returns-then-is_some c = grind (arith)
+
+pub returns-in_default : goal.returns-in_default
+returns-in_default c = grind (arith)
+
+pub returns : goal.returns
+returns c = grind (arith)
+
+pub returns-then-not-is_key : goal.returns-then-not-is_key
+returns-then-not-is_key c = grind (arith)

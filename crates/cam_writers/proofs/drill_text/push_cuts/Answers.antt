@@ -1,0 +1,9 @@
+use Rattle.std.proofs.Common.{arith}
+use Rattle.std.proofs.lemmas.Grind.{common_steps}
+use Rattle.cam_writers.proofs.drill_text.push_cuts.Goals as goal
+
+pub returns : goal.returns
+returns c = grind (arith, common_steps)
+
+pub loop-to-preserved : goal.loop-to-preserved
+loop-to-preserved c = grind (arith, common_steps)
