@@ -1,4 +1,5 @@
 use Rattle.std.proofs.Common.{arith}
+use Rattle.std.proofs.lemmas.Grind.{common_steps}
 use Rattle.cam_station.proofs.Saying.{word_said, number_said}
 use Rattle.cam_station.proofs.reply_line.say_line.Goals as goal
 
@@ -17,3 +18,12 @@ loop-number-preserved g c =
           c.loop-number.number-index c.loop-number-test.true c.loop-number.invariant.said c.if-not-say_number.ensures.said;
       counted = omega (arith, c.loop-number.invariant.counted, c.if-not-say_number.ensures.counted);
     }
+
+pub returns-clause-said : goal.returns-clause-said
+returns-clause-said c = grind (arith, common_steps)
+
+pub returns-then-not-say_number-clause-counted : goal.returns-then-not-say_number-clause-counted
+returns-then-not-say_number-clause-counted c = grind (arith)
+
+pub returns-clause-counted : goal.returns-clause-counted
+returns-clause-counted c = grind (arith)

@@ -59,3 +59,9 @@ returns-in_err-count-clause-err g c =
     (at_count before c.loop-line.refused) after here)) in
     let told = err_from_is_err_and c.from_residual-in_err-count.result c.from_residual-in_err-count.ensures.1 in
     rw (told.1, told.2, c.in_err-count.ensures.output) (c.loop-line.invariant.depth, all.0, all.1)
+
+pub loop-line-smaller : goal.loop-line-smaller
+loop-line-smaller c = grind (arith)
+
+pub returns-clause-err : goal.returns-clause-err
+returns-clause-err c = assumption arith

@@ -1,4 +1,5 @@
 use Rattle.std.proofs.Common.{rules, ◌∙◌, ◌<◌, ◌≤◌, ◌-◌, arith, length, refl}
+use Rattle.std.proofs.lemmas.Grind.{common_steps}
 use Rattle.cam_edits.specs.Sheets.{sheets_of}
 use Rattle.cam_station.proofs.Redraws.{all_redrawn, next_counted, next_redrawn}
 use Rattle.cam_station.proofs.showing.draw_all.Goals as goal
@@ -26,3 +27,6 @@ returns-clause-tiles c =
     let l = c.loop-place in
     all_redrawn l.left (sheets_of c.args.board.now) l.rasters l.place (omega (arith, c.loop-place-test.false, l.auto.rasters))
     ∙ l.invariant.tiles
+
+pub returns-clause-drawn : goal.returns-clause-drawn
+returns-clause-drawn c = grind (arith, common_steps)

@@ -6,7 +6,7 @@ use Rattle.cam_shapes.specs.declared.swept.Swept.{Swept}
 use Rattle.cam_shapes.specs.Swept.{IsSoundSwept, high_corner, low_corner}
 use Rattle.cam_rows.specs.Rows.{centre_at, row_below}
 use Rattle.cam_rows.proofs.PassedOn.{some_rows}
-use Rattle.cam_rows.proofs.WideRows.{all_found, in_box_run, one_more_run, top_is_wide, no_run}
+use Rattle.cam_rows.proofs.WideRows.{all_found, in_box_run, one_more_run, top_is_wide}
 use Rattle.cam_rows.proofs.runs.boxes.box_runs.Goals as goal
 
 -- the corners lie near the board

@@ -1,4 +1,4 @@
-use Rattle.std.proofs.Common.{rules, ap, sym, ◌∙◌, length, map}
+use Rattle.std.proofs.Common.{rules, ap, sym, ◌∙◌, length, map, arith}
 use Rattle.cam_edits.specs.Sheets.{sheets_of}
 use Rattle.cam_edits.specs.Touches.{touch_of}
 use Rattle.cam_undo.specs.Faults.{history_refusal}
@@ -35,3 +35,6 @@ returns-in-Err c =
     rw (c.without_place.ensures, c.refusal.ensures, e.refused.0, e.refused.1)
     (ap (λ s. abort_step s (memory_of (refused (history_refusal c.in-Err.fault)))) (sym c.self.view_is)
     ∙ history_refused _ _ _ c.in-Err.fault e.fault)
+
+pub invariant_of-self-in-Err : goal.invariant_of-self-in-Err
+invariant_of-self-in-Err c = grind (arith)

@@ -1,4 +1,4 @@
-use Rattle.std.proofs.Common.{◌≡◌, ◌++◌, ◌∷◌, [], List, ap, rules, subst, sym, ◌∙◌}
+use Rattle.std.proofs.Common.{◌≡◌, ◌++◌, ◌∷◌, [], List, ap, rules, subst, sym, ◌∙◌, arith}
 use Rattle.std.specs.Prelude.{option_to_list}
 use Rattle.cam_edits.specs.Sheets.{Sheet, sheet_of, sheets_of}
 use Rattle.cam_edits.specs.declared.board_step.BoardStep.{BoardStep}
@@ -28,3 +28,21 @@ invariant_of-self-2 c =
       c.clear.ensures.tied c.add.new.self,
       rw c.clear.ensures.kept (subst (λ (l : List Sheet). IsSoundTimeline (unedited l)) (sym added) sound),
     )
+
+pub returns-then-is_err-clause-memory : goal.returns-then-is_err-clause-memory
+returns-then-is_err-clause-memory c = grind (arith)
+
+pub invariant_of-self : goal.invariant_of-self
+invariant_of-self c = grind (arith)
+
+pub returns-clause-ok : goal.returns-clause-ok
+returns-clause-ok c = grind (arith)
+
+pub invariant_of-self-then-is_err : goal.invariant_of-self-then-is_err
+invariant_of-self-then-is_err c = grind (arith)
+
+pub returns-in-Err-clause-err : goal.returns-in-Err-clause-err
+returns-in-Err-clause-err c = grind (arith)
+
+pub returns-then-is_err-clause-err : goal.returns-then-is_err-clause-err
+returns-then-is_err-clause-err c = grind (arith)

@@ -1,4 +1,4 @@
-use Rattle.std.proofs.Common.{rules, ap, sym, ◌∙◌, length}
+use Rattle.std.proofs.Common.{rules, ap, sym, ◌∙◌, length, arith}
 use Rattle.cam_edits.specs.contracts.board_step.BoardStepReversible.TheImpl.{ghosts}
 use Rattle.cam_edits.specs.BoardSteps.{after_board_step}
 use Rattle.cam_edits.specs.Sheets.{sheets_of}
@@ -40,3 +40,9 @@ pub returns-in-Err : goal.returns-in-Err
 returns-in-Err c =
     rw (c.without_place-in-Err.ensures, c.refusal.ensures, sym c.self.view_is)
     (edit_refused _ _ _ c.in-Err.fault c.in-Err.ensures.refused)
+
+pub returns-in-Err-accept : goal.returns-in-Err-accept
+returns-in-Err-accept c = grind (arith)
+
+pub invariant_of-self-in-Err-accept : goal.invariant_of-self-in-Err-accept
+invariant_of-self-in-Err-accept c = grind (arith)

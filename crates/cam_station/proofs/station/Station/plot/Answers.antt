@@ -57,3 +57,9 @@ returns c =
           ∙ ap (λ tables. (seen i.window i.history sheets tables, refused NoMemory)) (sym tables)))
           )
     ]
+
+pub returns-then-is_none : goal.returns-then-is_none
+returns-then-is_none c = grind (arith)
+
+pub returns-in_default : goal.returns-in_default
+returns-in_default c = grind (arith)

@@ -1,4 +1,5 @@
-use Rattle.std.proofs.Common.{rules}
+use Rattle.std.proofs.Common.{rules, arith}
+use Rattle.std.proofs.lemmas.Grind.{common_steps}
 use Rattle.cam_edits.specs.Sheets.{sheets_of}
 use Rattle.cam_station.proofs.StationTiles.{station_redrawn}
 use Rattle.cam_station.proofs.station.Station.redraw.Goals as goal
@@ -11,3 +12,12 @@ invariant_of-self c =
       c.self.invariant.1,
       c.self.invariant.2,
     )
+
+pub draw_all-drawn-requires-clause-layers : goal.draw_all-drawn-requires-clause-layers
+draw_all-drawn-requires-clause-layers c = grind (arith)
+
+pub returns : goal.returns
+returns c = grind (arith, common_steps)
+
+pub returns-then-is_none : goal.returns-then-is_none
+returns-then-is_none c = grind (arith)
