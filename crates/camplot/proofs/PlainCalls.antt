@@ -127,14 +127,14 @@ module _ (name : Text) (x : ℕ) (rest : Text) (path : (x == 45) ≡ false) wher
     unfolding clap_on_literals
     script_and_depth depth value range = record {
       accepted = no_fault words_pass none_entered value_passes defaults_pass all_given;
-      script = simp (path, no_option, no_escape) refl;
+      script = simp path (simp no_option (rw no_escape refl));
       number = simp (path, no_option, no_escape) (ap (λ n. Some n) value);
       in_range = range;
     }
 
     depth_unasked : explain_text (name ∷ (x ∷ rest) ∷ codes "--depth" ∷ text ∷ []) ≡ Some (codes "false")
     unfolding clap_on_literals
-    depth_unasked = simp (path, no_option, no_escape) refl
+    depth_unasked = simp path (simp no_option (rw no_escape refl))
 
     depth_asked : explain_text (name ∷ (x ∷ rest) ∷ codes "--depth" ∷ text ∷ codes "--explain" ∷ []) ≡ Some (codes "true")
     unfolding clap_on_literals

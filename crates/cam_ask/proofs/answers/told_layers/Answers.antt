@@ -1,4 +1,5 @@
 use Rattle.std.proofs.Common.{[], arith}
+use Rattle.std.proofs.lemmas.Grind.{common_steps}
 use Rattle.cam_ask.specs.Answers.{sheet_line}
 use Rattle.cam_ask.proofs.Lists.{place_added}
 use Rattle.cam_ask.proofs.answers.told_layers.Goals as goal
@@ -10,3 +11,6 @@ loop-place-preserved c = record {
       c.in_ok-push_layer_at.ensures;
   end = c.loop-place.invariant.end;
 }
+
+pub returns : goal.returns
+returns c = grind (arith, common_steps)

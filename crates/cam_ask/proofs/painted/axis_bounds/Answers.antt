@@ -1,4 +1,5 @@
-use Rattle.std.proofs.Common.{◌≡◌, pos, ◌*ℤ◌, ap, ◌∙◌, arith}
+use Rattle.std.proofs.Common.{◌≡◌, pos, ◌*ℤ◌, ap, ◌∙◌, arith, rules}
+use Rattle.std.proofs.lemmas.Grind.{common_steps}
 use Rattle.std.proofs.lemmas.Int.{ints}
 use Rattle.cam_units.specs.Boxes.{join_of}
 use Rattle.cam_units.specs.declared.point.Spot.{Spot}
@@ -66,3 +67,66 @@ passed_bounds-requires-4-clause-y c =
       c.rounded_length-radius.ensures.order,
       c.rounded_length-radius.ensures.short,
     )
+
+pub passed_bounds-requires-clause-y : goal.passed_bounds-requires-clause-y
+passed_bounds-requires-clause-y c = grind (arith)
+
+pub passed_bounds-requires-4-clause-reach : goal.passed_bounds-requires-4-clause-reach
+passed_bounds-requires-4-clause-reach c = search rules
+
+pub passed_bounds-requires-clause-few : goal.passed_bounds-requires-clause-few
+passed_bounds-requires-clause-few c = grind (arith)
+
+pub passed_bounds-requires-4-clause-x : goal.passed_bounds-requires-4-clause-x
+passed_bounds-requires-4-clause-x c = grind (arith)
+
+pub passed_bounds-requires-3-clause-y : goal.passed_bounds-requires-3-clause-y
+passed_bounds-requires-3-clause-y c = grind (arith)
+
+pub passed_bounds-requires-4-clause-some : goal.passed_bounds-requires-4-clause-some
+passed_bounds-requires-4-clause-some c = search rules
+
+pub passed_bounds-requires-2-clause-some : goal.passed_bounds-requires-2-clause-some
+passed_bounds-requires-2-clause-some c = search rules
+
+pub passed_bounds-requires-2-clause-few : goal.passed_bounds-requires-2-clause-few
+passed_bounds-requires-2-clause-few c = grind (arith)
+
+pub moved-requires-clause-x : goal.moved-requires-clause-x
+moved-requires-clause-x c = grind (arith, common_steps)
+
+pub passed_bounds-requires-2-clause-reach : goal.passed_bounds-requires-2-clause-reach
+passed_bounds-requires-2-clause-reach c = search rules
+
+pub passed_bounds-requires-clause-some : goal.passed_bounds-requires-clause-some
+passed_bounds-requires-clause-some c = grind (arith, common_steps)
+
+pub passed_bounds-requires-clause-reach : goal.passed_bounds-requires-clause-reach
+passed_bounds-requires-clause-reach c = search rules
+
+pub moved-requires-2-clause-y : goal.moved-requires-2-clause-y
+moved-requires-2-clause-y c = grind (arith, common_steps)
+
+pub passed_bounds-requires-2-clause-x : goal.passed_bounds-requires-2-clause-x
+passed_bounds-requires-2-clause-x c = grind (arith)
+
+pub passed_bounds-requires-4-clause-few : goal.passed_bounds-requires-4-clause-few
+passed_bounds-requires-4-clause-few c = grind (arith)
+
+pub passed_bounds-requires-3-clause-few : goal.passed_bounds-requires-3-clause-few
+passed_bounds-requires-3-clause-few c = grind (arith)
+
+pub passed_bounds-requires-3-clause-some : goal.passed_bounds-requires-3-clause-some
+passed_bounds-requires-3-clause-some c = search rules
+
+pub passed_bounds-requires-3-clause-reach : goal.passed_bounds-requires-3-clause-reach
+passed_bounds-requires-3-clause-reach c = search rules
+
+pub passed_bounds-requires-4-clause-sound : goal.passed_bounds-requires-4-clause-sound
+passed_bounds-requires-4-clause-sound c = assumption arith
+
+pub passed_bounds-requires-3-clause-sound : goal.passed_bounds-requires-3-clause-sound
+passed_bounds-requires-3-clause-sound c = assumption arith
+
+pub passed_bounds-requires-2-clause-sound : goal.passed_bounds-requires-2-clause-sound
+passed_bounds-requires-2-clause-sound c = assumption arith

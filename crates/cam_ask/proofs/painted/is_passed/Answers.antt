@@ -1,4 +1,4 @@
-use Rattle.std.proofs.Common.{◌≡◌, ℕ, ◌<◌, Bool, ◌&&◌, ◌||◌, nat_lt, arith}
+use Rattle.std.proofs.Common.{◌≡◌, ℕ, ◌<◌, Bool, ◌&&◌, ◌||◌, nat_lt, arith, rules}
 use Rattle.std.specs.Prelude.{not}
 use Rattle.std.specs.Int.RustNames.{unsigned_abs}
 use Rattle.std.proofs.lemmas.Bool.{lt-ltb}
@@ -18,3 +18,9 @@ returns c =
     (omega (arith, ints, c.if-unsigned_abs-ge-REACH.false, c.unsigned_abs.ensures.value))
     (omega (arith, ints, c.if-unsigned_abs-ge-REACH-2.false, c.unsigned_abs-else-unsigned_abs-ge-REACH.ensures.value))
     (same_test c.in_arc.result (is_in_arc c.args.at (thin c.args.arc)) c.in_arc.ensures (is_in_arc-meaning c.args.at (thin c.args.arc)))
+
+pub returns-then-unsigned_abs-ge-REACH : goal.returns-then-unsigned_abs-ge-REACH
+returns-then-unsigned_abs-ge-REACH c = search rules
+
+pub in_arc-requires-clause-spot : goal.in_arc-requires-clause-spot
+in_arc-requires-clause-spot c = grind (arith)

@@ -57,3 +57,12 @@ returns c = λ j onward listed.
       c.loop-place-test.false,
       ap (λ (xs : List Item). length xs) c.items-items.ensures,
     ))
+
+pub is_painted_in-requires-clause-item : goal.is_painted_in-requires-clause-item
+is_painted_in-requires-clause-item c = grind (arith)
+
+pub read-bounds-requires : goal.read-bounds-requires
+read-bounds-requires c = grind (arith)
+
+pub loop-place-init : goal.loop-place-init
+loop-place-init c = grind (arith)

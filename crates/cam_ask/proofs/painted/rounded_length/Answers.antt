@@ -39,3 +39,12 @@ pub returns-clause-ceiling : goal.returns-clause-ceiling
 returns-clause-ceiling c =
     more _ _ _ c.squared_length-square.ensures.value c.isqrt-floor.ensures.square c.isqrt-floor.ensures.greatest
     c.from-root.result c.from-root.ensures c.if-root-square.false
+
+pub returns-clause-short : goal.returns-clause-short
+returns-clause-short c = grind (arith)
+
+pub returns-then-root-square-clause-short : goal.returns-then-root-square-clause-short
+returns-then-root-square-clause-short c = grind (arith)
+
+pub overflow_add-result : goal.overflow_add-result
+overflow_add-result c = grind (arith)

@@ -1,4 +1,4 @@
-use Rattle.std.proofs.Common.{map, sym, subst}
+use Rattle.std.proofs.Common.{map, sym, subst, arith}
 use Rattle.cam_objects.specs.declared.layer.Layer.{Layer}
 use Rattle.cam_objects.specs.Enclosed.{FindsEnclosed}
 use Rattle.cam_objects.specs.Leaves.{meaning_in}
@@ -20,3 +20,6 @@ returns-in-Drill c =
     subst (λ (s : SheetContent). FindsEnclosed (painted_boxes (content_of s)) c.args.outer c.args.from c.item_in.result) (sym c.in-Drill.is)
     (subst (λ (s : SheetContent). FindsEnclosed (sheet_boxes (content_of s)) c.args.outer c.args.from c.item_in.result) c.in-Drill.is
     c.item_in.ensures)
+
+pub next_enclosed-requires : goal.next_enclosed-requires
+next_enclosed-requires c = grind (arith)

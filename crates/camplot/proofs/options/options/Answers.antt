@@ -1,28 +1,59 @@
 use Rattle.std.proofs.Common.{◌≡◌, ◌∙◌, ap, codes, refl, ℕ, List, [], map, string_bytes}
-use Rattle.std.proofs.Common.{sym, subst, rules, Result, Ok, Err, IfErr, MatchResult}
+use Rattle.std.proofs.Common.{sym, subst, rules, Result, Ok, Err, IfErr, IsErrAnd, MatchResult}
 use Rattle.std.specs.Prelude.{Some, option_map, unwrap_or}
 use Rattle.std.specs.Result.{IsErr}
 use Rattle.std.specs.Str.Parse.{ExplainsUnsignedError, HasUnsignedDigitsIfOk, ParsesUnsigned}
 use Rattle.std.specs.declared.num.ParseIntError.{ParseIntError}
 use Rattle.clap.specs.Words.{App, Text, app_of, first_of, found_of, is_simple, matches_of, one_of, one_text, rows_of}
 use Rattle.clap.specs.Faults.{fault_of, is_simple_and_free}
+use Rattle.clap.specs.Kinds.{HasKind, Kinds}
+use Rattle.clap.specs.declared.error.Error.{Error}
 use Rattle.clap.proofs.CallerLemmas.{some_of_text}
 use Rattle.clap.proofs.WalkLemmas.{first_value-rows, one_text-rows}
-use Rattle.camplot.specs.Synopsis.{IsCallFor, IsOfMemory, camplot, explain_text, count_written, progress_text}
+use Rattle.camplot.specs.declared.options.OptionsFault.{OptionsFault}
+use Rattle.camplot.specs.declared.options.OptionsFault.TheVariants.{Refused}
+use Rattle.camplot.specs.Synopsis.{IsCallFor, IsFaultIn, IsOfMemory, camplot, explain_text, count_written, progress_text}
 use Rattle.camplot.proofs.PlainCalls.{camplot_free, camplot_simple, explained_is_asked, plain_is_call, plain_is_unasked, same_call}
 use Rattle.camplot.proofs.Values.{IsNumberOf, depth_has_value, depth_number, script_has_value}
 use Rattle.camplot.proofs.options.options.Goals as goal
+use Rattle.camplot.proofs.options.options.Goals.{After-from_residual-in_err-matches}
 
 of_err : {X E : Type 0} (r : Result X E) (P : X → Type 0) (Q : E → Type 0) → IsErr r → IfErr r Q → MatchResult r P Q
 of_err (Ok x) P Q is h = cc
 of_err (Err e) P Q is h = h
 
+-- an error of clap that is handed on
+handed_on : {X : Type 0} (r : Result X OptionsFault) (error : Error) (P : OptionsFault → Type 0) → IsErrAnd r (λ fault. fault ≡ Refused error)
+    → P (Refused error) → IfErr r P
+handed_on (Ok x) error P is h = tt
+handed_on (Err fault) error P is h = subst P (sym is) h
+
+-- where clap finds no fault, memory ran out
+memory_ran_out : (error : Error) → HasKind [] error → IsOfMemory (Refused error)
+memory_ran_out error h = search rules
+
+fault : (c : After-from_residual-in_err-matches) → HasKind (fault_of camplot (map string_bytes c.args.words.now)) c.in_err-matches.field-0.0
+fault c =
+    let app : app_of c.in_ok-command.field-0 ≡ camplot = c.in_ok-command.ensures in
+    subst (λ (a : App). HasKind (fault_of a (map string_bytes c.args.words.now)) c.in_err-matches.field-0.0) app
+    (c.in_err-matches.ensures.kinds (ap is_simple_and_free app ∙ camplot_free))
+
+pub returns-in_err-matches-clause-refused : goal.returns-in_err-matches-clause-refused
+returns-in_err-matches-clause-refused c =
+    handed_on c.from_residual-in_err-matches.result c.in_err-matches.field-0.0 (IsFaultIn (map string_bytes c.args.words.now))
+    c.from_residual-in_err-matches.ensures.1 (fault c)
+
+pub returns-in_err-matches-clause-accepted : goal.returns-in_err-matches-clause-accepted
+returns-in_err-matches-clause-accepted c none =
+    handed_on c.from_residual-in_err-matches.result c.in_err-matches.field-0.0 IsOfMemory c.from_residual-in_err-matches.ensures.1
+    (memory_ran_out c.in_err-matches.field-0.0 (subst (λ (ks : Kinds). HasKind ks c.in_err-matches.field-0.0) none (fault c)))
+
 pub returns-in_err-matches-clause-plain : goal.returns-in_err-matches-clause-plain
 returns-in_err-matches-clause-plain c name script depth path range is =
     let none : fault_of camplot (map string_bytes c.args.words.now) ≡ [] =
     ap (fault_of camplot) is ∙ (plain_is_call name script depth path range).accepted in
-    let memory : IfErr c.from_residual-in_err-matches.result IsOfMemory = search rules in
-    of_err c.from_residual-in_err-matches.result _ _ c.from_residual-in_err-matches.ensures.0 memory
+    of_err c.from_residual-in_err-matches.result _ _ c.from_residual-in_err-matches.ensures.0
+    (returns-in_err-matches-clause-accepted c none)
 
 pub unwrap-script-requires : goal.unwrap-script-requires
 unwrap-script-requires c =
