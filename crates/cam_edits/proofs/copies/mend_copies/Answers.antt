@@ -9,3 +9,6 @@ returns-in-Some-Some-2 c = grind (arith, edited, length-remove, length-insert)
 
 pub returns-in-None-Some : goal.returns-in-None-Some
 returns-in-None-Some c = grind (arith, common_steps)
+
+pub renew-requires-clause-within : goal.renew-requires-clause-within
+renew-requires-clause-within c = grind (arith, common_steps)

@@ -20,3 +20,9 @@ returns-in-None c = grind (arith, drill_leaves, boxes_in)
 
 pub returns-in-Some : goal.returns-in-Some
 returns-in-Some c = grind (arith)
+
+pub renew_tool-requires-clause-sound : goal.renew_tool-requires-clause-sound
+renew_tool-requires-clause-sound c = grind (arith)
+
+pub boxes-requires : goal.boxes-requires
+boxes-requires c = grind (arith)

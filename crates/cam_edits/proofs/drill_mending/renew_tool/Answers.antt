@@ -34,3 +34,6 @@ returns c =
 
 pub loop-place-init : goal.loop-place-init
 loop-place-init c = grind (arith)
+
+pub next_of_tool-place-requires-in-loop-place-clause-known : goal.next_of_tool-place-requires-in-loop-place-clause-known
+next_of_tool-place-requires-in-loop-place-clause-known c = grind (arith)

@@ -119,3 +119,6 @@ returns-in-Gerber-clause-refused c = grind (arith)
 
 pub returns-clause-refused : goal.returns-clause-refused
 returns-clause-refused c = grind (arith)
+
+pub drill_touched-requires-clause-known : goal.drill_touched-requires-clause-known
+drill_touched-requires-clause-known c = grind (arith)

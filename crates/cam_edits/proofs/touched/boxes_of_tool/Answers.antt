@@ -68,3 +68,9 @@ returns c =
 
 pub loop-place-smaller : goal.loop-place-smaller
 loop-place-smaller c = grind (arith)
+
+pub next_of_tool-place-requires-in-loop-place-clause-within : goal.next_of_tool-place-requires-in-loop-place-clause-within
+next_of_tool-place-requires-in-loop-place-clause-within c = grind (arith)
+
+pub next_of_tool-place-requires-in-loop-place-clause-known : goal.next_of_tool-place-requires-in-loop-place-clause-known
+next_of_tool-place-requires-in-loop-place-clause-known c = grind (arith)

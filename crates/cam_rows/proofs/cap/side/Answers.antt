@@ -23,3 +23,9 @@ returns c =
     let cap = c.args.cap.now in
     left_side cap c.args.top.now (to_z w128 c.if-leads_down_or_right.tie-bits) c.left-2.result c.if-cap.false
     (decided ((goal.at.returns c).Joined-leads_down_or_right)) c.left-2.ensures.holds
+
+pub left-requires-2-clause-row : goal.left-requires-2-clause-row
+left-requires-2-clause-row c = assumption arith
+
+pub left-requires-clause-row : goal.left-requires-clause-row
+left-requires-clause-row c = assumption arith

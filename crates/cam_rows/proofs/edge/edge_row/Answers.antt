@@ -1,5 +1,6 @@
 use Rattle.std.proofs.Common.{◌≡◌, ℕ, IsTrue, List, Option, slice_index, subst, sym, ◌∙◌, arith}
 use Rattle.std.specs.Option.{unwrap_or}
+use Rattle.cam_rows.proofs.EdgeSides.{only_crossed}
 use Rattle.cam_shapes.specs.Edge.{crosses_ray, edge}
 use Rattle.cam_rows.specs.Rows.{row_below}
 use Rattle.cam_rows.specs.Runs.{IsWideRow, end_in}
@@ -26,3 +27,6 @@ returns c =
     let here = c.edge_runs.ensures.each 0 i (omega arith) small in
     let same = c.unwrap_or-end.ensures ∙ sym (end_is c.edge_runs.result c.edge_runs.new.ends) in
     ((λ on. here.0 (omega (arith, on.1, same))), (λ held. (omega arith, omega (arith, here.1 held, same)))))
+
+pub edge_runs-requires-clause-crossed : goal.edge_runs-requires-clause-crossed
+edge_runs-requires-clause-crossed c = grind (arith, only_crossed)

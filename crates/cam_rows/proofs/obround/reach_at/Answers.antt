@@ -14,3 +14,9 @@ returns-clause-short c = grind (arith, common_steps)
 
 pub returns-then-past_straight-eq0-clause-each : goal.returns-then-past_straight-eq0-clause-each
 returns-then-past_straight-eq0-clause-each c = grind (arith)
+
+pub overflow_sub-radius : goal.overflow_sub-radius
+overflow_sub-radius c = grind (arith, common_steps)
+
+pub overflow_add-result : goal.overflow_add-result
+overflow_add-result c = grind (arith, common_steps)

@@ -1,4 +1,5 @@
 use Rattle.std.proofs.Common.{◌≡◌, ◌<◌, ◌^◌, ◌∙◌, ap, pos, rules, arith}
+use Rattle.std.proofs.lemmas.Grind.{common_steps}
 use Rattle.std.proofs.lemmas.Int.{ints}
 use Rattle.std.proofs.lemmas.Nat.{mul-lt}
 use Rattle.cam_shapes.specs.Plane.{dot, square, way}
@@ -52,3 +53,21 @@ returns c =
       inner = search rules;
       outer = search rules;
     }
+
+pub overflow_mul-width : goal.overflow_mul-width
+overflow_mul-width c = grind (arith, common_steps)
+
+pub overflow_cast-width : goal.overflow_cast-width
+overflow_cast-width c = grind (arith, common_steps)
+
+pub overflow_add-outer : goal.overflow_add-outer
+overflow_add-outer c = grind (arith)
+
+pub overflow_add-outer-2 : goal.overflow_add-outer-2
+overflow_add-outer-2 c = grind (arith, common_steps)
+
+pub overflow_add-outer-3 : goal.overflow_add-outer-3
+overflow_add-outer-3 c = grind (arith, common_steps)
+
+pub overflow_mul-width-2 : goal.overflow_mul-width-2
+overflow_mul-width-2 c = grind (arith, common_steps)

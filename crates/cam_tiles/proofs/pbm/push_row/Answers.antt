@@ -38,3 +38,6 @@ returns c =
     (omega arith) (omega arith) (omega (arith, c.as_flattened.ensures.len)) c.loop-column.invariant.bytes in
     let count : c.div_ceil-bytes.result ≡ bytes_across w.width = omega arith in
     grind (arith, common_steps, row, count)
+
+pub slice_bounds-extend_from_slice-end : goal.slice_bounds-extend_from_slice-end
+slice_bounds-extend_from_slice-end c = grind (arith, common_steps)

@@ -8,3 +8,9 @@ returns-clause-tiles g c = grind (arith, drawn_between)
 
 pub returns-clause-asked : goal.returns-clause-asked
 returns-clause-asked c = grind (arith, dirty_between, few_tiles)
+
+pub draw-requires-clause-room : goal.draw-requires-clause-room
+draw-requires-clause-room c = grind (arith, dirty_between, few_tiles)
+
+pub overflow_cast-start : goal.overflow_cast-start
+overflow_cast-start c = grind (arith, dirty_between, few_tiles)

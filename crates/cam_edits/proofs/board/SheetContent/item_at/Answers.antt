@@ -1,4 +1,4 @@
-use Rattle.std.proofs.Common.{sym, subst}
+use Rattle.std.proofs.Common.{sym, subst, arith}
 use Rattle.cam_objects.specs.declared.drill_layer.DrillLayer.{DrillLayer}
 use Rattle.cam_objects.specs.declared.layer.Layer.{Layer}
 use Rattle.cam_objects.specs.Topmost.{PointsAt, drill_item_lists, item_lists}
@@ -19,3 +19,15 @@ returns-in-Drill c =
     subst (λ (s : SheetContent). PointsAt (sheet_lists (content_of s)) c.args.at c.args.before found.result) (sym c.in-Drill.is)
     (subst (λ (l : DrillLayer). PointsAt (drill_item_lists l.tools l.items.items) c.args.at c.args.before found.result)
     c.layer-in-Drill.ensures found.ensures)
+
+pub item_at-requires-clause-cells : goal.item_at-requires-clause-cells
+item_at-requires-clause-cells c = grind (arith)
+
+pub item_at-requires-clause-sound : goal.item_at-requires-clause-sound
+item_at-requires-clause-sound c = grind (arith)
+
+pub item_at-requires-in-Drill-clause-sound : goal.item_at-requires-in-Drill-clause-sound
+item_at-requires-in-Drill-clause-sound c = grind (arith)
+
+pub item_at-requires-in-Drill-clause-cells : goal.item_at-requires-in-Drill-clause-cells
+item_at-requires-in-Drill-clause-cells c = grind (arith)

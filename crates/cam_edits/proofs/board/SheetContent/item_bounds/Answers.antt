@@ -39,3 +39,9 @@ returns-in-Drill c =
     (subst (λ (l : DrillLayer). Some box ≡ slice_get (drill_item_boxes l.tools l.items.items) c.args.k) c.layer-in-Drill.ensures
     (box_there (λ (item : DrillItem). bounds_of (drill_item_leaves layer.tools item)) layer.items.items c.args.k box
     (omega arith) c.item_bounds-in-Drill.ensures))
+
+pub item_bounds-requires-clause-sound : goal.item_bounds-requires-clause-sound
+item_bounds-requires-clause-sound c = grind (arith)
+
+pub item_bounds-requires-in-Drill-clause-sound : goal.item_bounds-requires-in-Drill-clause-sound
+item_bounds-requires-in-Drill-clause-sound c = grind (arith)

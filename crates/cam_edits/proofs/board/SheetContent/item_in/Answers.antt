@@ -1,4 +1,4 @@
-use Rattle.std.proofs.Common.{sym, subst}
+use Rattle.std.proofs.Common.{sym, subst, arith}
 use Rattle.cam_objects.specs.declared.drill_layer.DrillLayer.{DrillLayer}
 use Rattle.cam_objects.specs.declared.layer.Layer.{Layer}
 use Rattle.cam_objects.specs.Cells.{drill_item_boxes, item_boxes}
@@ -20,3 +20,6 @@ returns-in-Drill c =
     subst (λ (s : SheetContent). FindsEnclosed (sheet_boxes (content_of s)) c.args.outer c.args.from found.result) (sym c.in-Drill.is)
     (subst (λ (l : DrillLayer). FindsEnclosed (drill_item_boxes l.tools l.items.items) c.args.outer c.args.from found.result)
     c.layer-in-Drill.ensures found.ensures)
+
+pub item_in-requires : goal.item_in-requires
+item_in-requires c = grind (arith)

@@ -75,3 +75,9 @@ returns-clause-answer c =
 pub returns-clause-room : goal.returns-clause-room
 returns-clause-room c = λ rest room.
     c.play-answer.ensures.room rest (subst (HasRoom (rest ++ c.args.step ∷ [])) (sym c.self.view_is) room)
+
+pub boxes-requires : goal.boxes-requires
+boxes-requires c = grind (arith)
+
+pub leaves_at-come-requires : goal.leaves_at-come-requires
+leaves_at-come-requires c = grind (arith)

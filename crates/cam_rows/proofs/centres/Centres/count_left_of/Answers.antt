@@ -1,4 +1,4 @@
-use Rattle.std.proofs.Common.{◌≡◌, ◌≤◌, pos, arith}
+use Rattle.std.proofs.Common.{◌≡◌, ◌≤◌, pos, arith, rules}
 use Rattle.std.proofs.lemmas.Grind.{common_steps}
 use Rattle.std.specs.Int.RustNames.{unsigned_abs}
 use Rattle.std.proofs.lemmas.Int.{ints}
@@ -44,3 +44,12 @@ returns-clause-few c =
 
 pub returns-then-gap-le0-clause-each : goal.returns-then-gap-le0-clause-each
 returns-then-gap-le0-clause-each c = grind (arith, common_steps)
+
+pub overflow_sub-gap : goal.overflow_sub-gap
+overflow_sub-gap c = search rules
+
+pub div_ceil-requires : goal.div_ceil-requires
+div_ceil-requires c = grind (arith)
+
+pub overflow_cast-step : goal.overflow_cast-step
+overflow_cast-step c = grind (arith)

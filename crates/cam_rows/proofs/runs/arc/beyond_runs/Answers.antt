@@ -58,3 +58,9 @@ narrow_left-requires-2-clause-some c =
 
 pub narrow_left-requires-2-clause-rows : goal.narrow_left-requires-2-clause-rows
 narrow_left-requires-2-clause-rows c = rw (c.narrow_left.auto.firsts, c.fill.ensures.len) c.requires.rows
+
+pub narrow_left-requires-clause-ends : goal.narrow_left-requires-clause-ends
+narrow_left-requires-clause-ends c = omega (arith)
+
+pub narrow_left-requires-2-clause-ends : goal.narrow_left-requires-2-clause-ends
+narrow_left-requires-2-clause-ends c = grind (arith)

@@ -33,3 +33,9 @@ returns-then-arc-eq0 c = grind (arith, empty_runs)
 
 pub returns-then-is_empty : goal.returns-then-is_empty
 returns-then-is_empty c = grind (arith, common_steps)
+
+pub turn_runs-requires-clause-ends : goal.turn_runs-requires-clause-ends
+turn_runs-requires-clause-ends c = grind (arith)
+
+pub narrow_to_circle-requires-clause-ends : goal.narrow_to_circle-requires-clause-ends
+narrow_to_circle-requires-clause-ends c = grind (arith)

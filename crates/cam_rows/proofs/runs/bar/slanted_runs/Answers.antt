@@ -1,4 +1,4 @@
-use Rattle.std.proofs.Common.{◌≡◌, ◌↔◌, ℤ, to_z, of_z, inr}
+use Rattle.std.proofs.Common.{◌≡◌, ◌↔◌, ℤ, to_z, of_z, inr, arith}
 use Rattle.std.specs.Int.{w64, w128}
 use Rattle.cam_shapes.specs.Bar.{IsInBar}
 use Rattle.cam_shapes.specs.Plane.{cross, dot, seen_from, way}
@@ -86,3 +86,9 @@ pub narrow_ahead-requires-2-clause-ends : goal.narrow_ahead-requires-2-clause-en
 narrow_ahead-requires-2-clause-ends c =
     rw (c.narrow_ahead.auto.ends, c.narrow_ahead.auto.firsts, c.runs_beside.auto.ends, c.runs_beside.auto.firsts)
     c.requires.ends
+
+pub runs_beside-requires-clause-rows : goal.runs_beside-requires-clause-rows
+runs_beside-requires-clause-rows c = assumption arith
+
+pub runs_beside-requires-clause-ends : goal.runs_beside-requires-clause-ends
+runs_beside-requires-clause-ends c = grind (arith)

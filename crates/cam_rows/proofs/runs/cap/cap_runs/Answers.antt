@@ -1,4 +1,5 @@
-use Rattle.std.proofs.Common.{IsTrue, length, sym, ◌∙◌}
+use Rattle.std.proofs.Common.{IsTrue, length, sym, ◌∙◌, arith}
+use Rattle.std.proofs.lemmas.Grind.{common_steps}
 use Rattle.cam_shapes.specs.Cap.{is_in_cap, is_in_circle, is_on_side}
 use Rattle.cam_shapes.specs.Plane.{seen_from, way}
 use Rattle.cam_rows.proofs.CapRows.{part_of_circle}
@@ -33,3 +34,6 @@ pub side-requires-clause-row : goal.side-requires-clause-row
 side-requires-clause-row c =
     top_is_wide c.args.top.now (length c.args.firsts.now) (some_rows _ _ c.is_empty.ensures c.if-is_empty.false)
     c.requires.rows
+
+pub narrow-requires-clause-few : goal.narrow-requires-clause-few
+narrow-requires-clause-few c = grind (arith, common_steps)

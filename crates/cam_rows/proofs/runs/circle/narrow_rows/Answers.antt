@@ -57,3 +57,12 @@ loop-k-init g c = record {
   height = λ some. height_passed g.row.REACH _ _ c.requires.within.far (c.requires.within.rows 0 some) c.rise_below-height.ensures;
   narrowed = no_runs _ _ _ _;
 }
+
+pub bounds-firsts-k-in-loop-k : goal.bounds-firsts-k-in-loop-k
+bounds-firsts-k-in-loop-k c = grind (arith)
+
+pub bounds-ends-k-in-loop-k : goal.bounds-ends-k-in-loop-k
+bounds-ends-k-in-loop-k c = grind (arith)
+
+pub part-part-requires-clause-chord : goal.part-part-requires-clause-chord
+part-part-requires-clause-chord c = grind (arith)

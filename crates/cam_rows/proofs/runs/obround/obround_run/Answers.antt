@@ -1,4 +1,5 @@
-use Rattle.std.proofs.Common.{◌≡◌, ◌↔◌, ◌≤◌, pos, ◌*ℤ◌, refl, arith}
+use Rattle.std.proofs.Common.{◌≡◌, ◌↔◌, ◌≤◌, pos, ◌*ℤ◌, refl, arith, rules}
+use Rattle.std.proofs.lemmas.Grind.{common_steps}
 use Rattle.std.specs.Int.RustNames.{unsigned_abs}
 use Rattle.std.proofs.lemmas.Int.{ints}
 use Rattle.cam_shapes.specs.Box.{IsInObround}
@@ -62,3 +63,39 @@ returns-clause-each c = λ i within.
 
 pub returns-clause-within : goal.returns-clause-within
 returns-clause-within c = grind (arith)
+
+pub overflow_sub-centre : goal.overflow_sub-centre
+overflow_sub-centre c = grind (arith, common_steps)
+
+pub overflow_mul-centre-2 : goal.overflow_mul-centre-2
+overflow_mul-centre-2 c = grind (arith, common_steps)
+
+pub overflow_mul-centre : goal.overflow_mul-centre
+overflow_mul-centre c = grind (arith, common_steps)
+
+pub overflow_cast-height : goal.overflow_cast-height
+overflow_cast-height c = grind (arith, common_steps)
+
+pub reach_at-reach-requires-clause-height : goal.reach_at-reach-requires-clause-height
+reach_at-reach-requires-clause-height c = grind (arith, common_steps)
+
+pub reach_at-reach-requires-clause-width : goal.reach_at-reach-requires-clause-width
+reach_at-reach-requires-clause-width c = grind (arith, common_steps)
+
+pub overflow_cast-width : goal.overflow_cast-width
+overflow_cast-width c = grind (arith, common_steps)
+
+pub overflow_mul-centre-3 : goal.overflow_mul-centre-3
+overflow_mul-centre-3 c = grind (arith, common_steps)
+
+pub columns_between-requires-clause-row : goal.columns_between-requires-clause-row
+columns_between-requires-clause-row c = assumption arith
+
+pub overflow_cast-height-2 : goal.overflow_cast-height-2
+overflow_cast-height-2 c = grind (arith, common_steps)
+
+pub overflow_sub-row : goal.overflow_sub-row
+overflow_sub-row c = search rules
+
+pub overflow_add-centre : goal.overflow_add-centre
+overflow_add-centre c = grind (arith, common_steps)

@@ -116,3 +116,15 @@ narrow_left-requires-2-clause-ends c =
 
 pub box_runs-requires-clause-rows : goal.box_runs-requires-clause-rows
 box_runs-requires-clause-rows c = c.requires.rows
+
+pub corner_reach-requires-clause-height : goal.corner_reach-requires-clause-height
+corner_reach-requires-clause-height c = assumption arith
+
+pub narrow_left-requires-2-clause-from : goal.narrow_left-requires-2-clause-from
+narrow_left-requires-2-clause-from c = assumption arith
+
+pub corner_reach-requires-clause-width : goal.corner_reach-requires-clause-width
+corner_reach-requires-clause-width c = assumption arith
+
+pub box_runs-requires-clause-ends : goal.box_runs-requires-clause-ends
+box_runs-requires-clause-ends c = grind (arith)

@@ -1,4 +1,5 @@
 use Rattle.std.proofs.Common.{rules, pos, ◌+ℤ◌, ◌<ℤ◌, ◌≤ℤ◌, arith}
+use Rattle.std.proofs.lemmas.Grind.{common_steps}
 use Rattle.std.proofs.lemmas.Int.{ints}
 use Rattle.cam_rows.proofs.NextCrossings.{columns_kept, minus_kept, near_below, near_past, next_kept, past_kept, rest_kept}
 use Rattle.cam_rows.proofs.SlopeParts.{few_whole, next_whole}
@@ -32,3 +33,18 @@ returns-clause-near c bound here =
     let minus = minus_kept t.divisor short in
     let more : pos 0 ≤ℤ (s.rest +ℤ t.rest) = omega (arith, ints, past, minus, c.if-past-steps.false) in
     rw (columns, past) (near_past t s bound c.requires.steps here more)
+
+pub overflow_sub-past-2 : goal.overflow_sub-past-2
+overflow_sub-past-2 c = grind (arith, common_steps)
+
+pub overflow_add-rest : goal.overflow_add-rest
+overflow_add-rest c = grind (arith, common_steps)
+
+pub overflow_sub-steps : goal.overflow_sub-steps
+overflow_sub-steps c = grind (arith, common_steps)
+
+pub overflow_sub-past : goal.overflow_sub-past
+overflow_sub-past c = grind (arith, common_steps)
+
+pub overflow_add-result : goal.overflow_add-result
+overflow_add-result c = grind (arith, common_steps)

@@ -1,4 +1,5 @@
 use Rattle.std.proofs.Common.{arith}
+use Rattle.std.proofs.lemmas.Grind.{common_steps}
 use Rattle.std.proofs.lemmas.Int.{ints}
 use Rattle.cam_rows.proofs.ShortSlopes.{divided_top}
 use Rattle.cam_rows.proofs.slope.Steps.crossing.Goals as goal
@@ -24,3 +25,9 @@ overflow_sub-result c =
     let d = c.requires.steps.divisor in
     let left = c.floor_division-last.ensures.rest in
     omega (arith, ints, c.from.ensures, d.0, d.1, left.0, left.1)
+
+pub floor_division-last-requires-clause-divisor : goal.floor_division-last-requires-clause-divisor
+floor_division-last-requires-clause-divisor c = grind (arith, common_steps)
+
+pub overflow_cast-result-2 : goal.overflow_cast-result-2
+overflow_cast-result-2 c = grind (arith, common_steps)

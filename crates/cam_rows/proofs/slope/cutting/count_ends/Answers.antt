@@ -35,3 +35,6 @@ returns c =
     all_counted c.args.columns (length c.args.ends.now) c.args.ends.now c.loop-k.ends
     (IsUp (falling c.args.top c.args.steps.now)) c.loop-k.k (omega (arith, c.loop-k-test.false, c.loop-k.invariant.counted.size))
     c.loop-k.invariant.counted
+
+pub below-crossing-requires-clause-here : goal.below-crossing-requires-clause-here
+below-crossing-requires-clause-here c = grind (arith)

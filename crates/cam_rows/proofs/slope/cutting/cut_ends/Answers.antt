@@ -43,3 +43,6 @@ returns c = λ k i within. c.loop-k.invariant.cut.above k (omega (arith, within,
 
 pub returns-then-is_empty : goal.returns-then-is_empty
 returns-then-is_empty c = grind (arith, common_steps)
+
+pub below-crossing-requires-clause-here : goal.below-crossing-requires-clause-here
+below-crossing-requires-clause-here c = grind (arith)

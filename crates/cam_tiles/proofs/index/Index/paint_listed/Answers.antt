@@ -90,3 +90,12 @@ returns c =
     let Painted = λ (k : ℕ) (numbers : List ℕ). PaintsSwath c.args.swath.now
     (numbered_leaves (leaves_by_item c.args.shown.now) c.args.self.now.boxed.items (drop k numbers)) c.loop-k.swath in
     subst (Painted 0) c.as_slice-numbers.ensures.value (subst (λ k. Painted k c.as_slice-numbers.result.now) first c.loop-k.invariant)
+
+pub paint_item-requires-clause-item : goal.paint_item-requires-clause-item
+paint_item-requires-clause-item c = grind (arith)
+
+pub index-item-requires : goal.index-item-requires
+index-item-requires c = grind (arith)
+
+pub paint_item-requires-clause-contours : goal.paint_item-requires-clause-contours
+paint_item-requires-clause-contours c = grind (arith)

@@ -59,3 +59,6 @@ returns-clause-few c = omega (arith, few (goal.at.returns-clause-few c).After-ab
 
 pub returns-then-place-self-clause-each : goal.returns-then-place-self-clause-each
 returns-then-place-self-clause-each c = grind (arith, common_steps)
+
+pub nonzero_div-result : goal.nonzero_div-result
+nonzero_div-result c = grind (arith, common_steps)

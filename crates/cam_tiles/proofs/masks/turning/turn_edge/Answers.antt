@@ -1,4 +1,5 @@
 use Rattle.std.proofs.Common.{◌≡◌, ◌≢◌, ◌↔◌, ℕ, ◌-◌, ◌<◌, ◌≤◌, IsTrue, length, slice_index, pos, ◌+ℤ◌, ◌*ℤ◌, ◌≤ℤ◌, FitsSigned, w64, arith, rules}
+use Rattle.std.proofs.lemmas.Grind.{common_steps}
 use Rattle.std.proofs.lemmas.Int.{clamps, ints, to_z-of_z}
 use Rattle.cam_units.specs.declared.point.Spot.{Spot}
 use Rattle.cam_shapes.specs.Edge.{crosses_ray, edge, is_above}
@@ -101,3 +102,18 @@ overflow_mul-max c = omega (arith, ints, clamps, c.max.ensures.value)
 
 pub slice_bounds-ends-end : goal.slice_bounds-ends-end
 slice_bounds-ends-end c = omega (arith, rw c.levels.ensures.value at c.band-band.ensures.end, c.args.field.now.seen.rows)
+
+pub mark_ends-requires-clause-rows : goal.mark_ends-requires-clause-rows
+mark_ends-requires-clause-rows c = grind (arith, common_steps)
+
+pub mark_column-requires-clause-rows : goal.mark_column-requires-clause-rows
+mark_column-requires-clause-rows c = grind (arith, common_steps)
+
+pub slice_bounds-ends-end-2 : goal.slice_bounds-ends-end-2
+slice_bounds-ends-end-2 c = grind (arith, common_steps)
+
+pub levels-requires-2 : goal.levels-requires-2
+levels-requires-2 c = assumption arith
+
+pub height-requires-clause-levels : goal.height-requires-clause-levels
+height-requires-clause-levels c = grind (arith)

@@ -66,3 +66,6 @@ overflow_cast-k g c = grind (arith, few_tiles)
 
 pub overflow_add-first : goal.overflow_add-first
 overflow_add-first g c = grind (arith, few_tiles)
+
+pub bounds-tiles-k-then-is_none : goal.bounds-tiles-k-then-is_none
+bounds-tiles-k-then-is_none c = grind (arith)

@@ -20,3 +20,6 @@ returns-in-Some c = grind (arith, bit_in, bit_shifted, pixel_in)
 
 pub returns-in-None : goal.returns-in-None
 returns-in-None c = grind (arith, bit_in, bit_shifted, pixel_in)
+
+pub index-requires : goal.index-requires
+index-requires c = grind (arith)

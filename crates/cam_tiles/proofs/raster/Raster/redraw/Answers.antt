@@ -1,6 +1,7 @@
 use Rattle.std.proofs.Common.{◌≡◌, ◌≤◌, ◌-◌, List, length, take, ap, sym, ◌∙◌, arith}
 use Rattle.std.specs.Vec.{with_items}
 use Rattle.std.proofs.lemmas.List.{with_items_is}
+use Rattle.cam_tiles.proofs.TileCounts.{some_across}
 use Rattle.cam_tiles.specs.Machinery.Kept.{table_of}
 use Rattle.cam_tiles.specs.Tables.{Table, Tile, redrawn}
 use Rattle.cam_tiles.proofs.DrawnTiles.{clean_before, clean_first, dirty, redrawn_is}
@@ -59,3 +60,6 @@ returns-clause-drawn c = grind (arith)
 
 pub returns-clause-asked : goal.returns-clause-asked
 returns-clause-asked c = grind (arith)
+
+pub nonzero_rem-start : goal.nonzero_rem-start
+nonzero_rem-start c = grind (arith, some_across)

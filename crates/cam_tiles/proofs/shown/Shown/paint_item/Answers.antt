@@ -1,4 +1,5 @@
-use Rattle.std.proofs.Common.{◌<◌, [], List, length, get_or, sym, subst}
+use Rattle.std.proofs.Common.{◌<◌, [], List, length, get_or, sym, subst, arith}
+use Rattle.std.proofs.lemmas.Grind.{common_steps}
 use Rattle.cam_objects.specs.Canvases.{Paints}
 use Rattle.cam_objects.specs.Drilling.{drill_item_leaves}
 use Rattle.cam_objects.specs.Leaves.{Leaf, item_leaves, meaning_in}
@@ -40,3 +41,21 @@ returns-in-Drill g c =
     let within = subst (λ (s : Shown). k < length (leaves_by_item s)) c.in-Drill.is c.requires.within in
     subst (λ (s : Shown). IsPainted (get_or (leaves_by_item s) k [])) (sym c.in-Drill.is)
     (at_place (drill_item_leaves layer.tools) layer.items.items k IsPainted within item.ensures)
+
+pub paint_item-requires-in-Drill-clause-sound : goal.paint_item-requires-in-Drill-clause-sound
+paint_item-requires-in-Drill-clause-sound c = grind (arith)
+
+pub paint_repeat-requires-clause-sound : goal.paint_repeat-requires-clause-sound
+paint_repeat-requires-clause-sound c = grind (arith)
+
+pub paint_item-requires-clause-sound : goal.paint_item-requires-clause-sound
+paint_item-requires-clause-sound c = grind (arith)
+
+pub paint_repeat-requires-clause-within : goal.paint_repeat-requires-clause-within
+paint_repeat-requires-clause-within c = grind (arith, common_steps)
+
+pub paint_item-requires-clause-within : goal.paint_item-requires-clause-within
+paint_item-requires-clause-within c = grind (arith, common_steps)
+
+pub paint_item-requires-in-Drill-clause-within : goal.paint_item-requires-in-Drill-clause-within
+paint_item-requires-in-Drill-clause-within c = grind (arith, common_steps)

@@ -43,3 +43,6 @@ loop-self-smaller c = grind (arith)
 
 pub loop-self-init : goal.loop-self-init
 loop-self-init c = grind (arith)
+
+pub overflow_add-self : goal.overflow_add-self
+overflow_add-self c = grind (arith)

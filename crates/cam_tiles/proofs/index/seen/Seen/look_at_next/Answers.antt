@@ -102,3 +102,6 @@ returns-in_default-clause-lists c = grind (arith)
 
 pub returns-in_default-clause-onward : goal.returns-in_default-clause-onward
 returns-in_default-clause-onward c = omega (arith)
+
+pub line_misses-requires : goal.line_misses-requires
+line_misses-requires c = grind (arith)

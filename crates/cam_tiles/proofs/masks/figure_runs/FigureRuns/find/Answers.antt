@@ -28,3 +28,6 @@ find_round-requires-clause-sound c = (rw c.in-Round.is at c.requires.sound.figur
 
 pub find-requires-clause-sound : goal.find-requires-clause-sound
 find-requires-clause-sound c = rw c.in-Swept.is at c.requires.sound.figure
+
+pub find_round-requires-clause-heights : goal.find_round-requires-clause-heights
+find_round-requires-clause-heights c = grind (arith)

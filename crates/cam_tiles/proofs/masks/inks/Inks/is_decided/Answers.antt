@@ -42,3 +42,9 @@ loop-tile-preserved c = λ row column after until from to near. elim (cases_lt (
             rw there (rw c.deref.ensures.value at held))
       ]))
 ]
+
+pub are_set-requires-clause-tile : goal.are_set-requires-clause-tile
+are_set-requires-clause-tile c = grind (arith)
+
+pub are_set-requires-clause-within : goal.are_set-requires-clause-within
+are_set-requires-clause-within c = grind (arith)

@@ -1,4 +1,5 @@
 use Rattle.std.proofs.Common.{◌*◌, ◌-◌, take, ap, arith}
+use Rattle.std.proofs.lemmas.Grind.{common_steps}
 use Rattle.cam_tiles.specs.Machinery.Inks.{Inked}
 use Rattle.cam_tiles.proofs.TakenInks.{AreWritten, still_inked, takes_marks, words_taken}
 use Rattle.cam_tiles.proofs.masks.inks.Inks.take_marked.Goals as goal
@@ -26,3 +27,9 @@ pub returns : goal.returns
 returns c =
     takes_marks c.args.first c.args.end c.args.marks.now c.args.dark _ _ c.args.self.now (omega (arith, c.requires.some))
     c.self.view_is (words_taken _ _ _ _ _ _ _ _ _ (written c) c.self.invariant)
+
+pub take_words-requires-clause-bits : goal.take_words-requires-clause-bits
+take_words-requires-clause-bits c = grind (arith, common_steps)
+
+pub slice_bounds-take_words-end-3 : goal.slice_bounds-take_words-end-3
+slice_bounds-take_words-end-3 c = grind (arith, common_steps)

@@ -26,3 +26,6 @@ pub returns : goal.returns
 returns c =
     takes_all c.args.ink (length c.args.next.now) c.args.runs.now c.loop-row.row _ _ (omega (arith, c.loop-row-test.false))
     c.loop-row.invariant
+
+pub take_run-requires-clause-known : goal.take_run-requires-clause-known
+take_run-requires-clause-known c = grind (arith)

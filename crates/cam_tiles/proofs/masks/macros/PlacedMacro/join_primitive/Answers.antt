@@ -1,4 +1,4 @@
-use Rattle.std.proofs.Common.{subst}
+use Rattle.std.proofs.Common.{subst, arith}
 use Rattle.cam_units.specs.declared.point.Spot.{Spot}
 use Rattle.cam_apertures.proofs.Outlines.{outline_places}
 use Rattle.cam_objects.specs.Image.{relative}
@@ -30,3 +30,12 @@ returns-in-Bar c =
 pub returns-in-Disc : goal.returns-in-Disc
 returns-in-Disc c =
     rw c.in-Disc.is (rw (c.inked-how.ensures, c.apply.ensures.value) at c.join_shape.ensures)
+
+pub join_shape-requires-in-Bar-clause-sound : goal.join_shape-requires-in-Bar-clause-sound
+join_shape-requires-in-Bar-clause-sound c = grind (arith)
+
+pub join_shape-requires-in-Rect-clause-sound : goal.join_shape-requires-in-Rect-clause-sound
+join_shape-requires-in-Rect-clause-sound c = grind (arith)
+
+pub join_shape-requires-clause-sound : goal.join_shape-requires-clause-sound
+join_shape-requires-clause-sound c = grind (arith)

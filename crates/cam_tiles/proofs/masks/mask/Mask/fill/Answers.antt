@@ -53,3 +53,6 @@ returns c =
     (shows_turned (λ s. P (relative origin.offset s)) c.blank-inside.result c.turn_edge.new.self c.blank-inside.ensures.marks
     turned))
     c.merge.ensures
+
+pub seg-seg-requires-clause-seg : goal.seg-seg-requires-clause-seg
+seg-seg-requires-clause-seg c = grind (arith)

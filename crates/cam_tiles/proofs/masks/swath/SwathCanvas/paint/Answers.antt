@@ -1,3 +1,4 @@
+use Rattle.std.proofs.Common.{rules}
 use Rattle.std.proofs.Common.{◌≡◌, ◌↔◌, ℕ, ◌/◌, ◌<◌, ◌≤◌, [], ◌∷◌, IsSome, refl, sym, ap, subst, ◌∙◌, inl, inr, arith}
 use Rattle.cam_units.specs.Boxes.{Holds}
 use Rattle.cam_units.specs.declared.bounds.Bounds.{Bounds}
@@ -122,3 +123,18 @@ returns-in_default-placed_of c = grind (arith)
 
 pub returns-in_default-placed_of-2 : goal.returns-in_default-placed_of-2
 returns-in_default-placed_of-2 c = grind (arith)
+
+pub is_decided-requires-clause-columns : goal.is_decided-requires-clause-columns
+is_decided-requires-clause-columns c = grind (arith)
+
+pub paint_marked-requires-clause-sound : goal.paint_marked-requires-clause-sound
+paint_marked-requires-clause-sound c = grind (arith)
+
+pub take_runs-requires : goal.take_runs-requires
+take_runs-requires c = omega (arith)
+
+pub paint_marked-requires-in-Filled-clause-sound : goal.paint_marked-requires-in-Filled-clause-sound
+paint_marked-requires-in-Filled-clause-sound c = grind (arith)
+
+pub placed_of-requires-clause-heights : goal.placed_of-requires-clause-heights
+placed_of-requires-clause-heights c = search rules
