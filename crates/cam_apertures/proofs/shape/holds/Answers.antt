@@ -21,3 +21,9 @@ returns-in-Disc c = grind (arith)
 
 pub returns-in-Bar : goal.returns-in-Bar
 returns-in-Bar c = grind (arith)
+
+pub in_rect-requires-clause-rectangle : goal.in_rect-requires-clause-rectangle
+in_rect-requires-clause-rectangle c = grind (arith)
+
+pub in_bar-requires-clause-bar : goal.in_bar-requires-clause-bar
+in_bar-requires-clause-bar c = grind (arith)

@@ -1,4 +1,5 @@
 use Rattle.std.proofs.Common.{arith}
+use Rattle.std.proofs.lemmas.Grind.{common_steps}
 use Rattle.std.proofs.lemmas.Int.{ints}
 use Rattle.cam_shapes.proofs.Obrounds.{high_is_rounded, wide_is_rounded}
 use Rattle.cam_shapes.proofs.Vectors.{same_vector}
@@ -14,3 +15,12 @@ returns-else-width-height c =
     high_is_rounded c.is_along-else-width-height.result c.args.seen _ c.args.width.0 c.args.height.0
     c.excess-else-width-height.result.0 (omega (arith, ints)) c.excess-else-width-height.ensures.value
     (same_vector _ _ (omega (arith, ints)) (omega (arith, ints))) c.is_along-else-width-height.ensures
+
+pub is_along-requires-else-width-height-clause-seen : goal.is_along-requires-else-width-height-clause-seen
+is_along-requires-else-width-height-clause-seen c = grind (arith, common_steps)
+
+pub excess-requires-else-width-height-clause-order : goal.excess-requires-else-width-height-clause-order
+excess-requires-else-width-height-clause-order c = grind (arith, common_steps)
+
+pub excess-requires-clause-order : goal.excess-requires-clause-order
+excess-requires-clause-order c = grind (arith)

@@ -1,4 +1,5 @@
-use Rattle.std.proofs.Common.{rules}
+use Rattle.std.proofs.Common.{rules, arith}
+use Rattle.std.proofs.lemmas.Grind.{common_steps}
 use Rattle.cam_shapes.proofs.Sweeps.{high_fits, kept_high, same_spot}
 use Rattle.cam_shapes.proofs.swept.high_corner.Goals as goal
 
@@ -14,3 +15,12 @@ overflow_add-result-2 c =
 
 pub returns : goal.returns
 returns c = search (rules, same_spot, kept_high)
+
+pub overflow_mul-to : goal.overflow_mul-to
+overflow_mul-to c = grind (arith)
+
+pub overflow_mul-to-2 : goal.overflow_mul-to-2
+overflow_mul-to-2 c = grind (arith, common_steps)
+
+pub overflow_mul-from-2 : goal.overflow_mul-from-2
+overflow_mul-from-2 c = grind (arith, common_steps)

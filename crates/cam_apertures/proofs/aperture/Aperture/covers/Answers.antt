@@ -62,3 +62,18 @@ returns-else-in_obround c =
 
 pub returns-in-Prims : goal.returns-in-Prims
 returns-in-Prims c = grind (arith)
+
+pub in_rect-requires-clause-rectangle : goal.in_rect-requires-clause-rectangle
+in_rect-requires-clause-rectangle c = grind (arith)
+
+pub in_obround-requires-clause-obround : goal.in_obround-requires-clause-obround
+in_obround-requires-clause-obround c = grind (arith)
+
+pub in_hole-requires-then-in_rect-clause-disc : goal.in_hole-requires-then-in_rect-clause-disc
+in_hole-requires-then-in_rect-clause-disc c = grind (arith)
+
+pub in_hole-requires-then-in_obround-clause-disc : goal.in_hole-requires-then-in_obround-clause-disc
+in_hole-requires-then-in_obround-clause-disc c = grind (arith)
+
+pub in_hole-requires-clause-disc : goal.in_hole-requires-clause-disc
+in_hole-requires-clause-disc c = grind (arith)

@@ -80,3 +80,18 @@ returns-clause-macros c = assumption arith
 
 pub returns-in_err-shared-clause-macros : goal.returns-in_err-shared-clause-macros
 returns-in_err-shared-clause-macros c = refl
+
+pub same-self-in_err-shared : goal.same-self-in_err-shared
+same-self-in_err-shared c = grind (arith)
+
+pub same-self-in_err-primitives : goal.same-self-in_err-primitives
+same-self-in_err-primitives c = grind (arith)
+
+pub same-self-in_err-clone : goal.same-self-in_err-clone
+same-self-in_err-clone c = grind (arith)
+
+pub same-primitives : goal.same-primitives
+same-primitives c = grind (arith)
+
+pub same-self-in-Some-found_again : goal.same-self-in-Some-found_again
+same-self-in-Some-found_again c = grind (arith)

@@ -26,3 +26,6 @@ returns g c = grind (arith, paints_rout)
 
 pub returns-then-points-eq1 : goal.returns-then-points-eq1
 returns-then-points-eq1 c = grind (arith)
+
+pub stroke_bounds-requires : goal.stroke_bounds-requires
+stroke_bounds-requires c = grind (arith)

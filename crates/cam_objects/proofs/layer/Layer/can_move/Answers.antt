@@ -148,3 +148,6 @@ returns-else-not-fits_box-3 c =
     (c.fits_box-in-Repeat-2.ensures.0 c.if-not-fits_box-3.false)
     (c.moved-in-Repeat-2.ensures ∙ ap (λ (o : Point). moved o c.moved-one.result) c.last.ensures.value)
     c.fits_box-in-Repeat-3.ensures)
+
+pub moved-requires-in-Repeat-2-clause-bounds : goal.moved-requires-in-Repeat-2-clause-bounds
+moved-requires-in-Repeat-2-clause-bounds c = grind (arith)

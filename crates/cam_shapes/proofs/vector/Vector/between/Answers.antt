@@ -1,4 +1,4 @@
-use Rattle.std.proofs.Common.{arith}
+use Rattle.std.proofs.Common.{arith, rules}
 use Rattle.std.proofs.lemmas.Int.{ints}
 use Rattle.cam_shapes.proofs.Vectors.{same_vector}
 use Rattle.cam_shapes.proofs.vector.Vector.between.Goals as goal
@@ -8,3 +8,12 @@ returns-clause-value c = same_vector _ _ (omega (arith, ints)) (omega (arith, in
 
 pub returns-clause-short : goal.returns-clause-short
 returns-clause-short c = omega (arith, ints)
+
+pub overflow_sub-result-2 : goal.overflow_sub-result-2
+overflow_sub-result-2 c = search rules
+
+pub overflow_mul-result-3 : goal.overflow_mul-result-3
+overflow_mul-result-3 c = grind (arith)
+
+pub overflow_mul-result-4 : goal.overflow_mul-result-4
+overflow_mul-result-4 c = grind (arith)

@@ -26,3 +26,9 @@ pub returns-clause-bound : goal.returns-clause-bound
 returns-clause-bound c =
     let bound = cross_bound c.args.self c.args.other c.requires.first c.requires.second in
     rw (first c, second c, kept (cross c.args.self c.args.other) bound) bound
+
+pub overflow_mul-result : goal.overflow_mul-result
+overflow_mul-result c = search rules
+
+pub overflow_mul-result-2 : goal.overflow_mul-result-2
+overflow_mul-result-2 c = search rules

@@ -11,3 +11,9 @@ returns-clause-short c = search rules
 
 pub returns-clause-seen : goal.returns-clause-seen
 returns-clause-seen c = search rules
+
+pub overflow_mul-result-2 : goal.overflow_mul-result-2
+overflow_mul-result-2 c = grind (arith)
+
+pub overflow_sub-result-2 : goal.overflow_sub-result-2
+overflow_sub-result-2 c = search rules

@@ -22,3 +22,21 @@ returns-clause-cells c = grind (arith)
 
 pub loop-place-init : goal.loop-place-init
 loop-place-init c = grind (arith)
+
+pub index_mut-requires : goal.index_mut-requires
+index_mut-requires c = grind (arith)
+
+pub index_mut-requires-in-loop-place : goal.index_mut-requires-in-loop-place
+index_mut-requires-in-loop-place c = grind (arith)
+
+pub index_mut-requires-in-loop-place-2 : goal.index_mut-requires-in-loop-place-2
+index_mut-requires-in-loop-place-2 c = grind (arith)
+
+pub index_mut-requires-in-loop-place-3 : goal.index_mut-requires-in-loop-place-3
+index_mut-requires-in-loop-place-3 c = grind (arith)
+
+pub overflow_add-leaves : goal.overflow_add-leaves
+overflow_add-leaves c = grind (arith, common_steps)
+
+pub measure_at-measure-requires : goal.measure_at-measure-requires
+measure_at-measure-requires c = grind (arith)
