@@ -65,3 +65,6 @@ loop-line-smaller c = grind (arith)
 
 pub returns-clause-err : goal.returns-clause-err
 returns-clause-err c = assumption arith
+
+pub same-station : goal.same-station
+same-station c = grind (arith)

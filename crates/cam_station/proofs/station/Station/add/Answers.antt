@@ -46,3 +46,6 @@ returns-in-Err-clause-err c = grind (arith)
 
 pub returns-then-is_err-clause-err : goal.returns-then-is_err-clause-err
 returns-then-is_err-clause-err c = grind (arith)
+
+pub clear-requires : goal.clear-requires
+clear-requires c = grind (arith)

@@ -63,3 +63,6 @@ returns-then-is_none c = grind (arith)
 
 pub returns-in_default : goal.returns-in_default
 returns-in_default c = grind (arith)
+
+pub index_mut-raster-requires : goal.index_mut-raster-requires
+index_mut-raster-requires c = grind (arith)
