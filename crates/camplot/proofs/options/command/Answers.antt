@@ -1,4 +1,4 @@
-use Rattle.std.proofs.Common.{◌∙◌, ap, ap₂}
+use Rattle.std.proofs.Common.{◌∙◌, ap, ap₂, arith}
 use Rattle.std.proofs.lemmas.Result.{IfOk-weaker}
 use Rattle.clap.specs.Words.{with_rule}
 use Rattle.clap.specs.Simple.{app_of_fields}
@@ -14,3 +14,6 @@ returns c =
     let third = c.in_ok-arg-3.ensures.shape c.explain_option.ensures.local ∙ ap₂ with_rule second c.explain_option.ensures.rule in
     IfOk-weaker c.arg-4.result _ _
     (λ made added. added.shape c.progress_option.ensures.local ∙ ap₂ with_rule third c.progress_option.ensures.rule) c.arg-4.ensures
+
+pub after_help-requires : goal.after_help-requires
+after_help-requires c = grind (arith)

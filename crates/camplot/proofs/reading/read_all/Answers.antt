@@ -72,3 +72,24 @@ loop-preserved g c =
       read = Consumes-trans _ _ _ c.loop.bytes.items piece c.loop.invariant.read c.in-Ok-read.ensures.bytes.0;
       failures = c.in-Ok-read.ensures.ok ∙ c.loop.invariant.failures;
     })
+
+pub returns-in-Err-clause-ok : goal.returns-in-Err-clause-ok
+returns-in-Err-clause-ok c = grind (arith)
+
+pub returns-clause-err : goal.returns-clause-err
+returns-clause-err c = grind (arith)
+
+pub loop-init : goal.loop-init
+loop-init c = grind (arith)
+
+pub returns-then-count-eq0-clause-err : goal.returns-then-count-eq0-clause-err
+returns-then-count-eq0-clause-err c = grind (arith)
+
+pub returns-in_default-clause-taken : goal.returns-in_default-clause-taken
+returns-in_default-clause-taken c = grind (arith)
+
+pub returns-then-is_err-clause-ok : goal.returns-then-is_err-clause-ok
+returns-then-is_err-clause-ok c = assumption arith
+
+pub returns-in_default-clause-err : goal.returns-in_default-clause-err
+returns-in_default-clause-err c = grind (arith)
