@@ -3,6 +3,8 @@
 ghost use Rattle.std.specs.Prelude.{◌≡◌};
 ghost use Rattle.cam_refusals.specs.Refusals.{number_of};
 
+use std::fmt::{self, Debug, Formatter, Write};
+
 /// Why a file, a line of a script or a call is refused, each with the number that a reply tells.
 ///
 /// ```rust
@@ -10,7 +12,7 @@ ghost use Rattle.cam_refusals.specs.Refusals.{number_of};
 ///
 /// assert!(rt; Refusal::RotationRefused.number() == 13);
 /// ```
-#[derive(Clone, Copy, Debug, PartialEq, Eq)]
+#[derive(Clone, Copy, PartialEq, Eq)]
 pub enum Refusal {
     /// A byte that may not stand there: of a command, or outside the comments of a drill file (1).
     BadByte,
@@ -218,5 +220,12 @@ impl Refusal {
             Refusal::NoPointer => 90,
             Refusal::NotClean => 91,
         }
+    }
+}
+
+/// As `Refusal(13)`, by its number.
+impl Debug for Refusal {
+    fn fmt<W: Write>(&self, f: &mut Formatter<W>) -> fmt::Result {
+        f.debug_tuple("Refusal").field(&self.number()).finish()
     }
 }
