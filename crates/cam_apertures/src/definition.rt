@@ -153,7 +153,7 @@ fn are_runs(parameters: Option<&[u8]>) -> bool
 fn are_all_of_runs(text: &[u8]) -> bool
     ensures { result ≡ list_all is_of_runs text.now }
 {
-    text.iter().all(|byte| is_of_runs(*byte))
+    text.iter().copied().all(is_of_runs)
 }
 
 #[tactic(auto, unfolding(crate::specs::Definition::is_of_runs))]

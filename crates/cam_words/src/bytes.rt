@@ -42,21 +42,21 @@ fn is_forbidden_in_plain(byte: u8) -> bool
 pub fn holds_control(text: &[u8]) -> bool
     ensures { result ≡ list_any is_control text.now }
 {
-    text.iter().any(|byte| is_control(*byte))
+    text.iter().copied().any(is_control)
 }
 
 /// Whether the text holds a byte that an extended command without free text may not hold.
 pub fn holds_forbidden_in_code(text: &[u8]) -> bool
     ensures { result ≡ list_any is_forbidden_in_code text.now }
 {
-    text.iter().any(|byte| is_forbidden_in_code(*byte))
+    text.iter().copied().any(is_forbidden_in_code)
 }
 
 /// Whether the text holds a byte that a word other than a comment may not hold.
 pub fn holds_forbidden_in_plain(text: &[u8]) -> bool
     ensures { result ≡ list_any is_forbidden_in_plain text.now }
 {
-    text.iter().any(|byte| is_forbidden_in_plain(*byte))
+    text.iter().copied().any(is_forbidden_in_plain)
 }
 
 /// How many skipped bytes the text begins with.

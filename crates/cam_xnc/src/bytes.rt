@@ -49,7 +49,7 @@ pub fn code_of(text: &[u8]) -> &[u8]
 pub fn is_blank(text: &[u8]) -> bool
     ensures { result ≡ is_blank text.now }
 {
-    text.iter().all(|byte| is_line_blank(*byte))
+    text.iter().copied().all(is_line_blank)
 }
 
 /// How many skipped bytes the text begins with.
@@ -71,7 +71,7 @@ pub fn holds_bad_byte(text: &[u8]) -> bool
 pub fn holds_skipped(text: &[u8]) -> bool
     ensures { result ≡ list_any is_line_blank text.now }
 {
-    text.iter().any(|byte| is_line_blank(*byte))
+    text.iter().copied().any(is_line_blank)
 }
 
 /// The text without its skipped bytes.
