@@ -15,7 +15,7 @@ const LIMIT: u128 = 1_000_000_000_000_000;
 pub(crate) const BILLION: u64 = 1_000_000_000;
 
 /// A number in 10^-9 units.
-#[derive(Clone, Copy, Debug, PartialEq, Eq)]
+#[derive(Clone, Copy)]
 pub(crate) struct Fixed {
     pub(crate) billionths: i64,
 }
