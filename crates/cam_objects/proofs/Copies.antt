@@ -3,24 +3,18 @@ use Rattle.std.proofs.Common.{◌≡◌, ℕ, List, sym, ◌∙◌, rules}
 use Rattle.std.specs.List.{AllZip}
 use Rattle.std.proofs.lemmas.List.Elements.{same_from_all_zip}
 use Rattle.cam_objects.specs.Cells.{Reaches}
-use Rattle.cam_objects.specs.declared.object.Object.{Object}
 use Rattle.cam_objects.specs.declared.item.Item.{Item}
 use Rattle.cam_objects.specs.declared.entry.Entry.{Entry}
 use Rattle.cam_objects.specs.contracts.cells.numbers.ItemNumbersClone.TheImpl as of_numbers
 use Rattle.cam_objects.specs.contracts.cells.kept.ItemCellsClone.TheImpl as of_cells
-use Rattle.cam_objects.specs.contracts.dictionary.DictionaryClone.TheImpl as of_dictionary
-use Rattle.cam_objects.specs.contracts.object.ObjectClone.TheImpl.{by_variants as IsObjectClone}
 use Rattle.cam_objects.specs.contracts.item.ItemClone.TheImpl.{by_variants as IsItemClone}
 use Rattle.cam_objects.specs.contracts.entry.EntryClone.TheImpl.{by_variants as IsEntryClone}
 
-object_same : (x y : Object) → IsObjectClone x y → y ≡ x
-object_same x y h = search rules
-
 item_same : (x y : Item) → IsItemClone x y → y ≡ x
-item_same x y h = search (rules, object_same)
+item_same x y h = search rules
 
 entry_same : (p q : ℕ × Entry) → (q.0 ≡ p.0) × IsEntryClone p.1 q.1 → q ≡ p
-entry_same p q h = let same : q.1 ≡ p.1 = search (rules, object_same) in λ i. (h.0 i, same i)
+entry_same p q h = let same : q.1 ≡ p.1 = search rules in λ i. (h.0 i, same i)
 
 pub items_same : (items copies : List Item) → AllZip IsItemClone items copies → copies ≡ items
 items_same items copies h = same_from_all_zip IsItemClone items copies h item_same
@@ -39,6 +33,3 @@ cells_same x y h =
     let right = numbers_same h.0.right h.1.right h.4.1.1.0 in
     let top = numbers_same h.0.top h.1.top h.4.1.1.1 in
     sym h.3 ∙ (λ i. record { left = left i; bottom = bottom i; right = right i; top = top i }) ∙ h.2
-
-pub dictionary_same : (x y : List (ℕ × Entry)) → (of_dictionary.is_clone-value).it x y → y ≡ x
-dictionary_same x y h = sym h.3 ∙ entries_same _ _ h.4.0 ∙ h.2

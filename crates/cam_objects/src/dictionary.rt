@@ -46,7 +46,7 @@ use std::marker::Model;
 
 /// The dictionary of a layer: apertures and blocks by their numbers, in the order in which they
 /// were added. No number stands twice, and each entry might have been added to those before it.
-#[derive(Clone, Drop)]
+#[derive(Drop)]
 pub struct Dictionary {
     map: IndexMap<u32, Entry>,
     facts: Vec<Facts>,
@@ -71,6 +71,24 @@ impl Model for Dictionary {
     ghost view = { λ d. d.map.entries };
 
     ghost invariant = { λ d. IsKept d.map.entries d.facts.items × AreCellsKept d.map.entries d.cells.items };
+}
+
+impl Clone for Dictionary {
+    ghost is_clone = { λ x y. y ≡ x };
+
+    fn clone(&self) -> Result<Dictionary, AllocError> {
+        let map = self.map.clone()?;
+        let facts = self.facts.clone()?;
+        let cells = self.cells.clone()?;
+        let places = self.places.clone()?;
+        Ok(Dictionary {
+            map,
+            facts,
+            cells,
+            places,
+            alloc: self.alloc,
+        })
+    }
 }
 
 /// Keeps where a small number stands, if there is memory for it.

@@ -6,10 +6,11 @@ ghost use Rattle.cam_objects.specs.Shifting.{IsShiftableObject, shifted_object};
 
 use cam_shapes::Contour;
 use cam_units::{Items, Point, Turn};
+use std::alloc::AllocError;
 
 /// One object, as the Gerber Layer Format Specification names them ("Objects"): points in nm, an
 /// aperture by its number in the dictionary, and whether it darkens or clears.
-#[derive(Clone, Debug, Drop)]
+#[derive(Debug, Drop)]
 pub enum Object {
     /// The aperture, mirrored and turned, at a point. A flash of a block paints what the block holds.
     Flash {
@@ -42,6 +43,62 @@ pub enum Object {
         contour: Contour,
         dark: bool,
     },
+}
+
+// By hand, since a region's contour alone takes memory: derived, each number might refuse its copy.
+impl Clone for Object {
+    ghost is_clone = { λ x y. y ≡ x };
+
+    fn clone(&self) -> Result<Object, AllocError> {
+        match self {
+            Object::Flash {
+                aperture,
+                at,
+                turn,
+                dark,
+            } => Ok(Object::Flash {
+                aperture: *aperture,
+                at: *at,
+                turn: *turn,
+                dark: *dark,
+            }),
+            Object::Draw {
+                aperture,
+                from,
+                to,
+                turn,
+                dark,
+            } => Ok(Object::Draw {
+                aperture: *aperture,
+                from: *from,
+                to: *to,
+                turn: *turn,
+                dark: *dark,
+            }),
+            Object::Arc {
+                ccw,
+                dark,
+                aperture,
+                from,
+                to,
+                centre,
+            } => Ok(Object::Arc {
+                ccw: *ccw,
+                dark: *dark,
+                aperture: *aperture,
+                from: *from,
+                to: *to,
+                centre: *centre,
+            }),
+            Object::Region { contour, dark } => {
+                let contour = contour.clone()?;
+                Ok(Object::Region {
+                    contour,
+                    dark: *dark,
+                })
+            }
+        }
+    }
 }
 
 /// The objects of a block or of a repeat, in order.
