@@ -32,7 +32,7 @@ fn are_key_bytes(bytes: &[u8]) -> bool
 fn are_field_bytes(bytes: &[u8]) -> bool
     ensures { result ≡ list_all is_field_byte bytes.now }
 {
-    bytes.iter().all(|b| is_field_byte(*b))
+    bytes.iter().copied().all(is_field_byte)
 }
 
 /// Whether an edit may name a file attribute so: 1 to 255 bytes from `!` to `~`, but for the comma, `%` and `*`. Takes
