@@ -6,7 +6,7 @@ ghost use Rattle.camplot.specs.Endings.{status_of};
 use cam_station::{FileFault, RunFault};
 
 /// How a run of a script ended.
-#[derive(Clone, Copy, Debug, PartialEq, Eq, Drop)]
+#[derive(Drop)]
 pub enum Ending {
     /// All its lines were run, and so many of them refused.
     Ran(u64),

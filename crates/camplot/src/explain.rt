@@ -15,9 +15,10 @@ use crate::options::Call;
 use crate::reading::write_whole;
 use crate::system::Disk;
 use advice::advice_on;
-use bad_line::why_bad;
+use bad_line::{other_file, why_bad};
 use cam_refusals::Refusal;
 use cam_station::{Fault, Reply, Station, Watch};
+use forms::begins_with_command;
 use place::{column_at, line_at};
 use std::alloc::{AllocError, Global};
 use std::io::Write;
@@ -61,6 +62,21 @@ fn path_in(line: &[u8]) -> Option<&str> {
     str::from_utf8(line).ok()?.split_ascii_whitespace().last()
 }
 
+/// The line and the column of a place in a file, where the file can be read again.
+fn line_and_column<R: SystemFiles>(
+    files: &Disk<'_, R>,
+    alloc: Global,
+    path: &str,
+    at: usize,
+) -> Option<(usize, usize)> {
+    let bytes = files.read_again(alloc, path)?;
+    let bytes = bytes.as_slice();
+    if at > bytes.len() {
+        return None;
+    }
+    Some((line_at(bytes, at), column_at(bytes, at)))
+}
+
 /// Where in the file of a load a place lies: its line and its column too, where the file can be read again.
 fn place_in_file<R: SystemFiles>(
     files: &Disk<'_, R>,
@@ -68,13 +84,9 @@ fn place_in_file<R: SystemFiles>(
     path: &str,
     at: usize,
 ) -> Result<String, AllocError> {
-    match files.read_again(alloc, path) {
-        Some(bytes) if at <= bytes.len() => {
-            let line = line_at(bytes.as_slice(), at);
-            let column = column_at(bytes.as_slice(), at);
-            format!(in alloc; " at byte {at}, {path}:{line}:{column}")
-        }
-        _ => format!(in alloc; " at byte {at} of {path}"),
+    match line_and_column(files, alloc, path, at) {
+        Some((line, column)) => { format!(in alloc; " at byte {at}, {path}:{line}:{column}") }
+        None => { format!(in alloc; " at byte {at} of {path}") }
     }
 }
 
@@ -95,8 +107,9 @@ fn file_part<R: SystemFiles>(
     }
 }
 
-/// What to do about a file that failed, where its path shows it.
-fn path_advice(path: &str) -> Option<&'static str> {
+/// What to do about the file of a line that failed, where its path shows it.
+fn path_advice(line: &[u8]) -> Option<&'static str> {
+    let path = path_in(line)?;
     if path.contains('"') || path.contains('\'') {
         return Some("write the path without quotation marks");
     }
@@ -104,6 +117,16 @@ fn path_advice(path: &str) -> Option<&'static str> {
         return Some("write the home folder in place of ~: no shell reads the path");
     }
     None
+}
+
+/// What to do about a refusal: what its line shows, or else what is advised for its number.
+fn advised(
+    alloc: Global,
+    code: Refusal,
+    shown: Option<&'static str>,
+) -> Result<String, AllocError> {
+    let (_, advice) = advice_on(code.number());
+    shown.unwrap_or(advice).to_string(alloc)
 }
 
 /// What goes to standard error in the course of a run.
@@ -154,25 +177,35 @@ impl<'a, W: Write> Notes<'a, W> {
         Ok(())
     }
 
-    /// What to do about a refused line; nothing where it was told before.
-    fn remedy(&mut self, line: &[u8], fault: Fault) -> Result<Option<String>, AllocError> {
-        let (_, remedy) = advice_on(fault.number());
-        if fault.code == Refusal::BadLine
-            && let Some((why, is_other)) = why_bad(self.alloc, line, self.is_other_file)?
-        {
-            if is_other && self.is_other_file {
+    /// Why a line is bad; nothing where it was told that the script is a file of another kind.
+    fn bad_line(&mut self, line: &[u8]) -> Result<Option<String>, AllocError> {
+        let line = String::from_utf8_lossy(self.alloc, line)?;
+        let line = line.as_str();
+        if !begins_with_command(line) {
+            if self.is_other_file {
                 return Ok(None);
             }
-            self.is_other_file = self.is_other_file || is_other;
-            return Ok(Some(why));
+            if let Some(other) = other_file(line) {
+                self.is_other_file = true;
+                return Ok(Some(other.to_string(self.alloc)?));
+            }
         }
-        if fault.code == Refusal::FileFault
-            && let Some(path) = path_in(line)
-            && let Some(told) = path_advice(path)
-        {
-            return Ok(Some(String::from_str(self.alloc, told)?));
+        match why_bad(self.alloc, line)? {
+            Some(why) => Ok(Some(why)),
+            None => Ok(Some(advised(self.alloc, Refusal::BadLine, None)?)),
         }
-        Ok(Some(String::from_str(self.alloc, remedy)?))
+    }
+
+    /// What to do about a refused line; nothing where it was told before.
+    fn remedy(&mut self, line: &[u8], code: Refusal) -> Result<Option<String>, AllocError> {
+        if code == Refusal::BadLine {
+            return self.bad_line(line);
+        }
+        let shown = match code {
+            Refusal::FileFault => path_advice(line),
+            _ => None,
+        };
+        Ok(Some(advised(self.alloc, code, shown)?))
     }
 
     /// Writes a line about this one.
@@ -192,7 +225,7 @@ impl<'a, W: Write> Notes<'a, W> {
         fault: Fault,
         files: &Disk<'_, R>,
     ) -> Result<(), AllocError> {
-        let Some(remedy) = self.remedy(line, fault)? else {
+        let Some(remedy) = self.remedy(line, fault.code)? else {
             return Ok(());
         };
         let file = file_part(files, self.alloc, line, fault)?;

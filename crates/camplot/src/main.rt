@@ -14,7 +14,7 @@ mod reading;
 mod script;
 mod system;
 
-use cam_station::{FileFault, Unwatched};
+use cam_station::FileFault;
 use ending::Ending;
 use explain::Notes;
 use options::{Call, OptionsFault, options};
@@ -28,6 +28,9 @@ use system::{Disk, Screen};
 /// The exit status of a call that runs no script.
 const NOT_RUN: u8 = 2;
 
+/// What is said where memory was refused.
+const NO_MEMORY: &str = "no memory";
+
 /// The words of the call, the program's name first. The error is of memory, or a word that is not
 /// UTF-8.
 fn words(rt: &HostRuntime) -> io::Result<Vec<String>> {
@@ -40,21 +43,10 @@ fn run(rt: &HostRuntime, call: &Call) -> (Ending, &'static str) {
     let mut input = Counted::new(rt.stdin());
     let mut out = Screen::new(io::writer(rt));
     let mut files = Disk::new(rt);
-    let ending = if call.explain || call.progress {
-        let errors = rt.stderr();
-        let is_terminal = errors.is_terminal();
-        let mut notes = Notes::new(alloc, errors, call, is_terminal);
-        run_script(alloc, call, &mut files, &mut input, &mut out, &mut notes)
-    } else {
-        run_script(
-            alloc,
-            call,
-            &mut files,
-            &mut input,
-            &mut out,
-            &mut Unwatched,
-        )
-    };
+    let errors = rt.stderr();
+    let is_terminal = call.progress && errors.is_terminal();
+    let mut notes = Notes::new(alloc, errors, call, is_terminal);
+    let ending = run_script(alloc, call, &mut files, &mut input, &mut out, &mut notes);
     let why = if call.path.as_str() == "-" {
         input.why
     } else {
@@ -63,15 +55,21 @@ fn run(rt: &HostRuntime, call: &Call) -> (Ending, &'static str) {
     (ending, why)
 }
 
-// A text that cannot be printed changes no exit status.
+/// Says on standard error what failed. A text that cannot be printed changes no exit status.
+fn complain(rt: &HostRuntime, complaint: &str) {
+    let _ = eprintln!(rt; "camplot: {complaint}");
+}
+
 fn main(rt: HostRuntime) -> ExitCode {
     let words = match words(&rt) {
         Ok(words) => words,
         Err(error) => {
-            let _ = match fault_of(&error) {
-                IoFault::Memory => eprintln!(rt; "camplot: no memory"),
-                _ => eprintln!(rt; "camplot: {error}"),
-            };
+            match fault_of(&error) {
+                IoFault::Memory => complain(&rt, NO_MEMORY),
+                _ => {
+                    let _ = eprintln!(rt; "camplot: {error}");
+                }
+            }
             return ExitCode::from(NOT_RUN);
         }
     };
@@ -82,15 +80,15 @@ fn main(rt: HostRuntime) -> ExitCode {
             return ExitCode::from(error.exit_code() as u8);
         }
         Err(OptionsFault::Memory) => {
-            let _ = eprintln!(rt; "camplot: no memory");
+            complain(&rt, NO_MEMORY);
             return ExitCode::from(NOT_RUN);
         }
     };
     let (ending, why) = run(&rt, &call);
     if let Some(complaint) = ending.complaint() {
-        let _ = eprintln!(rt; "camplot: {complaint}");
+        complain(&rt, complaint);
     }
-    if ending == Ending::Unread(FileFault::Failed) {
+    if let Ending::Unread(FileFault::Failed) = ending {
         let path = call.path.as_str();
         let _ = eprintln!(rt; "camplot: {path}: {why}");
     }

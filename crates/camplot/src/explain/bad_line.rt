@@ -5,7 +5,7 @@ use super::shown;
 use std::alloc::{AllocError, Global};
 
 /// What a file is in place of a script, by a line of it that begins with no command.
-fn other_file(line: &str) -> Option<&'static str> {
+pub fn other_file(line: &str) -> Option<&'static str> {
     if line.contains('\0') {
         return Some("the script is in UTF-16: save it as UTF-8");
     }
@@ -73,28 +73,13 @@ fn told(alloc: Global, misfit: Misfit<'_>) -> Result<String, AllocError> {
     }
 }
 
-/// Why a line is bad, and whether that is since the script is a file of another kind: of one that is known to be so, each line
-/// that begins with no command. `None` where no reason shows.
-pub fn why_bad(
-    alloc: Global,
-    line: &[u8],
-    is_other_file: bool,
-) -> Result<Option<(String, bool)>, AllocError> {
-    let line = String::from_utf8_lossy(alloc, line)?;
-    let line = line.as_str();
-    let misfit = first_misfit(alloc, line);
-    if let Some(Misfit::NoCommand { .. }) = misfit {
-        if is_other_file {
-            return Ok(Some((String::new(alloc), true)));
-        }
-        if let Some(other) = other_file(line) {
-            return Ok(Some((other.to_string(alloc)?, true)));
-        }
+/// Why a line is bad. `None` where no reason shows.
+pub fn why_bad(alloc: Global, line: &str) -> Result<Option<String>, AllocError> {
+    if let Some(cause) = cause(line) {
+        return Ok(Some(cause.to_string(alloc)?));
     }
-    let why = match (cause(line), misfit) {
-        (Some(cause), _) => cause.to_string(alloc)?,
-        (None, Some(misfit)) => told(alloc, misfit)?,
-        (None, None) => return Ok(None),
-    };
-    Ok(Some((why, false)))
+    match first_misfit(alloc, line) {
+        Some(misfit) => Ok(Some(told(alloc, misfit)?)),
+        None => Ok(None),
+    }
 }

@@ -53,7 +53,6 @@ ITEM = = flash, draw, arc, region, hit or rout
 SEGMENT = = l, cw or ccw";
 
 /// The first thing that does not fit.
-#[derive(Clone, Copy)]
 pub enum Misfit<'a> {
     /// The first word is no command.
     NoCommand {
@@ -88,6 +87,14 @@ pub fn form_of(place: &str, word: &str) -> Option<&'static str> {
         }
     }
     None
+}
+
+/// Whether a line begins with a command. One without a word does.
+pub fn begins_with_command(line: &str) -> bool {
+    match line.split_ascii_whitespace().next() {
+        Some(word) => form_of("LINE", word).is_some(),
+        None => true,
+    }
 }
 
 /// A line to try a word of a place in, and what such a word is.

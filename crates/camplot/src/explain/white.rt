@@ -20,10 +20,10 @@ pub fn is_white(picture: &[u8]) -> bool {
 
 /// The box of the layer that a line plots.
 fn plotted(alloc: Global, line: &[u8], station: &Station) -> Option<Bounds> {
-    let Ok(Some(Line::Plot { name, .. })) = parse_line(alloc, line) else {
-        return None;
-    };
-    station.bounds(station.layer_place(&name)?)
+    match &parse_line(alloc, line) {
+        Ok(Some(Line::Plot { name, .. })) => station.bounds(station.layer_place(name)?),
+        _ => None,
+    }
 }
 
 /// Half of a place, in nm, on the board.
