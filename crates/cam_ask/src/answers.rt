@@ -4,8 +4,10 @@ ghost use Rattle.std.specs.Prelude.{◌++◌, ◌≡◌, Err, IfOk, OnOk, option
 ghost use Rattle.std.specs.List.{flat_map};
 ghost use Rattle.cam_edits.specs.Boards.{place_named};
 ghost use Rattle.cam_edits.specs.Sheets.{IsSound, content_of};
+ghost use Rattle.cam_undo.specs.Counted.{counts_at};
 ghost use Rattle.cam_station.specs.Machine.{fault};
 ghost use Rattle.cam_ask.specs.Answers.{IsAnswer, IsAnswerAt, IsAnswerOf, IsAsked, sheet_line};
+ghost use Rattle.cam_ask.specs.Texts.{history_line};
 
 use crate::lines::{push_history, push_layer};
 use crate::telling::{can_be_asked, has_place, told};
@@ -42,6 +44,15 @@ fn told_layers(alloc: Global, station: &Station) -> Result<Vec<u8>, AllocError>
     for place in 0..station.layer_count() {
         push_layer_at(&mut text, station, place)?;
     }
+    Ok(text)
+}
+
+/// Writes the line of the history.
+fn told_history(alloc: Global, station: &Station) -> Result<Vec<u8>, AllocError>
+    ensures { IfOk result (λ text. text.items ≡ history_line (counts_at station.now.timeline)) }
+{
+    let mut text = Vec::new(alloc);
+    push_history(&mut text, station.history())?;
     Ok(text)
 }
 
@@ -84,11 +95,7 @@ pub fn answer(alloc: Global, station: &Station, question: &Question) -> Result<B
 {
     match question {
         Question::Layers => Ok(Bytes::from_vec(told_layers(alloc, station)?)),
-        Question::History => {
-            let mut text = Vec::new(alloc);
-            push_history(&mut text, station.history())?;
-            Ok(Bytes::from_vec(text))
-        }
+        Question::History => Ok(Bytes::from_vec(told_history(alloc, station)?)),
         Question::OfLayer { name, query } => answer_named(alloc, station, name, *query),
     }
 }

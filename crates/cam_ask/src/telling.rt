@@ -1,6 +1,6 @@
 //! What is told of a layer.
 
-ghost use Rattle.std.specs.Prelude.{◌≡◌, IfOk, true};
+ghost use Rattle.std.specs.Prelude.{◌≡◌, [], IfOk, OnOk, true};
 ghost use Rattle.cam_objects.specs.Enclosed.{FindsEnclosed};
 ghost use Rattle.cam_edits.specs.Sheets.{IsSound, content_of};
 ghost use Rattle.cam_ask.specs.Painted.{painted_boxes};
@@ -84,24 +84,24 @@ fn box_of(from: Point, to: Point) -> Bounds
     corner.joined(Bounds::Closed { low: to, high: to })
 }
 
-/// Writes the place of the topmost item at a place of the board, among those before one.
-fn told_topmost(
-    alloc: Global,
+/// Writes the place of the topmost item at a place of the board, among those before one, to a text without a line.
+fn push_topmost(
+    text: &mut Vec<u8>,
     content: &SheetContent,
     at: Spot,
     before: usize,
-) -> Result<Vec<u8>, AllocError>
-    requires { IsSound (content_of content.now) }
-    ensures { IfOk result (λ text. IsTopmostTold (content_of content.now) at before text.items) }
+) -> Result<(), AllocError>
+    requires sound { IsSound (content_of content.now) }
+    requires empty { text.old.items ≡ [] }
+    ensures { OnOk result (IsTopmostTold (content_of content.now) at before text.new.items) }
 {
-    let mut text = Vec::new(alloc);
     if !is_place(at) {
-        return Ok(text);
+        return Ok(());
     }
-    if let Some(place) = content.item_at(at, before) {
-        push_place(&mut text, place)?;
+    match content.item_at(at, before) {
+        Some(place) => push_place(text, place),
+        None => Ok(()),
     }
-    Ok(text)
 }
 
 /// The place of the next item, from one on, of which the box of what it paints lies in a box.
@@ -115,22 +115,53 @@ fn next_in(content: &SheetContent, outer: Bounds, from: usize) -> Option<usize>
     }
 }
 
-/// Writes the places of the items that a box encloses.
-fn told_enclosed(
-    alloc: Global,
+/// Writes the places of the items that a box encloses, to a text without a line.
+fn push_enclosed(
+    text: &mut Vec<u8>,
     content: &SheetContent,
     outer: Bounds,
-) -> Result<Vec<u8>, AllocError>
-    requires { IsSound (content_of content.now) }
-    ensures { IfOk result (λ text. IsEnclosedTold (content_of content.now) outer text.items) }
+) -> Result<(), AllocError>
+    requires sound { IsSound (content_of content.now) }
+    requires empty { text.old.items ≡ [] }
+    ensures { OnOk result (IsEnclosedTold (content_of content.now) outer text.new.items) }
 {
-    let mut text = Vec::new(alloc);
     let mut from = 0;
     while let Some(place) = next_in(content, outer, from) {
-        push_place(&mut text, place)?;
+        push_place(text, place)?;
         from = place + 1;
     }
-    Ok(text)
+    Ok(())
+}
+
+/// Writes what is told of a layer, where the question can be asked and the place is there, to a text without a line.
+fn push_told(
+    text: &mut Vec<u8>,
+    content: &SheetContent,
+    query: Query,
+) -> Result<(), AllocError>
+    requires sound { IsSound (content_of content.now) }
+    requires asked { can_be_asked query ≡ true }
+    requires place { has_place (content_of content.now) query ≡ true }
+    requires empty { text.old.items ≡ [] }
+    ensures { OnOk result (IsLayerTold (content_of content.now) query text.new.items) }
+{
+    match query {
+        Query::At { at, before } => {
+            let before = before.unwrap_or(content.item_count());
+            push_topmost(text, content, spot_of(at), before)
+        }
+        Query::In { from, to } => push_enclosed(text, content, box_of(from, to)),
+        Query::Item { k } => push_items(text, content, k, 1),
+        Query::Items { from, count } => push_items(text, content, from, count),
+        Query::Bounds => push_box(text, content.bounds()),
+        Query::ItemBounds { k } => match content.item_bounds(k) {
+            Some(bounds) => push_box(text, bounds),
+            None => Ok(()),
+        },
+        Query::Entry { i } => push_entry_at(text, content, i),
+        Query::Entries => push_entries(text, content),
+        Query::Attributes => push_attributes(text, content),
+    }
 }
 
 /// What is told of a layer, where the question can be asked and the place is there.
@@ -141,23 +172,6 @@ pub fn told(alloc: Global, content: &SheetContent, query: Query) -> Result<Vec<u
     ensures { IfOk result (λ text. IsLayerTold (content_of content.now) query text.items) }
 {
     let mut text = Vec::new(alloc);
-    match query {
-        Query::At { at, before } => {
-            let before = before.unwrap_or(content.item_count());
-            return told_topmost(alloc, content, spot_of(at), before);
-        }
-        Query::In { from, to } => return told_enclosed(alloc, content, box_of(from, to)),
-        Query::Item { k } => push_items(&mut text, content, k, 1)?,
-        Query::Items { from, count } => push_items(&mut text, content, from, count)?,
-        Query::Bounds => push_box(&mut text, content.bounds())?,
-        Query::ItemBounds { k } => {
-            if let Some(bounds) = content.item_bounds(k) {
-                push_box(&mut text, bounds)?;
-            }
-        }
-        Query::Entry { i } => push_entry_at(&mut text, content, i)?,
-        Query::Entries => push_entries(&mut text, content)?,
-        Query::Attributes => push_attributes(&mut text, content)?,
-    }
+    push_told(&mut text, content, query)?;
     Ok(text)
 }

@@ -43,7 +43,6 @@ pub enum EditFault {
     Memory,
 }
 
-// By hand: the texts share one call, where a derived one has a call for each.
 impl Display for EditFault {
     fn fmt<W: Write>(&self, f: &mut Formatter<W>) -> fmt::Result {
         f.write_str(match self {

@@ -2,7 +2,7 @@ use Rattle.std.proofs.Common.{◌-◌, length}
 use Rattle.cam_ask.specs.Painted.{painted_boxes}
 use Rattle.cam_edits.specs.Sheets.{content_of}
 use Rattle.cam_ask.proofs.Gathering.{IsGathered}
-use Rattle.cam_ask.proofs.telling.told_enclosed.Given as goal
+use Rattle.cam_ask.proofs.telling.push_enclosed.Given as goal
 
 abbrev pub invariant-loop-place : goal.invariant-loop-place
 invariant-loop-place l = IsGathered (painted_boxes (content_of l.content)) l.outer l.from l.text.items

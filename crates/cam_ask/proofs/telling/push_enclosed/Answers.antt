@@ -2,7 +2,7 @@ use Rattle.std.proofs.Common.{arith}
 use Rattle.std.proofs.lemmas.Grind.{common_steps}
 use Rattle.cam_edits.specs.Sheets.{content_of}
 use Rattle.cam_ask.proofs.Gathering.{gathered_all, gathered_more}
-use Rattle.cam_ask.proofs.telling.told_enclosed.Goals as goal
+use Rattle.cam_ask.proofs.telling.push_enclosed.Goals as goal
 
 pub loop-place-preserved : goal.loop-place-preserved
 loop-place-preserved c = grind (arith, gathered_more)
