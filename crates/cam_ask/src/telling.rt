@@ -134,11 +134,7 @@ fn push_enclosed(
 }
 
 /// Writes what is told of a layer, where the question can be asked and the place is there, to a text without a line.
-fn push_told(
-    text: &mut Vec<u8>,
-    content: &SheetContent,
-    query: Query,
-) -> Result<(), AllocError>
+fn push_told(text: &mut Vec<u8>, content: &SheetContent, query: Query) -> Result<(), AllocError>
     requires sound { IsSound (content_of content.now) }
     requires asked { can_be_asked query ≡ true }
     requires place { has_place (content_of content.now) query ≡ true }
