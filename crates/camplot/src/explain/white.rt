@@ -1,6 +1,6 @@
 //! Pictures without a black pixel.
 
-use cam_station::{Line, Station, parse_line};
+use cam_station::{Line, LineFault, Station, parse_line};
 use cam_units::Bounds;
 use std::alloc::{AllocError, Global};
 
@@ -18,12 +18,21 @@ pub fn is_white(picture: &[u8]) -> bool {
     }
 }
 
-/// The box of the layer that a line plots.
-fn plotted(alloc: Global, line: &[u8], station: &Station) -> Option<Bounds> {
-    match &parse_line(alloc, line) {
+/// The box of the layer that a line plots which was read so.
+fn bounds_of(read: &Result<Option<Line>, LineFault>, station: &Station) -> Option<Bounds> {
+    match read {
         Ok(Some(Line::Plot { name, .. })) => station.bounds(station.layer_place(name)?),
         _ => None,
     }
+}
+
+/// The box of the layer that a line plots.
+fn plotted(alloc: Global, line: &[u8], station: &Station) -> Option<Bounds> {
+    let read = parse_line(alloc, line);
+    let bounds = bounds_of(&read, station);
+    // By a call: where its owner drops it, the proof of that owner takes it apart.
+    drop(read);
+    bounds
 }
 
 /// Half of a place, in nm, on the board.
