@@ -6,25 +6,33 @@
 //! items and the tools of a drill layer.
 //!
 //! ```rust
-//! use cam_edits::{Board, BoardStep, Change, Edit, IndexedLayer, Name, Reversible, Sheet, SheetContent, plan};
+//! use cam_edits::{Board, IndexedLayer, Name, Sheet, SheetContent};
 //! use cam_gerber::read_gerber;
-//! use std::slice::from_ref;
 //!
+//! let name = Name::from_string(String::from_str(alloc, "top")?);
 //! let layer = read_gerber(alloc, b"%FSLAX46Y46*%%MOMM*%%ADD10C,1*%D10*X0Y0D03*X2000000D03*M02*")?;
 //! let content = SheetContent::Gerber(IndexedLayer::new(alloc, layer));
 //! let mut board = Board::new(alloc);
-//! board.add(Sheet { name: Name::from_string(String::from_str(alloc, "top")?), content })?;
+//! board.add(Sheet { name, content })?;
+//! ```
+//!
+//! An edit of this board, which is lent as `&mut Board`:
+//!
+//! ```rust
+//! use cam_edits::{BoardStep, Change, Edit, Name, Reversible, plan};
+//! use std::slice::from_ref;
 //!
 //! let name = Name::from_string(String::from_str(alloc, "top")?);
-//! let step = plan(alloc, &board, Edit { name, change: Change::Delete { k: 0 } })?;
+//! let step = plan(alloc, board, Edit { name, change: Change::Delete { k: 0 } })?;
 //! // room is made before a step is played; the answer leads back
-//! BoardStep::room(from_ref(&step), &mut board)?;
-//! let back = step.play(&mut board);
-//! assert!(rt; board.sheet(0).map(|sheet| sheet.content.item_count()) == Some(1));
-//! BoardStep::room(from_ref(&back), &mut board)?;
-//! assert!(rt; back.fits(&board));
-//! back.play(&mut board);
-//! assert!(rt; board.sheet(0).map(|sheet| sheet.content.item_count()) == Some(2));
+//! BoardStep::room(from_ref(&step), board)?;
+//! let back = step.play(board);
+//! let left = board.sheet(0).map(|sheet| sheet.content.item_count());
+//! BoardStep::room(from_ref(&back), board)?;
+//! assert!(rt; back.fits(board));
+//! back.play(board);
+//! let again = board.sheet(0).map(|sheet| sheet.content.item_count());
+//! assert!(rt; left == Some(1) && again == Some(2));
 //! ```
 #![tactic(auto)]
 

@@ -30,18 +30,14 @@
 //! expressions, and `expansion` evaluates them and makes the primitives.
 //!
 //! ```rust
-//! use cam_macros::{Macro, PrimShape};
+//! use cam_macros::{Macro, Prim, PrimShape};
 //! use cam_units::{Nm, Point, Unit};
 //!
 //! let pad = Macro::parse(alloc, b"PAD*$3=$1/2*21,1,$1,$3,0,0,90*1,0,$2,$3-.25,0*")?;
 //! // parameters are in 10^-9 of a unit: 1.5 mm and 0.4 mm
 //! let primitives = pad.expand(alloc, &[1_500_000_000, 400_000_000], Unit::Mm)?;
-//! let Some(hole) = primitives.as_slice().get(1) else {
-//!     return Err(Fail::new("it has two primitives"));
-//! };
-//! assert!(rt; !hole.paint);
-//! let PrimShape::Disc { centre, diameter } = &hole.shape else {
-//!     return Err(Fail::new("the hole is a disc"));
+//! let Some(Prim { paint: false, shape: PrimShape::Disc { centre, diameter } }) = primitives.as_slice().get(1) else {
+//!     return Err(Fail::new("its second part clears a disc"));
 //! };
 //! assert!(rt; *centre == Point { x: 500_000, y: 0 } && *diameter == Nm(400_000));
 //! ```

@@ -7,15 +7,17 @@
 //! ```rust
 //! use cam_script::{Command, Line, LineFault, parse_line};
 //!
-//! let Some(Line::Command(command)) = parse_line(alloc, b"move top 3 500000 -250000")? else {
-//!     return Err(Fail::new("it is a command"));
+//! let read = parse_line(alloc, b"move top 3 500000 -250000");
+//! let is_move = match &read {
+//!     Ok(Some(Line::Command(Command::Move { name, k, dx, dy }))) => {
+//!         name.as_str() == "top" && *k == 3 && *dx == 500_000 && *dy == -250_000
+//!     }
+//!     _ => false,
 //! };
-//! let Command::Move { name, k, dx, dy } = command else {
-//!     return Err(Fail::new("it moves an item"));
-//! };
-//! assert!(rt; name.as_str() == "top" && k == 3 && dx == 500_000 && dy == -250_000);
-//! // a comment says nothing, and other words are refused
-//! assert!(rt; parse_line(alloc, b"# a comment")?.is_none());
+//! drop(read);
+//! assert!(rt; is_move);
+//! // a comment says nothing, and a line that lacks words is refused
+//! assert!(rt; parse_line(alloc, b"# a comment").is_ok_and(|line| line.is_none()));
 //! assert!(rt; parse_line(alloc, b"move top").err() == Some(LineFault::BadLine));
 //! ```
 #![tactic(auto)]

@@ -28,8 +28,7 @@
 //! };
 //! let mut raster = Raster::new(alloc, window)?;
 //! let mut source = Source::gerber(&layer);
-//! assert!(rt; raster.redraw(&mut source, u32::MAX) == 1);
-//! assert!(rt; raster.pixel(0, 1) == Some(true));
+//! assert!(rt; raster.redraw(&mut source, u32::MAX) == 1 && raster.pixel(0, 1) == Some(true));
 //! let file = raster.to_pbm()?;
 //! assert!(rt; file.as_slice() == b"P4\n3 3\n\x40\xe0\x40".as_slice());
 //! ```

@@ -1,5 +1,16 @@
-//! The examples on the first pages of the libraries, word for word and laid out as there.
+//! The examples on the first pages of the libraries, word for word and laid out as there. Those of edits and of their undo
+//! are functions of their own, to which the board, or the layer and its history, is lent: every way out of one that owns
+//! these takes them apart.
 
+ghost use Rattle.std.specs.Prelude.{IfOk};
+ghost use Rattle.cam_edits.specs.Sheets.{AreSound, sheets_of};
+ghost use Rattle.cam_undo.specs.Timelines.{IsTied};
+
+use cam_edits::{Board, Reversible, Step};
+use cam_objects::Layer;
+use cam_undo::History;
+use std::alloc::Global;
+use std::process::Abort;
 use std::test::Fail;
 
 #[rattlefmt::skip]
@@ -39,8 +50,7 @@ fn cam_tiles(rt: HostRuntime) -> Result<(), Fail> {
     };
     let mut raster = Raster::new(alloc, window)?;
     let mut source = Source::gerber(&layer);
-    assert!(rt; raster.redraw(&mut source, u32::MAX) == 1);
-    assert!(rt; raster.pixel(0, 1) == Some(true));
+    assert!(rt; raster.redraw(&mut source, u32::MAX) == 1 && raster.pixel(0, 1) == Some(true));
     let file = raster.to_pbm()?;
     assert!(rt; file.as_slice() == b"P4\n3 3\n\x40\xe0\x40".as_slice());
     Ok(())
@@ -127,18 +137,14 @@ fn cam_commands(rt: HostRuntime) -> Result<(), Fail> {
 #[test]
 fn cam_macros(rt: HostRuntime) -> Result<(), Fail> {
     let alloc = rt.alloc();
-    use cam_macros::{Macro, PrimShape};
+    use cam_macros::{Macro, Prim, PrimShape};
     use cam_units::{Nm, Point, Unit};
 
     let pad = Macro::parse(alloc, b"PAD*$3=$1/2*21,1,$1,$3,0,0,90*1,0,$2,$3-.25,0*")?;
     // parameters are in 10^-9 of a unit: 1.5 mm and 0.4 mm
     let primitives = pad.expand(alloc, &[1_500_000_000, 400_000_000], Unit::Mm)?;
-    let Some(hole) = primitives.as_slice().get(1) else {
-        return Err(Fail::new("it has two primitives"));
-    };
-    assert!(rt; !hole.paint);
-    let PrimShape::Disc { centre, diameter } = &hole.shape else {
-        return Err(Fail::new("the hole is a disc"));
+    let Some(Prim { paint: false, shape: PrimShape::Disc { centre, diameter } }) = primitives.as_slice().get(1) else {
+        return Err(Fail::new("its second part clears a disc"));
     };
     assert!(rt; *centre == Point { x: 500_000, y: 0 } && *diameter == Nm(400_000));
     Ok(())
@@ -244,28 +250,63 @@ fn cam_writers(rt: HostRuntime) -> Result<(), Fail> {
 }
 
 #[rattlefmt::skip]
-#[test]
-fn cam_edits(rt: HostRuntime) -> Result<(), Fail> {
-    let alloc = rt.alloc();
-    use cam_edits::{Board, BoardStep, Change, Edit, IndexedLayer, Name, Reversible, Sheet, SheetContent, plan};
+fn board_of_one(alloc: Global) -> Result<Board, Fail>
+    ensures { IfOk result (λ board. AreSound (sheets_of board)) }
+{
+    use cam_edits::{Board, IndexedLayer, Name, Sheet, SheetContent};
     use cam_gerber::read_gerber;
-    use std::slice::from_ref;
 
+    let name = Name::from_string(String::from_str(alloc, "top")?);
     let layer = read_gerber(alloc, b"%FSLAX46Y46*%%MOMM*%%ADD10C,1*%D10*X0Y0D03*X2000000D03*M02*")?;
     let content = SheetContent::Gerber(IndexedLayer::new(alloc, layer));
     let mut board = Board::new(alloc);
-    board.add(Sheet { name: Name::from_string(String::from_str(alloc, "top")?), content })?;
+    board.add(Sheet { name, content })?;
+    Ok(board)
+}
+
+#[rattlefmt::skip]
+fn edited(rt: &impl Abort, alloc: Global, board: &mut Board) -> Result<(), Fail>
+    requires { AreSound (sheets_of board.old) }
+{
+    use cam_edits::{BoardStep, Change, Edit, Name, Reversible, plan};
+    use std::slice::from_ref;
 
     let name = Name::from_string(String::from_str(alloc, "top")?);
-    let step = plan(alloc, &board, Edit { name, change: Change::Delete { k: 0 } })?;
+    let step = plan(alloc, board, Edit { name, change: Change::Delete { k: 0 } })?;
     // room is made before a step is played; the answer leads back
-    BoardStep::room(from_ref(&step), &mut board)?;
-    let back = step.play(&mut board);
-    assert!(rt; board.sheet(0).map(|sheet| sheet.content.item_count()) == Some(1));
-    BoardStep::room(from_ref(&back), &mut board)?;
-    assert!(rt; back.fits(&board));
-    back.play(&mut board);
-    assert!(rt; board.sheet(0).map(|sheet| sheet.content.item_count()) == Some(2));
+    BoardStep::room(from_ref(&step), board)?;
+    let back = step.play(board);
+    let left = board.sheet(0).map(|sheet| sheet.content.item_count());
+    BoardStep::room(from_ref(&back), board)?;
+    assert!(rt; back.fits(board));
+    back.play(board);
+    let again = board.sheet(0).map(|sheet| sheet.content.item_count());
+    assert!(rt; left == Some(1) && again == Some(2));
+    Ok(())
+}
+
+#[test]
+fn cam_edits(rt: HostRuntime) -> Result<(), Fail> {
+    let mut board = board_of_one(rt.alloc())?;
+    edited(&rt, rt.alloc(), &mut board)
+}
+
+#[rattlefmt::skip]
+fn undone(rt: &impl Abort, layer: &mut Layer, history: &mut History<Step>) -> Result<(), Fail>
+    requires { IsTied ⟦<Step as Reversible>⟧ history.old layer.old }
+{
+    use cam_edits::{Reversible, Step};
+    use cam_undo::Counts;
+
+    let step = Step::Delete { k: 0 };
+    assert!(rt; step.fits(layer));
+    history.accept(layer, step)?;
+    assert!(rt; layer.items().len() == 1);
+    history.undo(layer)?;
+    assert!(rt; layer.items().len() == 2);
+    assert!(rt; history.counts() == Counts { past: 0, future: 1, group: None });
+    history.redo(layer)?;
+    assert!(rt; layer.items().len() == 1);
     Ok(())
 }
 
@@ -273,20 +314,10 @@ fn cam_edits(rt: HostRuntime) -> Result<(), Fail> {
 #[test]
 fn cam_undo(rt: HostRuntime) -> Result<(), Fail> {
     let alloc = rt.alloc();
-    use cam_edits::{Reversible, Step};
     use cam_gerber::read_gerber;
-    use cam_undo::{Counts, History};
+    use cam_undo::History;
 
-    let mut layer = read_gerber(alloc, b"%FSLAX46Y46*%%MOMM*%%ADD10C,1*%D10*X0Y0D03*X2000000D03*M02*")?;
     let mut history = History::new(alloc, 100)?;
-    let step = Step::Delete { k: 0 };
-    assert!(rt; step.fits(&layer));
-    history.accept(&mut layer, step)?;
-    assert!(rt; layer.items().len() == 1);
-    history.undo(&mut layer)?;
-    assert!(rt; layer.items().len() == 2);
-    assert!(rt; history.counts() == Counts { past: 0, future: 1, group: None });
-    history.redo(&mut layer)?;
-    assert!(rt; layer.items().len() == 1);
-    Ok(())
+    let mut layer = read_gerber(alloc, b"%FSLAX46Y46*%%MOMM*%%ADD10C,1*%D10*X0Y0D03*X2000000D03*M02*")?;
+    undone(&rt, &mut layer, &mut history)
 }
