@@ -126,7 +126,7 @@ pub fn fits(alloc: Global, place: &str, word: &str) -> bool {
         return false;
     };
     match format!(in alloc; "{before}{word}{behind}") {
-        // (`err` takes what was read, and so the proof of this function does not take it apart)
+        // (taken by a call, what was read is not taken apart in the proof of this function)
         Ok(line) => parse_line(alloc, line.as_bytes()).err().is_none(),
         Err(_) => true,
     }

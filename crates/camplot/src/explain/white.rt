@@ -30,7 +30,7 @@ fn bounds_of(read: &Result<Option<Line>, LineFault>, station: &Station) -> Optio
 fn plotted(alloc: Global, line: &[u8], station: &Station) -> Option<Bounds> {
     let read = parse_line(alloc, line);
     let bounds = bounds_of(&read, station);
-    // By a call: where its owner drops it, the proof of that owner takes it apart.
+    // Dropped in a call, it is not taken apart in the proof of this function.
     drop(read);
     bounds
 }
