@@ -1,5 +1,6 @@
 //! The examples on the first pages of `cam_script`, `cam_station` and `cam_ask`, word for word. Those over a station are
-//! functions of their own: every way out of one that owns a station takes the station apart.
+//! functions of their own: every way out of one that owns a station takes the station apart. So would each of what is read
+//! of a line: it is dropped by a call.
 
 use cam_station::{Command, Name, Station};
 use std::alloc::Global;

@@ -18,7 +18,7 @@ pub fn is_white(picture: &[u8]) -> bool {
     }
 }
 
-/// The box of the layer that a line plots which was read so.
+/// The box of the layer that a line plots, by what was read of the line.
 fn bounds_of(read: &Result<Option<Line>, LineFault>, station: &Station) -> Option<Bounds> {
     match read {
         Ok(Some(Line::Plot { name, .. })) => station.bounds(station.layer_place(name)?),
