@@ -1,16 +1,24 @@
 -- Boxes that differ in the numbers of their contours alone.
-use Rattle.std.proofs.Common.{◌≡◌, ℕ, ◌≤◌, List, [], ◌∷◌, ◌++◌, length, get_or, map, reverse, refl, sym, ap, subst, ◌∙◌, inl, inr, arith}
+use Rattle.std.proofs.Common.{◌≡◌, ℕ, ◌≤◌, List, [], ◌∷◌, ◌++◌, length, get_or, map, refl, sym, ap, subst, ◌∙◌, arith}
 use Rattle.std.specs.List.{All}
 use Rattle.std.proofs.Math.ListN.{get_or-map}
-use Rattle.std.proofs.lemmas.Bool.{cases_Bool}
-use Rattle.std.proofs.lemmas.List.{length-map, reverse-append}
-use Rattle.std.proofs.lemmas.List.Elements.{All-head, All-nil, All-push, All-tail}
+use Rattle.std.proofs.lemmas.List.{length-map}
+use Rattle.cam_units.specs.declared.bounds.Bounds.{Bounds}
 use Rattle.cam_objects.specs.Leaves.{Leaf}
 use Rattle.cam_tiles.specs.declared.index.Boxed.{Boxed}
-use Rattle.cam_tiles.specs.Machinery.Indexes.{IsBoxed, row_leaves}
+use Rattle.cam_tiles.specs.Machinery.Indexes.{AreSeenFrom, IsBoxed, IsSeen, PaintAlike, all_from, last_leaves, leaves_in}
+use Rattle.cam_tiles.specs.declared.window.Window.{Window}
 use Rattle.cam_tiles.specs.Machinery.Parts.{bare}
-use Rattle.cam_tiles.specs.Machinery.RowLists.{reaches}
-use Rattle.cam_tiles.proofs.Indexed.{at}
+use Rattle.cam_tiles.specs.Tiles.{tiles_down}
+use Rattle.cam_tiles.proofs.Indexed.{leaves_first}
+
+bare_leaves : (lists : List (List Leaf)) (row : ℕ) (boxed : List Boxed)
+    → last_leaves lists row (map bare boxed) ≡ last_leaves lists row boxed
+bare_leaves lists row [] = refl
+bare_leaves lists row (b ∷ boxed) =
+    leaves_first (leaves_in lists row) (bare b) (map bare boxed)
+    ∙ ap (λ those. those ++ leaves_in lists row b) (bare_leaves lists row boxed)
+    ∙ sym (leaves_first (leaves_in lists row) b boxed)
 
 module _ (xs ys : List Boxed) (alike : map bare xs ≡ map bare ys) where
   same_length : length xs ≡ length ys
@@ -30,27 +38,15 @@ module _ (xs ys : List Boxed) (alike : map bare xs ≡ map bare ys) where
       kept_all (IsBoxed lists) (λ b h. record { within = h.within; corners = h.corners })
       (λ b h. record { within = h.within; corners = h.corners })
 
-  pub kept_ends : (rows : ℕ) → All (λ b. b.rows.end ≤ rows) ys → All (λ b. b.rows.end ≤ rows) xs
-  kept_ends rows = kept_all (λ b. b.rows.end ≤ rows) (λ b h. h) (λ b h. h)
-
-bare_leaves : (lists : List (List Leaf)) (row : ℕ) (boxed : List Boxed)
-    → row_leaves lists row (map bare boxed) ≡ row_leaves lists row boxed
-bare_leaves lists row [] = refl
-bare_leaves lists row (b ∷ boxed) = elim (cases_Bool (reaches row b)) [
-  | inl reached ↦ rw reached (ap (λ those. at lists b.place ++ those) (bare_leaves lists row boxed))
-  | inr missed ↦ rw missed (bare_leaves lists row boxed)
-]
-
-pub kept_leaves : (xs ys : List Boxed) → map bare xs ≡ map bare ys → (lists : List (List Leaf)) (row : ℕ)
-    → row_leaves lists row ys ≡ row_leaves lists row xs
-kept_leaves xs ys alike lists row =
-    sym (bare_leaves lists row ys) ∙ ap (λ (those : List Boxed). row_leaves lists row those) (sym alike)
-    ∙ bare_leaves lists row xs
-
--- ---- boxes from the last one on
-
-pub all_back : {X : Type 0} (P : X → Type 0) (xs : List X) → All P xs → All P (reverse xs)
-all_back P [] all = All-nil P
-all_back P (x ∷ xs) all =
-    subst (All P) (sym (reverse-append (x ∷ []) xs))
-    (All-push P (reverse xs) x (all_back P xs (All-tail P x xs all)) (All-head P x xs all))
+  -- they are as good for what is seen
+  pub kept_seen : (lists : List (List Leaf)) (w : Window) (within : Bounds) (n : ℕ) → AreSeenFrom lists w within n ys
+      → AreSeenFrom lists w within n xs
+  kept_seen lists w within n seen = record {
+    each = kept_boxed lists seen.each;
+    ends = kept_all (λ b. b.rows.end ≤ tiles_down w) (λ b h. h) (λ b h. h) seen.ends;
+    enough = λ row.
+        let leaves = sym (bare_leaves lists row ys) ∙ ap (λ (those : List Boxed). last_leaves lists row those) (sym alike)
+        ∙ bare_leaves lists row xs in
+        subst (λ (those : List Leaf). PaintAlike (IsSeen w within row) those (all_from lists n)) leaves (seen.enough row);
+    few = omega (arith, seen.few, same_length);
+  }

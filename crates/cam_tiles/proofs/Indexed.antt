@@ -1,11 +1,12 @@
 -- painting by an index: leaves that are seen nowhere may be left out
-use Rattle.std.proofs.Common.{◌≡◌, ℕ, zero, suc, ◌+◌, ◌<◌, ◌≤◌, inl, inr, true, cond, ◌-◌, List, [], ◌∷◌, ◌++◌, length, get_or}
-use Rattle.std.proofs.Common.{drop, filter, refl, sym, ap, subst, ◌∙◌, arith}
+use Rattle.std.proofs.Common.{◌≡◌, ℕ, zero, suc, ◌+◌, ◌<◌, ◌≤◌, inl, inr, Bool, true, false, cond, ◌-◌, List, [], ◌∷◌, ◌++◌, length}
+use Rattle.std.proofs.Common.{get_or, drop, reverse, refl, sym, ap, subst, ◌∙◌, arith}
 use Rattle.std.specs.List.{All, flat_map}
 use Rattle.std.specs.Option.{option_or}
 use Rattle.std.proofs.lemmas.Bool.{cases_Bool, false≢true}
 use Rattle.std.proofs.lemmas.Int.{ints}
-use Rattle.std.proofs.lemmas.List.{drop_more, length-drop, length_push, reverse-append}
+use Rattle.std.proofs.lemmas.List.{append-nil, drop_more, length-drop, length_push, reverse-append}
+use Rattle.std.proofs.lemmas.List.Concat.{flat_map-append}
 use Rattle.std.proofs.lemmas.List.Elements.{All-cons, All-nil, All-push}
 use Rattle.cam_units.specs.Boxes.{HaveCommonPlace, Holds, IsInBox}
 use Rattle.cam_units.specs.declared.bounds.Bounds.{Bounds}
@@ -20,7 +21,7 @@ use Rattle.cam_objects.proofs.LastInks.{last_ink-append, or_uncovered}
 use Rattle.cam_tiles.specs.declared.index.Boxed.{Boxed}
 use Rattle.cam_tiles.specs.declared.window.Window.{Window}
 use Rattle.cam_tiles.specs.Machinery.Indexes.{AreSeenFrom, IsBoxOf, IsBoxed, IsSeen, PaintAlike, all_from, last_leaves}
-use Rattle.cam_tiles.specs.Machinery.Indexes.{numbered_leaves, row_leaves}
+use Rattle.cam_tiles.specs.Machinery.Indexes.{leaves_in, numbered_leaves}
 use Rattle.cam_tiles.specs.Machinery.RowLists.{no_box, numbers_from, reaches}
 use Rattle.cam_tiles.specs.Tiles.{tiles_down}
 
@@ -50,19 +51,18 @@ module _ (Seen : Spot → Type 0) where
   alike_unseen a b before unseen h s seen =
       h s seen ∙ sym (last_ink-append before b s ∙ or_uncovered (last_ink b s) before s (unseen s seen))
 
--- ---- the boxes that are seen, found from the last on
+-- ---- the leaves of elements that come from the last on
 
--- one box more stands before the others
-pub last_leaves-push : (lists : List (List Leaf)) (row : ℕ) (boxed : List Boxed) (b : Boxed)
-    → last_leaves lists row (boxed ++ b ∷ [])
-    ≡ cond (reaches row b) (at lists b.place ++ last_leaves lists row boxed) (last_leaves lists row boxed)
-last_leaves-push lists row boxed b =
-    let of : List Boxed → List Leaf = λ those. flat_map (λ (b : Boxed). at lists b.place) (filter (reaches row) those) in
-    ap of (reverse-append boxed (b ∷ []))
-    ∙ elim (cases_Bool (reaches row b)) [
-      | inl reached ↦ rw reached refl
-      | inr missed ↦ rw missed refl
-    ]
+module _ {X : Type 0} (f : X → List Leaf) (x : X) (xs : List X) where
+  -- those of one more stand before the others
+  pub leaves_more : flat_map f (reverse (xs ++ x ∷ [])) ≡ f x ++ flat_map f (reverse xs)
+  leaves_more = ap (flat_map f) (reverse-append xs (x ∷ []))
+
+  -- and those of the first one after them
+  pub leaves_first : flat_map f (reverse (x ∷ xs)) ≡ flat_map f (reverse xs) ++ f x
+  leaves_first =
+      ap (flat_map f) (reverse-append (x ∷ []) xs) ∙ flat_map-append f (reverse xs) (x ∷ [])
+      ∙ ap (λ those. flat_map f (reverse xs) ++ those) (append-nil (f x))
 
 module _ (lists : List (List Leaf)) (w : Window) (within : Bounds) where
   module _ (n : ℕ) (boxed : List Boxed) (so_far : AreSeenFrom lists w within (n + 1) boxed) where
@@ -91,8 +91,8 @@ module _ (lists : List (List Leaf)) (w : Window) (within : Bounds) where
         let behind = all_from lists (n + 1) in
         let leaves = last_leaves lists row boxed in
         alike_are (IsSeen w within row) (at lists n ++ leaves) (at lists n ++ behind) _ _
-        (last_leaves-push lists row boxed b
-        ∙ ap (λ t. cond t (at lists b.place ++ leaves) leaves) reached ∙ ap (λ k. at lists k ++ leaves) place)
+        (leaves_more (leaves_in lists row) b boxed
+        ∙ ap (λ t. cond t (at lists b.place) [] ++ leaves) reached ∙ ap (λ k. at lists k ++ leaves) place)
         (one_more (omega (arith, so_far.few)))
         (alike_before (IsSeen w within row) leaves behind (at lists n) (so_far.enough row))
 
@@ -113,8 +113,8 @@ module _ (lists : List (List Leaf)) (w : Window) (within : Bounds) where
             | inl reached ↦ entered row b place reached
             | inr missed ↦
                 alike_are (IsSeen w within row) (last_leaves lists row boxed) (all_from lists n) _ _
-                (last_leaves-push lists row boxed b
-                ∙ ap (λ t. cond t (at lists b.place ++ last_leaves lists row boxed) (last_leaves lists row boxed)) missed)
+                (leaves_more (leaves_in lists row) b boxed
+                ∙ ap (λ t. cond t (at lists b.place) [] ++ last_leaves lists row boxed) missed)
                 refl (boxed_away row (λ s seen held. false≢true (sym missed ∙ box.rows row s seen held)))
           ];
           few = omega (arith, length_push boxed b, so_far.few);
@@ -170,8 +170,12 @@ corners_held b box low high is least greatest s held = grind (arith, ints)
 -- ---- the numbers that are listed for a row
 
 module _ (lists : List (List Leaf)) (row : ℕ) (boxed : List Boxed) where
+  -- the leaves of the box that has a number
+  abbrev of_number : ℕ → List Leaf
+  of_number k = at lists (get_or boxed k no_box).place
+
   numbered_from : (number : ℕ) (rest : List Boxed) → drop number boxed ≡ rest
-      → numbered_leaves lists boxed (numbers_from row number rest) ≡ row_leaves lists row rest
+      → numbered_leaves lists boxed (reverse (numbers_from row number rest)) ≡ last_leaves lists row rest
   numbered_from number [] e = refl
   numbered_from number (b ∷ rest) e =
       let here : number < length boxed = omega (arith, ap length e, length-drop number boxed) in
@@ -179,15 +183,22 @@ module _ (lists : List (List Leaf)) (row : ℕ) (boxed : List Boxed) where
       let read : get_or boxed number no_box ≡ b = cc in
       let after : drop (number + 1) boxed ≡ rest = cc in
       let behind = numbered_from (number + 1) rest after in
+      let numbers = numbers_from row (number + 1) rest in
+      let leaves = last_leaves lists row rest in
+      let first = λ (t : Bool) (is : t ≡ reaches row b).
+      ap (λ t. leaves ++ cond t (at lists b.place) []) is ∙ sym (leaves_first (leaves_in lists row) b rest) in
       elim (cases_Bool (reaches row b)) [
         | inl reached ↦
-            rw reached (ap (λ (b : Boxed).
-            at lists b.place ++ numbered_leaves lists boxed (numbers_from row (number + 1) rest)) read
-            ∙ ap (λ those. at lists b.place ++ those) behind)
-        | inr missed ↦ rw missed behind
+            ap (λ t. numbered_leaves lists boxed (reverse (cond t (number ∷ numbers) numbers))) reached
+            ∙ leaves_first of_number number numbers
+            ∙ ap (λ (b : Boxed). numbered_leaves lists boxed (reverse numbers) ++ at lists b.place) read
+            ∙ ap (λ those. those ++ at lists b.place) behind ∙ first true (sym reached)
+        | inr missed ↦
+            ap (λ t. numbered_leaves lists boxed (reverse (cond t (number ∷ numbers) numbers))) missed
+            ∙ behind ∙ sym (append-nil leaves) ∙ first false (sym missed)
       ]
 
-  pub numbered : numbered_leaves lists boxed (numbers_from row 0 boxed) ≡ row_leaves lists row boxed
+  pub numbered : numbered_leaves lists boxed (reverse (numbers_from row 0 boxed)) ≡ last_leaves lists row boxed
   numbered = numbered_from 0 boxed refl
 
 pub numbers_below : (row size number : ℕ) (boxed : List Boxed) → number + length boxed ≤ size

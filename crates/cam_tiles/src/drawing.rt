@@ -21,6 +21,9 @@ use crate::window::Window;
 use cam_units::Bounds;
 use std::alloc::{AllocError, Global};
 
+/// In how many dirty tiles at most the items are looked for as they are needed.
+const FEW_TILES: usize = 16;
+
 /// Draws the dirty ones of the tiles of a window from a number on: row by row of them where there is an allocator, and
 /// tile by tile what is left then.
 #[tactic(auto, using(crate::proofs::TileCounts::few_tiles))]
@@ -72,7 +75,8 @@ fn draw_quickly(
     }
     let across = across as usize;
     let within = box_of_dirty(window, first, tiles);
-    let mut index = Index::of(alloc, shown, window, within)?;
+    let is_few = dirty_in(tiles) <= FEW_TILES;
+    let mut index = Index::of(alloc, shown, window, within, is_few)?;
     let mut swath = Swath::new(alloc);
     for row in 0..tiles.len().div_ceil(across) {
         let start = row * across;

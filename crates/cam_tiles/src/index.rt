@@ -4,13 +4,13 @@ pub(crate) mod contour_parts;
 mod row_lists;
 mod seen;
 
-ghost use Rattle.std.specs.Prelude.{◌≡◌, ◌↔◌, ◌+◌, ◌<◌, ◌≤◌, ◌≤ℤ◌, ◌∷◌, ℕ, [], All, IfNone, IfOk, IfSome, IsTrue, OnOk, length, map, slice_index_or, true};
+ghost use Rattle.std.specs.Prelude.{◌≡◌, ◌↔◌, ◌+◌, ◌<◌, ◌≤◌, ◌≤ℤ◌, ◌∷◌, ℕ, [], All, IfNone, IfOk, IfSome, IsTrue, OnOk, length, map, reverse, slice_index_or, true};
 ghost use Rattle.cam_units.specs.Boxes.{Holds};
 ghost use Rattle.cam_units.specs.declared.point.Spot.{Spot};
 ghost use Rattle.cam_objects.specs.Leaves.{Filled, leaf};
 ghost use Rattle.cam_tiles.specs.Machinery.Indexes.{IsBoxed, IsBoxOf, IsIndexOf, IsSeen, numbered_leaves};
 ghost use Rattle.cam_tiles.specs.Machinery.Parts.{IsParted, IsPartsOf, bare};
-ghost use Rattle.cam_tiles.specs.Machinery.RowLists.{AreListed};
+ghost use Rattle.cam_tiles.specs.Machinery.RowLists.{AreListed, reaches};
 ghost use Rattle.cam_tiles.specs.Machinery.Shown.{IsReady, leaves_by_item, leaves_of};
 ghost use Rattle.cam_tiles.specs.Machinery.Swaths.{HasRowOf, IsInSwath, PaintsSwath, place_in};
 ghost use Rattle.cam_tiles.specs.Picture.{accepts};
@@ -47,11 +47,17 @@ const _: () = prove!(size_of::<Boxed>() == 48);
 /// Where an item has no contour whose parts are known.
 const NO_CONTOUR: u32 = u32::MAX;
 
-/// The items that may be seen in a box, in their order, and row of tiles by row of tiles of a window those that reach it.
+/// The items that may be seen in a box, from the last one on. For few tiles they are looked for as they are needed, as long
+/// as something is not decided; for many tiles all are looked for, once, and listed.
 #[derive(Drop)]
 pub(crate) struct Index {
-    within: Bounds,
-    boxed: Vec<Boxed>,
+    seen: Seen,
+    listed: Option<Listed>,
+}
+
+/// Row of tiles by row of tiles of a window the items that reach it, and the parts of their contours.
+#[derive(Drop)]
+struct Listed {
     rows: RowLists,
     contours: Vec<ContourParts>,
 }
@@ -88,43 +94,45 @@ impl Boxed {
             high,
         })
     }
+
+    /// Whether it reaches a row of tiles.
+    #[inline]
+    fn is_in_row(&self, row: u32) -> bool
+        ensures { result ≡ reaches row self.now }
+    {
+        self.rows.first <= row && row < self.rows.end
+    }
 }
 
 impl Index {
-    /// An index of the items that may be seen in a box.
+    /// An index of the items that may be seen in a box, for few tiles or for many.
     pub(crate) fn of(
         alloc: Global,
         shown: &Shown<'_>,
         window: &Window,
         within: Bounds,
+        is_few: bool,
     ) -> Result<Index, AllocError>
         requires ready { IsReady shown.now }
         requires accepted { accepts window.now ≡ true }
         ensures { IfOk result (λ index. IsIndexOf (leaves_by_item shown.now) window.now index) }
     {
         // no item was looked at yet
+        let count = shown.len();
         let mut seen = Seen {
             within,
             boxed: Vec::new(alloc),
-            left: shown.len(),
+            left: count,
             is_crowd: false,
         };
-        seen.look(shown, window)?;
-        let Seen {
-            within,
-            mut boxed,
-            ..
-        } = seen;
-        boxed.reverse();
-        let count = window.height.div_ceil(64);
-        let contours = contours_of(alloc, shown, &mut boxed)?;
-        let rows = RowLists::new(alloc, &boxed, count)?;
-        Ok(Index {
-            within,
-            boxed,
-            rows,
-            contours,
-        })
+        if is_few {
+            return Ok(Index { seen, listed: None });
+        }
+        seen.look(shown, &mut shown.boxes(), window, count)?;
+        let contours = contours_of(alloc, shown, &mut seen.boxed)?;
+        let rows = RowLists::new(alloc, &seen.boxed, window.height.div_ceil(64))?;
+        let listed = Some(Listed { rows, contours });
+        Ok(Index { seen, listed })
     }
 
     /// Paints all items, from the last one on, on tiles of the row of tiles of a tile: where they lie in the box of the index,
@@ -147,33 +155,42 @@ impl Index {
         let Bounds::Closed { low, high } = swath.bounds() else {
             return Ok(());
         };
-        if !has_place(self.within, low) || !has_place(self.within, high) {
+        let within = self.seen.within;
+        if !has_place(within, low) || !has_place(within, high) {
             shown.paint(swath);
             return Ok(());
         }
-        self.rows.go_to(&self.boxed, tile / window.across())?;
-        self.paint_listed(shown, low.x, high.x, swath);
-        Ok(())
+        let row = tile / window.across();
+        match &mut self.listed {
+            None => self.seen.paint(shown, window, row, swath),
+            Some(listed) => {
+                listed.rows.go_to(&self.seen.boxed, row)?;
+                listed.paint(&self.seen.boxed, shown, low.x, high.x, swath);
+                Ok(())
+            }
+        }
     }
+}
 
+impl Listed {
     /// Paints the items of the list at hand, from the last one on, on tiles whose centres lie between two places across; none
     /// once all is decided.
-    fn paint_listed(&self, shown: &Shown<'_>, left: i64, right: i64, swath: &mut Swath)
+    fn paint(&self, boxed: &[Boxed], shown: &Shown<'_>, left: i64, right: i64, swath: &mut Swath)
         requires ready { IsReady shown.now }
-        requires numbers { All (λ k. k < length self.now.boxed.items) self.now.rows.reaching.items }
-        requires boxed { All (IsBoxed (leaves_by_item shown.now)) self.now.boxed.items }
+        requires numbers { All (λ k. k < length boxed.now) self.now.rows.reaching.items }
+        requires boxed { All (IsBoxed (leaves_by_item shown.now)) boxed.now }
         requires contours { All (IsPartsOf (leaves_by_item shown.now)) self.now.contours.items }
         requires sides { (column row : ℕ) → IsInSwath swath.old column row
             → (left ≤ℤ (place_in swath.old column row).x) × ((place_in swath.old column row).x ≤ℤ right) }
-        ensures { PaintsSwath swath.old (numbered_leaves (leaves_by_item shown.now) self.now.boxed.items
-            self.now.rows.reaching.items) swath.new }
+        ensures { PaintsSwath swath.old (numbered_leaves (leaves_by_item shown.now) boxed.now
+            (reverse self.now.rows.reaching.items)) swath.new }
     {
         let numbers = self.rows.reaching.as_slice();
-        for k in (0..numbers.len()).rev() {
+        for k in 0..numbers.len() {
             if swath.is_done() {
                 return;
             }
-            let item = &self.boxed[numbers[k] as usize];
+            let item = &boxed[numbers[k] as usize];
             // whether its box has a place from the first column of a tile to the last
             if item.low.x <= right && left <= item.high.x {
                 paint_item(item, &self.contours, shown, swath);

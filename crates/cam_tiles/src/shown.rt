@@ -122,6 +122,7 @@ impl<'a> Shown<'a> {
 
     /// Paints the item at a place of the list, counted from 0, from its last leaf on: a repeat by its first copy, where
     /// that is known.
+    #[inline]
     pub(crate) fn paint_item<C: Canvas>(&self, place: usize, canvas: &mut C)
         requires ready { IsReady self.now }
         requires within { place < length (leaves_by_item self.now) }

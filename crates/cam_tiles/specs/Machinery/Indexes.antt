@@ -1,6 +1,6 @@
 -- Indexes of many lists of leaves: which of the lists paint the places in each row of tiles of a box.
-use Rattle.std.specs.Prelude.{◌≡◌, ℕ, ◌+◌, ◌-◌, ◌*◌, ◌<◌, ◌≤◌, min, pos, ◌*ℤ◌, true, List, [], length, filter, All}
-use Rattle.std.specs.Prelude.{drop, reverse}
+use Rattle.std.specs.Prelude.{◌≡◌, ℕ, ◌+◌, ◌-◌, ◌*◌, ◌<◌, ◌≤◌, min, pos, ◌*ℤ◌, true, if◌then◌else◌, List, [], length, All}
+use Rattle.std.specs.Prelude.{IfSome, drop, reverse, take}
 use Rattle.std.specs.List.{flat_map, slice_index_or}
 use Rattle.cam_units.specs.Boxes.{Holds, IsInBox}
 use Rattle.cam_units.specs.declared.bounds.Bounds.{Bounds}
@@ -10,6 +10,7 @@ use Rattle.cam_objects.specs.Leaves.{Leaf}
 use Rattle.cam_objects.specs.Tests.{last_ink}
 use Rattle.cam_tiles.specs.declared.index.Boxed.{Boxed}
 use Rattle.cam_tiles.specs.declared.index.Index.{Index}
+use Rattle.cam_tiles.specs.declared.index.Listed.{Listed}
 use Rattle.cam_tiles.specs.declared.index.seen.Seen.{Seen}
 use Rattle.cam_tiles.specs.declared.levels.Levels.{Levels}
 use Rattle.cam_tiles.specs.declared.window.Window.{Window}
@@ -50,11 +51,11 @@ pub record IsBoxed (lists : List (List Leaf)) (b : Boxed) : Type 0 where
   pub within : b.place < length lists
   pub corners : (s : Spot) → Holds (bounds_of (slice_index_or lists b.place [])) s → IsInBox b.low b.high s
 
--- the lists whose boxes reach a row, one after another
-abbrev pub row_leaves : List (List Leaf) → ℕ → List Boxed → List Leaf
-row_leaves lists row boxed = flat_map (λ (b : Boxed). slice_index_or lists b.place []) (filter (reaches row) boxed)
+-- the leaves at the place of a box that reaches a row, and none at that of another
+abbrev pub leaves_in : List (List Leaf) → ℕ → Boxed → List Leaf
+leaves_in lists row b = if reaches row b then slice_index_or lists b.place [] else []
 
--- and those whose boxes have some numbers
+-- the lists whose boxes have some numbers, one after another
 abbrev pub numbered_leaves : List (List Leaf) → List Boxed → List ℕ → List Leaf
 numbered_leaves lists boxed numbers =
     flat_map (λ k. slice_index_or lists (slice_index_or boxed k no_box).place []) numbers
@@ -65,9 +66,9 @@ numbered_leaves lists boxed numbers =
 abbrev pub all_from : List (List Leaf) → ℕ → List Leaf
 all_from lists n = flat_map (λ those. those) (drop n lists)
 
--- those whose boxes reach a row, in order, where the boxes come from the last on
+-- those whose boxes reach a row, one after another, where the boxes come from the last on
 abbrev pub last_leaves : List (List Leaf) → ℕ → List Boxed → List Leaf
-last_leaves lists row boxed = row_leaves lists row (reverse boxed)
+last_leaves lists row boxed = flat_map (leaves_in lists row) (reverse boxed)
 
 -- The lists from a place on have been looked at: in each row of tiles of a box, painting those of them whose boxes reach
 -- the row is painting all of them, in order.
@@ -81,14 +82,19 @@ pub record AreSeenFrom (lists : List (List Leaf)) (w : Window) (within : Bounds)
 abbrev pub AreSeenBy : List (List Leaf) → Window → Seen → Type 0
 AreSeenBy lists w s = AreSeenFrom lists w s.within s.left s.boxed.items
 
--- ---- once all were looked at
+-- what was found before comes first
+pub record IsBegunBy (old new : Seen) : Type 0 where
+  pub within : new.within ≡ old.within
+  pub boxed : take (length old.boxed.items) new.boxed.items ≡ old.boxed.items
 
--- In each row of tiles of a box, painting the lists whose boxes reach the row is painting all lists, in order; the numbers
--- of these are listed row by row; and the heights of contours are those of their parts.
+-- All lists were looked at, the numbers of those that reach each row of tiles are listed, and the heights of contours are
+-- those of their parts.
+pub record AreListsOf (lists : List (List Leaf)) (w : Window) (seen : Seen) (l : Listed) : Type 0 where
+  pub all : seen.left ≡ 0
+  pub rows : length l.rows.starts.items ≡ tiles_down w + 1
+  pub listed : AreListed seen.boxed.items l.rows
+  pub contours : All (IsPartsOf lists) l.contours.items
+
 pub record IsIndexOf (lists : List (List Leaf)) (w : Window) (i : Index) : Type 0 where
-  pub boxed : All (IsBoxed lists) i.boxed.items
-  pub enough : (row : ℕ)
-      → PaintAlike (IsSeen w i.within row) (row_leaves lists row i.boxed.items) (flat_map (λ those. those) lists)
-  pub rows : length i.rows.starts.items ≡ tiles_down w + 1
-  pub listed : AreListed i.boxed.items i.rows
-  pub contours : All (IsPartsOf lists) i.contours.items
+  pub seen : AreSeenBy lists w i.seen
+  pub listed : IfSome i.listed (AreListsOf lists w i.seen)

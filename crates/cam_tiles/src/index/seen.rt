@@ -1,15 +1,18 @@
 //! The items of a layer that may be seen in a box, looked for from the last one on.
 
-ghost use Rattle.std.specs.Prelude.{◌≡◌, ℕ, ◌<◌, ◌≤◌, [], OnOk, length, slice_index_or, true};
+ghost use Rattle.std.specs.Prelude.{◌≡◌, ℕ, ◌<◌, ◌≤◌, ◌⊎◌, [], OnOk, length, slice_index_or, true};
 ghost use Rattle.cam_units.specs.Boxes.{HaveCommonPlace};
 ghost use Rattle.cam_objects.specs.Bounds.{bounds_of};
-ghost use Rattle.cam_tiles.specs.Machinery.Indexes.{AreSeenBy};
-ghost use Rattle.cam_tiles.specs.Machinery.Shown.{IsReady, leaves_by_item, lists_of};
+ghost use Rattle.cam_tiles.specs.Machinery.Indexes.{AreSeenBy, IsBegunBy, IsSeen};
+ghost use Rattle.cam_tiles.specs.Machinery.Shown.{IsReady, leaves_by_item, leaves_of, lists_of};
+ghost use Rattle.cam_tiles.specs.Machinery.Swaths.{IsInSwath, PaintsSwath, place_in};
 ghost use Rattle.cam_tiles.specs.Picture.{accepts};
 
 use crate::index::Boxed;
+use crate::masks::swath::Swath;
 use crate::shown::{Boxes, Shown};
 use crate::window::Window;
+use cam_objects::Canvas;
 use cam_units::Bounds;
 use std::alloc::AllocError;
 
@@ -54,6 +57,7 @@ impl Seen {
         requires some { 0 < self.old.left }
         ensures seen { OnOk result (AreSeenBy (leaves_by_item shown.now) window.now self.new) }
         ensures onward { OnOk result (self.new.left < self.old.left) }
+        ensures begun { OnOk result (IsBegunBy self.old self.new) }
         ensures lists { lists_of boxes.new ≡ leaves_by_item shown.now }
     {
         let end = self.next_end(shown);
@@ -76,17 +80,63 @@ impl Seen {
         Ok(())
     }
 
-    /// Looks at all items that are left.
-    pub(super) fn look(&mut self, shown: &Shown<'_>, window: &Window) -> Result<(), AllocError>
+    /// Looks at more items, until more than so many were found that may be seen, or all were looked at.
+    pub(super) fn look(
+        &mut self,
+        shown: &Shown<'_>,
+        boxes: &mut Boxes<'_>,
+        window: &Window,
+        enough: usize,
+    ) -> Result<(), AllocError>
         requires ready { IsReady shown.now }
         requires accepted { accepts window.now ≡ true }
         requires seen { AreSeenBy (leaves_by_item shown.now) window.now self.old }
+        requires lists { lists_of boxes.old ≡ leaves_by_item shown.now }
         ensures seen { OnOk result (AreSeenBy (leaves_by_item shown.now) window.now self.new) }
-        ensures all { OnOk result (self.new.left ≡ 0) }
+        ensures begun { OnOk result (IsBegunBy self.old self.new) }
+        ensures enough { OnOk result ((self.new.left ≡ 0) ⊎ (enough < length self.new.boxed.items)) }
+        ensures lists { OnOk result (lists_of boxes.new ≡ leaves_by_item shown.now) }
+    {
+        while self.left > 0 && self.boxed.len() <= enough {
+            self.look_at_next(shown, boxes, window)?;
+        }
+        Ok(())
+    }
+
+    /// Paints all items, from the last one on, on tiles of a row of tiles: those alone in whose box something may be seen
+    /// there that is not decided. They are looked for as they are needed, until all is decided.
+    pub(super) fn paint(
+        &mut self,
+        shown: &Shown<'_>,
+        window: &Window,
+        row: u32,
+        swath: &mut Swath,
+    ) -> Result<(), AllocError>
+        requires ready { IsReady shown.now }
+        requires accepted { accepts window.now ≡ true }
+        requires seen { AreSeenBy (leaves_by_item shown.now) window.now self.old }
+        requires there { (column r : ℕ) → IsInSwath swath.old column r
+            → IsSeen window.now self.old.within row (place_in swath.old column r) }
+        ensures seen { OnOk result (AreSeenBy (leaves_by_item shown.now) window.now self.new) }
+        ensures painted { OnOk result (PaintsSwath swath.old (leaves_of shown.now) swath.new) }
     {
         let mut boxes = shown.boxes();
-        while self.left > 0 {
-            self.look_at_next(shown, &mut boxes, window)?;
+        for number in 0..shown.len() {
+            self.look(shown, &mut boxes, window, number)?;
+            let Some(item) = self.boxed.get(number) else {
+                return Ok(());
+            };
+            let bounds = Bounds::Closed {
+                low: item.low,
+                high: item.high,
+            };
+            if !item.is_in_row(row) || swath.is_decided_in(bounds) {
+                continue;
+            }
+            shown.paint_item(item.place as usize, swath);
+            if swath.is_done() {
+                return Ok(());
+            }
         }
         Ok(())
     }
