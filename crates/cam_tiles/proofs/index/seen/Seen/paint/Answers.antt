@@ -1,4 +1,4 @@
-use Rattle.std.proofs.Common.{◌≡◌, ◌+◌, ◌<◌, ◌≤◌, ℕ, Bool, true, false, cond, List, [], length, get_or, take, sym, ap, subst, ◌∙◌, arith}
+use Rattle.std.proofs.Common.{◌≡◌, ◌+◌, ◌<◌, ◌≤◌, ℕ, Bool, true, false, cond, List, [], length, get_or, take, refl, sym, ap, subst, ◌∙◌, arith}
 use Rattle.std.proofs.lemmas.Bool.Decides.{nat_tests}
 use Rattle.std.proofs.lemmas.List.{get_or_default, take-take, take_all}
 use Rattle.std.proofs.lemmas.List.Elements.{All-get_or}
@@ -157,3 +157,30 @@ returns-clause-painted c =
     (omega (arith, few, all, c.loop-number.invariant.found))
     (subst (λ (those : List Boxed). PaintsSwath c.args.swath.now (last_leaves lists c.args.row those) c.loop-number.swath)
     (take_all n seen.boxed.items (omega (arith, few, all))) c.loop-number.invariant.painted))
+
+pub loop-number-init : goal.loop-number-init
+loop-number-init c = record {
+  seen = c.requires.seen;
+  within = refl;
+  lists = c.boxes-boxes.ensures;
+  found = omega arith;
+  painted = none_painted (leaves_in (leaves_by_item c.args.shown.now) c.args.row) c.args.self.now.boxed.items c.args.swath.now;
+}
+
+pub look-requires-clause-seen : goal.look-requires-clause-seen
+look-requires-clause-seen c = c.loop-number.invariant.seen
+
+pub look-requires-clause-lists : goal.look-requires-clause-lists
+look-requires-clause-lists c = c.loop-number.invariant.lists
+
+pub returns-in_default-clause-seen : goal.returns-in_default-clause-seen
+returns-in_default-clause-seen c = c.in_ok-look.ensures.seen
+
+pub returns-then-is_done-clause-seen : goal.returns-then-is_done-clause-seen
+returns-then-is_done-clause-seen c = c.in_ok-look.ensures.seen
+
+pub returns-clause-seen : goal.returns-clause-seen
+returns-clause-seen c = c.loop-number.invariant.seen
+
+pub paint_item-requires-clause-within : goal.paint_item-requires-clause-within
+paint_item-requires-clause-within c = (boxed_is (goal.at.paint_item-requires-clause-within c).In-Some).within
