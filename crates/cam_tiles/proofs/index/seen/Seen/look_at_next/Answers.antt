@@ -1,5 +1,6 @@
-use Rattle.std.proofs.Common.{◌≡◌, ◌+◌, ◌-◌, ◌≤◌, ℕ, List, [], length, get_or, sym, ap, subst, ◌∙◌, arith}
+use Rattle.std.proofs.Common.{◌≡◌, ◌+◌, ◌-◌, ◌≤◌, ℕ, List, [], ◌∷◌, length, take, get_or, refl, sym, ap, subst, ◌∙◌, arith}
 use Rattle.std.proofs.lemmas.List.{length-map}
+use Rattle.std.proofs.Math.Seq.{take-append_seam, take-length}
 use Rattle.cam_units.specs.Boxes.{Holds}
 use Rattle.cam_units.specs.declared.bounds.Bounds.{Bounds}
 use Rattle.cam_objects.specs.Bounds.{bounds_of}
@@ -105,3 +106,20 @@ returns-in_default-clause-onward c = omega (arith)
 
 pub line_misses-requires : goal.line_misses-requires
 line_misses-requires c = grind (arith)
+
+pub returns-in_ok-push-clause-begun : goal.returns-in_ok-push-clause-begun
+returns-in_ok-push-clause-begun c =
+    let boxed = c.args.self.now.boxed.items in
+    record {
+      within = refl;
+      boxed = ap (take (length boxed)) c.in_ok-push.ensures.items ∙ take-append_seam boxed (c.in-Some.item ∷ []);
+    }
+
+pub returns-in_default-clause-begun : goal.returns-in_default-clause-begun
+returns-in_default-clause-begun c = record { within = refl; boxed = take-length c.args.self.now.boxed.items }
+
+pub returns-then-line_misses-clause-begun : goal.returns-then-line_misses-clause-begun
+returns-then-line_misses-clause-begun c = record { within = refl; boxed = take-length c.args.self.now.boxed.items }
+
+pub returns-then-self-eq0-clause-begun : goal.returns-then-self-eq0-clause-begun
+returns-then-self-eq0-clause-begun c = record { within = refl; boxed = take-length c.args.self.now.boxed.items }
