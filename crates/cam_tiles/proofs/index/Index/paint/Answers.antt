@@ -62,3 +62,21 @@ returns-in_ok-go_to-in-Some-clause-painted c =
     (all_found lists c.args.window.now seen c.requires.index.seen row old new
     (seen_here (goal.at.returns-in_ok-go_to-in-Some-clause-painted c).After-across) listed.all
     (subst (λ (leaves : List Leaf). PaintsSwath old leaves new) leaves c.paint-in-Some.ensures))
+
+pub paint-requires-in-Some-clause-ready : goal.paint-requires-in-Some-clause-ready
+paint-requires-in-Some-clause-ready c = c.requires.ready
+
+pub paint-requires-in-None-clause-ready : goal.paint-requires-in-None-clause-ready
+paint-requires-in-None-clause-ready c = c.requires.ready
+
+pub paint-requires-in-None-clause-seen : goal.paint-requires-in-None-clause-seen
+paint-requires-in-None-clause-seen c = c.requires.index.seen
+
+pub returns-then-not-has_place-clause-index : goal.returns-then-not-has_place-clause-index
+returns-then-not-has_place-clause-index c = c.requires.index
+
+pub returns-in_default-clause-index : goal.returns-in_default-clause-index
+returns-in_default-clause-index c = c.requires.index
+
+pub nonzero_div-row : goal.nonzero_div-row
+nonzero_div-row c = grind (arith)
