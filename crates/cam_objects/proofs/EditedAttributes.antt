@@ -1,6 +1,6 @@
 -- the attributes of a layer stay sound as they are edited
-use Rattle.std.proofs.Common.{◌≡◌, ℕ, suc, ◌+◌, ◌<◌, Bool, true, false, cond, ltb, List, [], ◌∷◌, ◌++◌, length, set}
-use Rattle.std.proofs.Common.{◌⊎◌, inr, None, Some, refl, sym, ap, subst, ◌∙◌, arith}
+use Rattle.std.proofs.Common.{◌≡◌, ℕ, suc, ◌+◌, ◌<◌, ◌≤◌, Bool, true, false, cond, ltb, IsTrue, List, [], ◌∷◌, ◌++◌, length, set}
+use Rattle.std.proofs.Common.{◌↔◌, ◌⊎◌, inr, None, Some, refl, sym, ap, subst, ◌∙◌, arith}
 use Rattle.std.specs.List.{All, IsDistinct, position_or_len}
 use Rattle.std.specs.Str.{bytes_eq}
 use Rattle.std.proofs.lemmas.Bool.{false_from_ne_true, false≢true, le-ltb, lt-ltb, ltb-false, ltb-true}
@@ -56,6 +56,13 @@ room_kept a xs k e = ap length (kept_place a xs k e) ∙ length-set xs k a
 pub room_added : (a : Attribute) (xs : List Attribute) → attribute_place a.name xs ≡ None → length (with_attribute a xs) ≡ length xs + 1
 room_added a xs e = omega (arith, ap length (added_last a xs e), length-append xs (a ∷ []))
 
+pub may_set : (xs : List Attribute) (a : Attribute) (n : ℕ) (b : Bool) → IsAttribute a → length (with_attribute a xs) ≡ n
+    → (IsTrue b → n ≤ 1000) → (n ≤ 1000 → IsTrue b) → IsTrue b ↔ MaySet xs a
+may_set xs a n b sound is to from = (
+  (λ t. record { sound = sound; room = subst (λ m. m ≤ 1000) (sym is) (to t) }),
+  (λ may. from (subst (λ m. m ≤ 1000) is may.room)),
+)
+
 pub setting_law : SettingLaw
 setting_law = record { keep = λ xs a k e. kept_place a xs k e; add = λ xs a e. added_last a xs e }
 
@@ -64,7 +71,7 @@ lacks name xs e = grind (arith, ltb-false, place_none, fails_before_first)
 
 -- ---- names
 
-flipped : (x y : List ℕ) → bytes_eq x y ≡ false → bytes_eq y x ≡ false
+pub flipped : (x y : List ℕ) → bytes_eq x y ≡ false → bytes_eq y x ≡ false
 flipped x y e = grind (arith, false_from_ne_true, false≢true, bytes_eq-Decides)
 
 distinct_without : (xs ys : List (List ℕ)) (y : List ℕ) → IsDistinct bytes_eq (xs ++ y ∷ ys) → IsDistinct bytes_eq (xs ++ ys)

@@ -1,5 +1,6 @@
 //! What an item and an entry have to meet for a layer to take them.
 
+pub(crate) mod attributes;
 pub(crate) mod demands;
 pub(crate) mod facts;
 pub(crate) mod inside;

@@ -145,6 +145,14 @@ impl Dictionary {
         }
     }
 
+    /// The map of the entries, in their order, without a copy; what is kept beside them is let go.
+    pub fn into_map(self) -> IndexMap<u32, Entry>
+        ensures { result.entries ≡ self }
+    {
+        let Dictionary { map, .. } = self;
+        map
+    }
+
     /// How many entries there are.
     pub fn len(&self) -> usize
         ensures value { result ≡ length self.now }

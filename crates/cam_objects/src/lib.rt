@@ -68,6 +68,7 @@ pub use canvas::{Canvas, Figure, Print};
 pub use cells::item_list::BoxedItems;
 pub use cells::kept::{ItemCells, near_end};
 pub use cells::numbers::ItemNumbers;
+pub use checks::attributes::is_attribute;
 pub use checks::inside::is_place;
 pub use dictionary::Dictionary;
 pub use drill::item_boxes::DrillItemBoxes;

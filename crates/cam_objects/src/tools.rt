@@ -56,6 +56,21 @@ impl Tools {
         }
     }
 
+    /// The tools of a map, in its order, without a copy.
+    pub fn from_map(map: IndexMap<u16, Nm>) -> Tools
+        ensures { result ≡ map.entries }
+    {
+        Tools { map }
+    }
+
+    /// The map of the tools, in their order, without a copy.
+    pub fn into_map(self) -> IndexMap<u16, Nm>
+        ensures { result.entries ≡ self }
+    {
+        let Tools { map } = self;
+        map
+    }
+
     /// How many tools there are.
     pub fn len(&self) -> usize
         ensures value { result ≡ length self.now }
