@@ -14,6 +14,7 @@ pub mod AttributeSteps
 pub mod ShiftedItems
 pub mod KeptDrilling
 pub mod SoundAttributes
+pub mod KeptAttributes
 pub mod AskedSheets
 pub mod AttributeChanges
 pub mod DrillEdits

@@ -5,7 +5,6 @@ use Rattle.std.specs.declared.vec.Vec.{Vec}
 use Rattle.cam_units.specs.declared.bounds.Bounds.{Bounds}
 use Rattle.cam_objects.specs.Contents.{Content as GerberContent, DrillContent}
 use Rattle.cam_objects.specs.DrillSoundness.{IsSoundDrillContent}
-use Rattle.cam_objects.specs.Soundness.{IsSoundContent}
 use Rattle.cam_edits.specs.declared.board_step.BoardStep.TheVariants as plans
 use Rattle.cam_edits.specs.declared.drill_step.DrillStep.{DrillStep}
 use Rattle.cam_edits.specs.declared.edit.Edit.{Edit}
@@ -19,12 +18,13 @@ use Rattle.cam_edits.specs.Editing.{drill_step_checks, drill_step_of, edited, ed
 use Rattle.cam_edits.specs.Editing.{judged_drill, with_drill, with_gerber, with_step}
 use Rattle.cam_edits.specs.Machinery.PlaceLaws.{element_at}
 use Rattle.cam_edits.specs.Planning.{IsPlan, IsRefused, IsStepOf}
-use Rattle.cam_edits.specs.Sheets.{AreSound, Content, Gerber, Drill, IsSound, Sheet}
+use Rattle.cam_edits.specs.Sheets.{AreSound, Content, Gerber, Drill, IsSound, IsSoundGerber, Sheet}
 use Rattle.cam_edits.specs.Steps.{IsFit, IsSoundStep}
 use Rattle.cam_edits.specs.Touched.{drill_touched, touched}
 use Rattle.cam_edits.proofs.EditedLists.{all_here}
 use Rattle.cam_edits.proofs.FittingEdits as fitting_edits
 use Rattle.cam_edits.proofs.Refusals.{accepted, has_at}
+use Rattle.cam_edits.proofs.SoundAttributes.{attributes_stay_sound}
 use Rattle.cam_edits.proofs.SoundDrillEdits.{drill_step_stays_sound}
 use Rattle.cam_edits.proofs.SoundEdits.{step_stays_sound}
 
@@ -74,12 +74,21 @@ module _ (edit : Edit) (sheets : List Sheet) where
 
     module _ (c : GerberContent) (holds : content_at sheets place ≡ Gerber c) where
       module _ (step : Step) (e : judged_change c edit.change ≡ Ok step) where
-        pub planned : (boxes : Vec Bounds Global) → boxes.items ≡ touched step c → IsFit step c → IsSoundContent c.entries c.items
+        pub planned : (boxes : Vec Bounds Global) → boxes.items ≡ touched step c → IsFit step c → IsSoundGerber c
             → IsPlan sheets edit (plans.Gerber place step boxes)
         planned boxes are fit sound =
             let told = fitting_edits.change_accepted c edit.change step e in
             let fits : IsSoundStep step c =
-            record { fits = fit; before = sound; after = step_stays_sound c step sound told.1 } in
+            record {
+              fits = fit;
+              before = sound;
+              after = record {
+                attributes =
+                    attributes_stay_sound c.attributes sound.attributes edit.change
+                    (fitting_edits.not_refused c edit.change step e) step told.0;
+                content = step_stays_sound c step sound.content told.1;
+              };
+            } in
             let is : there.0.content ≡ Gerber c = holds_there (Gerber c) holds in
             let change : Content → Content = λ _. with_gerber c step in record {
               edited_is =

@@ -145,7 +145,7 @@ kept_before before after self step shift kept gone known same fit content shifts
     let fits = subst (λ (l : Layer). IsSoundStep step (content_of l)) (sym same) fit in record {
       before = before;
       known = known;
-      sound = subst (λ (x : Content). IsSoundContent x.entries x.items) (sym content) fits.after;
+      sound = subst (λ (x : Content). IsSoundContent x.entries x.items) (sym content) fits.after.content;
       entries = sym (ap (λ (x : Content). x.entries) content);
       shifted = subst (IsShift shift before.items.items) (sym (ap (λ (x : Content). x.items) content))
           (shifts (content_of before) fits.fits);

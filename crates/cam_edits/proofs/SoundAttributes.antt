@@ -90,7 +90,7 @@ module _ (xs : List Attribute) (h : AreAttributes xs) where
       subst AreAttributes (sym (after_setting xs key fields))
       (attribute_edits.set xs new h (record { sound = written key fields good.0 good.1; room = few }))
 
-  taken_sound : (k : ℕ) (a : Attribute) → slice_get xs k ≡ Some a → AreAttributes (remove xs k)
+  pub taken_sound : (k : ℕ) (a : Attribute) → slice_get xs k ≡ Some a → AreAttributes (remove xs k)
   taken_sound k a here =
       attribute_edits.remove (take k xs) (drop (suc k) xs) a (subst AreAttributes (split_here xs k a here) h)
 

@@ -9,6 +9,7 @@ use Rattle.std.proofs.lemmas.Int.{ints}
 use Rattle.std.proofs.lemmas.Map.Entries.{All-lookup}
 use Rattle.cam_refusals.specs.Checks.{answer_of, first_holding}
 use Rattle.cam_units.specs.declared.length.Nm.{Nm}
+use Rattle.cam_objects.specs.Attributes.{AreAttributes}
 use Rattle.cam_objects.specs.Contents.{Content as GerberContent, DrillContent}
 use Rattle.cam_objects.specs.DrillSoundness.{IsSoundDrillContent, IsSoundDrillItem, IsSoundTool, drill_points_of}
 use Rattle.cam_objects.specs.Drilling.{diameter_of}
@@ -30,7 +31,8 @@ use Rattle.cam_edits.specs.Machinery.PlaceLaws.{element_at, found, get_changed, 
 use Rattle.cam_edits.specs.Machinery.Judging.{drill_step_answer, step_answer}
 use Rattle.cam_edits.specs.Moving.{IsMovableDrillItem, IsMovableItem, way}
 use Rattle.cam_edits.specs.Places.{changed}
-use Rattle.cam_edits.specs.Steps.{HasAperture, IsFit, IsOne, IsSoundStep, items_after, with_aperture, with_object}
+use Rattle.cam_edits.specs.Sheets.{IsSoundGerber}
+use Rattle.cam_edits.specs.Steps.{HasAperture, IsFit, IsOne, IsSoundStep, attributes_after, items_after, with_aperture, with_object}
 use Rattle.cam_edits.proofs.EditedLists.{all_here}
 use Rattle.cam_edits.proofs.GerberEdits.{of_item}
 use Rattle.cam_edits.proofs.SoundDrillEdits.{drill_step_stays_sound}
@@ -94,9 +96,10 @@ module _ (c : GerberContent) where
   unrefused (steps.TakeAttribute k) fit h = refl
   unrefused (steps.SetFields k fields) fit h = refl
 
-  pub sound_by : (step : Step) (answer : Result Unit EditFault) → IsFit step c → IsSoundContent c.entries c.items
-      → answer ≡ step_answer c step → IsTrue (is_ok answer) ↔ IsSoundStep step c
-  sound_by step answer fit h e = grind (arith, tells_none, step_stays_sound, unrefused)
+  pub sound_by : (step : Step) (answer : Result Unit EditFault) → IsFit step c → IsSoundGerber c
+      → AreAttributes (attributes_after step c.attributes) → answer ≡ step_answer c step
+      → IsTrue (is_ok answer) ↔ IsSoundStep step c
+  sound_by step answer fit h kept e = grind (arith, tells_none, step_stays_sound, unrefused)
 
 -- ---- drill layers
 

@@ -1,5 +1,5 @@
 -- What the steps of a board do to its sheets, and which steps lead back: a step changes one sheet, which is of its
--- kind, and keeps its items sound.
+-- kind, and keeps it sound.
 use Rattle.std.specs.Prelude.{ℕ, ◌==◌, Bool, if◌then◌else◌, List, [], ◌∷◌, MatchOption, slice_get}
 use Rattle.cam_units.specs.declared.bounds.Bounds.{Bounds}
 use Rattle.cam_edits.specs.declared.board.Board.{Board}

@@ -5,7 +5,6 @@ use Rattle.cam_shapes.specs.Shifting.{IsShiftable}
 use Rattle.cam_objects.specs.Attributes.{attribute_of}
 use Rattle.cam_objects.specs.Contents.{Content}
 use Rattle.cam_objects.specs.Shifting.{shifted_item}
-use Rattle.cam_objects.specs.Soundness.{IsSoundContent}
 use Rattle.cam_objects.specs.declared.attribute.Attribute.{Attribute}
 use Rattle.cam_objects.specs.declared.object.Object.{Object}
 use Rattle.cam_objects.specs.declared.object.Object.TheVariants.{Flash, Draw, Arc, Region}
@@ -17,6 +16,7 @@ use Rattle.cam_edits.specs.declared.step.Step.TheVariants.{Insert, Delete, Move,
 use Rattle.cam_edits.specs.declared.step.Step.TheVariants.{PutAttribute, TakeAttribute, SetFields}
 use Rattle.cam_edits.specs.Moving.{IsMovableItem, way}
 use Rattle.cam_edits.specs.Places.{HasAt, changed, reordered}
+use Rattle.cam_edits.specs.Sheets.{IsSoundGerber}
 
 -- a flash, a draw or an arc with another aperture; a region has none
 abbrev pub with_aperture : ℕ → Object → Object
@@ -120,11 +120,11 @@ IsFit (PutAttribute k a) c = k ≤ length c.attributes
 IsFit (TakeAttribute k) c = k < length c.attributes
 IsFit (SetFields k fields) c = k < length c.attributes
 
--- it fits, and leads from sound items to sound items
+-- it fits, and leads from a sound layer to a sound layer: its attributes are sound before and after, and its items
 pub record IsSoundStep (step : Step) (c : Content) : Type 0 where
   pub fits : IsFit step c
-  pub before : IsSoundContent c.entries c.items
-  pub after : IsSoundContent c.entries (items_after step c.items)
+  pub before : IsSoundGerber c
+  pub after : IsSoundGerber (after_step step c)
 
 abbrev pub is_insertion : Step → Bool
 is_insertion (Insert k item) = true

@@ -1,17 +1,19 @@
 //! Judges edits of file attributes.
 
-ghost use Rattle.std.specs.Prelude.{◌≡◌, IfOk};
+ghost use Rattle.std.specs.Prelude.{◌≡◌, ◌↔◌, IfOk, IsTrue};
 ghost use Rattle.std.specs.List.{list_all};
+ghost use Rattle.cam_objects.specs.Attributes.{AreAttributes};
 ghost use Rattle.cam_objects.specs.Contents.{content_of};
 ghost use Rattle.cam_edits.specs.AttributeEdits.{are_fields, is_field_byte, is_field_text, is_key, is_key_byte};
 ghost use Rattle.cam_edits.specs.Editing.{judged_change};
+ghost use Rattle.cam_edits.specs.Machinery.Judging.{MayPut};
 ghost use Rattle.cam_edits.specs.Sheets.{IsSoundGerber};
-ghost use Rattle.cam_edits.specs.Steps.{IsFit};
+ghost use Rattle.cam_edits.specs.Steps.{IsFit, attributes_after};
 ghost use Rattle.cam_edits.specs.declared.edit.Change.TheVariants.{DropAttribute, SetAttribute};
 
 use crate::fault::EditFault;
 use crate::step::Step;
-use cam_objects::{Attribute, Layer};
+use cam_objects::{Attribute, Layer, is_attribute};
 use cam_refusals::limits::ATTRIBUTE_LIMIT;
 use cam_units::Items;
 
@@ -96,4 +98,31 @@ pub(crate) fn dropping(layer: &Layer, key: &[u8]) -> Result<Step, EditFault>
         Some(k) => Ok(Step::TakeAttribute { k }),
         None => Err(EditFault::NoAttribute),
     }
+}
+
+/// Whether a step that fits the layer leaves its attributes sound: one that it puts there may be set and is a new one, and
+/// fields that it sets are fields. Takes no memory.
+pub(crate) fn keeps_attributes(layer: &Layer, step: &Step) -> bool
+    requires sound { AreAttributes layer.now.attributes.items }
+    requires fits { IsFit step.now (content_of layer.now) }
+    ensures { IsTrue result ↔ AreAttributes (attributes_after step.now layer.now.attributes.items) }
+{
+    match step {
+        Step::PutAttribute { attribute, .. } => may_put(layer, attribute),
+        Step::SetFields { k, fields } => {
+            is_attribute(layer.attributes[*k].name.as_slice(), fields.as_slice())
+        }
+        _ => true,
+    }
+}
+
+/// Whether an attribute may be put among those of the layer, none of which has its name.
+fn may_put(layer: &Layer, attribute: &Attribute) -> bool
+    ensures { IsTrue result ↔ MayPut layer.now.attributes.items attribute.now }
+{
+    let name = attribute.name.as_slice();
+    if layer.attribute_place(name).is_some() {
+        return false;
+    }
+    layer.check_attribute(name, attribute.fields.as_slice())
 }

@@ -16,9 +16,10 @@ ghost use Rattle.std.specs.Prelude.{
 };
 ghost use Rattle.cam_objects.specs.Cells.{AreCellsOf, AreFirstCopiesOf, item_boxes};
 ghost use Rattle.cam_objects.specs.Contents.{content_of};
-ghost use Rattle.cam_objects.specs.Soundness.{HasSoundItems};
+ghost use Rattle.cam_objects.specs.Soundness.{HasSoundItems, IsSound};
 ghost use Rattle.cam_edits.specs.Steps.{HasRoom, IsSoundStep, after_step, inverse_step};
 
+use crate::attribute_judging::keeps_attributes;
 use crate::copies::mend_copies;
 use crate::judging::check;
 use crate::mending::{leaves_at, mend};
@@ -62,7 +63,7 @@ impl IndexedLayer {
     /// Of a sound layer. Where memory for the cells is refused, it is not known what its items reach; nor what the objects
     /// of its repeats reach, where it is refused for these.
     pub fn new(alloc: Global, layer: Layer) -> IndexedLayer
-        requires { HasSoundItems layer }
+        requires { IsSound layer }
         ensures { result ≡ layer }
     {
         let (cells, leaves) = ItemCells::of(alloc, &mut layer.boxes());
@@ -120,6 +121,9 @@ impl IndexedLayer {
         ensures { IsTrue result ↔ IsSoundStep step.now (content_of self.now) }
     {
         if !step.fits(&self.layer) {
+            return false;
+        }
+        if !keeps_attributes(&self.layer, step) {
             return false;
         }
         check(&self.layer, self.kept.leaves, step).is_ok()

@@ -26,6 +26,14 @@ impl Name {
         Name { text }
     }
 
+    /// The text of the name, without a copy.
+    pub fn into_string(self) -> String
+        ensures { string_bytes result ≡ self }
+    {
+        let Name { text } = self;
+        text
+    }
+
     /// The name as text.
     pub fn as_str(&self) -> &str
         ensures { result.now ≡ self.now }

@@ -9,8 +9,7 @@ use crate::path::FilePath;
 use cam_edits::Name;
 use cam_refusals::Refusal;
 use std::alloc::AllocError;
-use std::error::Error;
-use std::fmt::{self, Display, Formatter, Write};
+use thiserror::Error;
 
 /// A command, or one that reads or writes a file, with the file's path.
 #[derive(Drop)]
@@ -36,27 +35,18 @@ pub enum Line {
 }
 
 /// Why a line says nothing.
-#[derive(Clone, Copy, Debug, PartialEq, Eq, Drop)]
+#[derive(Clone, Copy, Debug, PartialEq, Eq, Drop, Error)]
 pub enum LineFault {
     /// More than 65,536 bytes (81).
+    #[error("the line is too long")]
     LineTooLong,
     /// The words are no command (80).
+    #[error("the line is no command")]
     BadLine,
     /// Memory for a name, a path or an item was refused (30).
+    #[error("no memory")]
     Memory,
 }
-
-impl Display for LineFault {
-    fn fmt<W: Write>(&self, f: &mut Formatter<W>) -> fmt::Result {
-        f.write_str(match self {
-            LineFault::LineTooLong => "the line is too long",
-            LineFault::BadLine => "the line is no command",
-            LineFault::Memory => "no memory",
-        })
-    }
-}
-
-impl Error for LineFault {}
 
 impl From<AllocError> for LineFault {
     ghost use Rattle.cam_script.specs.declared.line.LineFault.{LineFault};

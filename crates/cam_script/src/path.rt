@@ -26,6 +26,14 @@ impl FilePath {
         FilePath { text }
     }
 
+    /// The text of the path, without a copy.
+    pub fn into_string(self) -> String
+        ensures { string_bytes result ≡ self }
+    {
+        let FilePath { text } = self;
+        text
+    }
+
     /// The path as text.
     pub fn as_str(&self) -> &str
         ensures { result.now ≡ self.now }

@@ -12,28 +12,18 @@ ghost use Rattle.cam_station.specs.Files.{
 };
 
 use std::alloc::Global;
-use std::error::Error;
-use std::fmt::{self, Display, Formatter, Write};
+use thiserror::Error;
 
 /// Why a file was not read or not written.
-#[derive(Clone, Copy, Debug, PartialEq, Eq, Drop)]
+#[derive(Clone, Copy, Debug, PartialEq, Eq, Drop, Error)]
 pub enum FileFault {
     /// The file could not be read or written.
+    #[error("the file failed")]
     Failed,
     /// Memory for its bytes was refused.
+    #[error("no memory")]
     Memory,
 }
-
-impl Display for FileFault {
-    fn fmt<W: Write>(&self, f: &mut Formatter<W>) -> fmt::Result {
-        f.write_str(match self {
-            FileFault::Failed => "the file failed",
-            FileFault::Memory => "no memory",
-        })
-    }
-}
-
-impl Error for FileFault {}
 
 /// Files by their paths.
 pub trait Files {

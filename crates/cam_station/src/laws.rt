@@ -1,5 +1,6 @@
 //! Laws of lists of commands.
 
+ghost use Rattle.cam_writers.specs.Laws.{TellsItsCommands, TellsItsLines};
 ghost use Rattle.cam_station.specs.Attributes.{AttributesShowNowhere};
 ghost use Rattle.cam_station.specs.Locality.{CleanTiles, DirtyTiles, DrawnTiles, KeptTiles};
 ghost use Rattle.cam_station.specs.Plots.{ExactPlot};
@@ -28,10 +29,13 @@ pub fn documents_stay_sound()
 
 /// An accepted edit, or a group from its beginning to its end with an accepted edit, then quiet commands and an undo
 /// give back the same layers and drill tools, the same texts and, in every window, the same pictures; after quiet
-/// commands again a redo gives the edited ones.
+/// commands again a redo gives the edited ones. The state by which a text tells the settings of an object is that of the
+/// reader of the text so far.
 pub fn undo_is_exact()
     ensures reached { ExactUndo }
     ensures everywhere { ExactUndoEverywhere }
+    ensures commands { TellsItsCommands }
+    ensures lines { TellsItsLines }
 {}
 
 /// After any list of commands each plotted pixel is black exactly where its centre lies in

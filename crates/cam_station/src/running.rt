@@ -29,31 +29,21 @@ use cam_edits::Name;
 use cam_refusals::Refusal;
 use cam_script::{Bytes, Command, FileKind, FilePath, Line, Lines, parse_line};
 use std::alloc::Global;
-use std::error::Error;
-use std::fmt::{self, Display, Formatter, Write};
+use thiserror::Error;
 
 /// Why a run did not come to the script's end.
-#[derive(Clone, Copy, Debug, PartialEq, Eq, Drop)]
+#[derive(Clone, Copy, Debug, PartialEq, Eq, Drop, Error)]
 pub enum RunFault {
     /// The depth is not from 1 to 1,000.
+    #[error("the depth is not from 1 to 1000")]
     Depth,
     /// The station was refused memory.
+    #[error("no memory")]
     Memory,
     /// A reply could not be said.
+    #[error("output failed")]
     Output,
 }
-
-impl Display for RunFault {
-    fn fmt<W: Write>(&self, f: &mut Formatter<W>) -> fmt::Result {
-        f.write_str(match self {
-            RunFault::Depth => "the depth is not from 1 to 1000",
-            RunFault::Memory => "no memory",
-            RunFault::Output => "output failed",
-        })
-    }
-}
-
-impl Error for RunFault {}
 
 /// The refusal of a file.
 pub(crate) fn file_refusal(why: FileFault) -> Fault

@@ -4,7 +4,6 @@ use Rattle.std.proofs.Common.{refl, ap, sym, subst, ◌∙◌, arith}
 use Rattle.std.proofs.lemmas.List.Sums.{sum_by-append}
 use Rattle.cam_objects.specs.Contents.{Content as GerberContent, DrillContent}
 use Rattle.cam_objects.specs.DrillSoundness.{IsSoundDrillContent}
-use Rattle.cam_objects.specs.Soundness.{IsSoundContent}
 use Rattle.cam_edits.specs.declared.board.Board.{Board}
 use Rattle.cam_edits.specs.declared.board.Sheet.{Sheet as KeptSheet}
 use Rattle.cam_edits.specs.declared.board.SheetContent.{SheetContent}
@@ -24,7 +23,7 @@ use Rattle.cam_edits.specs.Machinery.DrillStepLaws.{drill_answer_fits, drill_giv
 use Rattle.cam_edits.specs.Machinery.PlaceLaws.{changed_back, found, get_changed, has_changed}
 use Rattle.cam_edits.specs.Machinery.StepLaws.{answer_fits, gives_back_content, gives_back_step}
 use Rattle.cam_edits.specs.Places.{HasAt}
-use Rattle.cam_edits.specs.Sheets.{Content, Drill, Gerber, Sheet, sheet}
+use Rattle.cam_edits.specs.Sheets.{Content, Drill, Gerber, IsSoundGerber, Sheet, sheet}
 use Rattle.cam_edits.specs.Steps.{is_insertion, puts_attribute}
 
 -- ---- one sheet
@@ -32,7 +31,7 @@ fits_back_on : (step : Step) (c : Content) → IsFitOn step c → IsFitOn (inver
 fits_back_on step (Gerber c) h = record {
   fits = answer_fits step c h.fits;
   before = h.after;
-  after = subst (λ (d : GerberContent). IsSoundContent d.entries d.items) (sym (gives_back_content step c h.fits)) h.before;
+  after = subst IsSoundGerber (sym (gives_back_content step c h.fits)) h.before;
 }
 fits_back_on step (Drill c) h = absurd h
 

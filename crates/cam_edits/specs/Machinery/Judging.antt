@@ -1,7 +1,9 @@
 -- How edits are judged by the checks of items.
-use Rattle.std.specs.Prelude.{ℕ, nat_lt, Bool, if◌then◌else◌, not, [], ◌∷◌, Option, None, Some, Result, Ok, Err}
+use Rattle.std.specs.Prelude.{◌≡◌, ℕ, nat_lt, Bool, if◌then◌else◌, not, List, [], ◌∷◌, Option, None, Some, Result, Ok, Err}
 use Rattle.cam_refusals.specs.Checks.{answer_of, first_holding}
+use Rattle.cam_objects.specs.Attributes.{MaySet, attribute_place}
 use Rattle.cam_objects.specs.Contents.{Content, DrillContent}
+use Rattle.cam_objects.specs.declared.attribute.Attribute.{Attribute}
 use Rattle.cam_objects.specs.declared.item.Item.{Item}
 use Rattle.cam_objects.specs.declared.item.Item.TheVariants.{One}
 use Rattle.cam_objects.specs.declared.item_fault.ItemFault.{ItemFault}
@@ -29,6 +31,11 @@ IsItemStep (PutAttribute k a) = ⊥
 IsItemStep (TakeAttribute k) = ⊥
 IsItemStep (SetFields k fields) = ⊥
 IsItemStep _ = Unit {0}
+
+-- an attribute may be put among others, none of which has its name
+pub record MayPut (xs : List Attribute) (a : Attribute) : Type 0 where
+  pub absent : attribute_place a.name xs ≡ None
+  pub set : MaySet xs a
 
 -- the refusal of an edit whose item has that fault
 abbrev pub item_refusal : ItemFault → EditFault

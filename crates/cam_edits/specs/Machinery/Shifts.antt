@@ -4,6 +4,7 @@ use Rattle.std.specs.Prelude.{insert, remove, slice_index}
 use Rattle.std.specs.Map.{set_value}
 use Rattle.cam_units.specs.declared.bounds.Bounds.{Bounds}
 use Rattle.cam_units.specs.declared.length.Nm.{Nm}
+use Rattle.cam_objects.specs.Attributes.{AreAttributes}
 use Rattle.cam_objects.specs.Cells.{AreBeside, AreCellsOf, AreFirstCopiesOf, FirstCopied, Reaches, box_at, drill_item_boxes, item_boxes}
 use Rattle.cam_objects.specs.DrillSoundness.{IsSoundDrillLayer, drill_count_of, tool_of}
 use Rattle.cam_objects.specs.Drilling.{diameter_of}
@@ -66,6 +67,7 @@ abbrev pub IsKeptOf : Layer → Kept → Type 0
 IsKeptOf layer = IsKept (HasSoundItems layer) (leaves_in layer) (item_boxes layer.apertures layer.items.items)
 
 pub record IsIndexed (c : Inside) : Type 0 where
+  pub attributes : AreAttributes c.layer.attributes.items
   pub kept : IsKeptOf c.layer c.kept
   pub copies : AreFirstCopiesOf c.layer.apertures c.layer.items.items c.copies
 

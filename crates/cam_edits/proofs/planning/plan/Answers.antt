@@ -67,7 +67,7 @@ returns-in-Gerber-clause-planned c =
     holds c.in_ok-step-in-Gerber.step (sym c.in_ok-step-in-Gerber.ensures.value) c.in_ok-boxes-in-Gerber.boxes
     c.in_ok-boxes-in-Gerber.ensures c.in_ok-step-in-Gerber.ensures.fits
     (sound_there c.args.edit sheets c.in-Some.sheet named c.in-Some.ensures.within c.requires
-    (Gerber (gerber_content c.layer-layer.result.now)) holds).content
+    (Gerber (gerber_content c.layer-layer.result.now)) holds)
 
 pub judged_drill-requires-clause-sound : goal.judged_drill-requires-clause-sound
 judged_drill-requires-clause-sound c =

@@ -1,7 +1,8 @@
 use Rattle.std.proofs.Common.{◌∙◌, ◌∷◌, ◌++◌, [], List, ap, subst, sym, arith}
 use Rattle.cam_units.specs.declared.bounds.Bounds.{Bounds}
+use Rattle.cam_objects.specs.Attributes.{AreAttributes}
 use Rattle.cam_objects.specs.Cells.{AreCellsOf, AreFirstCopiesOf}
-use Rattle.cam_objects.specs.Contents.{content_of}
+use Rattle.cam_objects.specs.Contents.{Content, content_of}
 use Rattle.cam_objects.specs.declared.layer.Layer.{Layer}
 use Rattle.cam_edits.specs.Steps.{HasRoom, after_step, inverse_step}
 use Rattle.cam_edits.proofs.ShiftedItems.{boxes_of, kept_before, layer_cells, layer_leaves}
@@ -36,6 +37,10 @@ invariant_of-self c =
     c.of-shift.ensures c.leaves_at-gone.ensures in
     let all = layer_leaves _ _ _ _ _ was c.leaves_at-come.ensures in
     record {
+      attributes =
+          subst (λ (x : Content). AreAttributes x.attributes)
+          (sym (c.play-answer.ensures.content ∙ ap (λ (l : Layer). after_step c.args.step (content_of l)) c.self.view_is))
+          c.requires.fits.after.attributes;
       kept = record {
         sound = was.sound;
         leaves = omega (arith, all.sum);
