@@ -7,31 +7,21 @@ ghost use Rattle.cam_tiles.specs.declared.fault.RasterFault.TheVariants.{Memory}
 
 use cam_refusals::Refusal;
 use std::alloc::AllocError;
-use std::error::Error;
-use std::fmt::{self, Display, Formatter, Write};
+use thiserror::Error;
 
 /// Why there is no raster of a window, or no file of a raster.
-#[derive(Clone, Copy, Debug, PartialEq, Eq, Drop)]
+#[derive(Clone, Copy, Debug, PartialEq, Eq, Drop, Error)]
 pub enum RasterFault {
     /// A side, the pitch or a pixel centre of the window is outside its limits (50).
+    #[error("the window is outside its limits")]
     WindowRefused,
     /// Some tile is dirty (51).
+    #[error("some tiles are still to be drawn")]
     StillDirty,
     /// Memory was refused (30).
+    #[error("no memory")]
     Memory,
 }
-
-impl Display for RasterFault {
-    fn fmt<W: Write>(&self, f: &mut Formatter<W>) -> fmt::Result {
-        f.write_str(match self {
-            RasterFault::WindowRefused => "the window is outside its limits",
-            RasterFault::StillDirty => "some tiles are still to be drawn",
-            RasterFault::Memory => "no memory",
-        })
-    }
-}
-
-impl Error for RasterFault {}
 
 impl RasterFault {
     /// The refusal that it is told as.
