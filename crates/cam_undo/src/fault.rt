@@ -7,40 +7,30 @@ ghost use Rattle.cam_undo.specs.declared.fault.HistoryFault.TheVariants.{Memory}
 
 use cam_refusals::Refusal;
 use std::alloc::AllocError;
-use std::error::Error;
-use std::fmt::{self, Display, Formatter, Write};
+use thiserror::Error;
 
 /// Why a history refuses a call.
-#[derive(Clone, Copy, Debug, PartialEq, Eq, Drop)]
+#[derive(Clone, Copy, Debug, PartialEq, Eq, Drop, Error)]
 pub enum HistoryFault {
     /// A depth that is not from 1 to 1,000 (50).
+    #[error("the depth must be from 1 to 1,000")]
     Depth,
     /// A group is open (72).
+    #[error("a group is open")]
     GroupOpen,
     /// No group is open (73).
+    #[error("no group is open")]
     NoGroup,
     /// The past is empty (70).
+    #[error("there is nothing to undo")]
     NothingToUndo,
     /// The future is empty (71).
+    #[error("there is nothing to redo")]
     NothingToRedo,
     /// Memory was refused (30).
+    #[error("no memory")]
     Memory,
 }
-
-impl Display for HistoryFault {
-    fn fmt<W: Write>(&self, f: &mut Formatter<W>) -> fmt::Result {
-        f.write_str(match self {
-            HistoryFault::Depth => "the depth must be from 1 to 1,000",
-            HistoryFault::GroupOpen => "a group is open",
-            HistoryFault::NoGroup => "no group is open",
-            HistoryFault::NothingToUndo => "there is nothing to undo",
-            HistoryFault::NothingToRedo => "there is nothing to redo",
-            HistoryFault::Memory => "no memory",
-        })
-    }
-}
-
-impl Error for HistoryFault {}
 
 impl HistoryFault {
     /// The refusal that it is told as.
