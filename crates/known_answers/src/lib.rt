@@ -11,9 +11,13 @@
 #[cfg(test)]
 mod apertures;
 #[cfg(test)]
+mod attributes;
+#[cfg(test)]
 mod commands;
 #[cfg(test)]
 mod drills;
+#[cfg(test)]
+mod faults;
 #[cfg(test)]
 mod gerber;
 #[cfg(test)]
@@ -26,6 +30,8 @@ mod macros;
 mod objects;
 #[cfg(test)]
 mod pages;
+#[cfg(test)]
+mod parts;
 #[cfg(test)]
 mod pictures;
 #[cfg(test)]

@@ -49,3 +49,40 @@ fn file_shows(alloc: Global, place: &Place) -> Result<bool, AllocError> {
 fn layers(rt: HostRuntime) -> Result<(), Fail> {
     each_in(rt.alloc(), PLACES, file_shows)
 }
+
+/// Attributes, a block in a block, flashed mirrored, turned and clear, and a repeat with a region.
+const LISTS: &[u8] =
+    b"%FSLAX36Y36*%%MOMM*%%TF.Part,Single*%%ADD10C,1*%%ADD11C,0.5*%%ADD13R,10X10*%%ABD12*%D10*\
+X1000000Y0D03*%LPC*%D11*X1000000Y0D03*%LPD*%%AB*%%ABD14*%%LMX*%%LR90*%D12*X0Y0D03*%LMN*%%LR0*%%AB*%D13*X0Y0D03*\
+%LPC*%D12*X0Y0D03*D14*X3000000Y0D03*G75*G03*D10*X1000000Y0D02*X0Y1000000I-1000000J0D01*\
+%SRX2Y2I2J2*%G36*X0Y0D02*G01*X1000000D01*Y1000000D01*G37*%SR*%M02*";
+
+/// All that a layer lists: its attributes, its entries and its items, field by field.
+fn listed(alloc: Global, layer: &Layer) -> Result<String, AllocError> {
+    let mut text = format!(in alloc; "{:?} {:?}", layer.attributes(), layer.items())?;
+    for place in 0..layer.entries().len() {
+        let entry = layer.entries().at(place);
+        text.push_str(format!(in alloc; " {entry:?}")?.as_str())?;
+    }
+    Ok(text)
+}
+
+/// Whether the layer and its copy list the same: an attribute, five entries and five items.
+fn is_copied(alloc: Global, layer: &Layer) -> Result<bool, AllocError>
+    requires { IsSound layer.now }
+{
+    let copy = layer.try_copy()?;
+    Ok(
+        layer.attributes().len() == 1
+            && layer.entries().len() == 5
+            && layer.items().len() == 5
+            && listed(alloc, &copy)? == listed(alloc, layer)?,
+    )
+}
+
+#[test]
+fn a_copy_is_equal(rt: HostRuntime) -> Result<(), Fail> {
+    let layer = read_gerber(rt.alloc(), LISTS)?;
+    assert!(rt; is_copied(rt.alloc(), &layer)?);
+    Ok(())
+}
