@@ -2,10 +2,15 @@
 use Rattle.std.proofs.Common.{◌≡◌, ◌≢◌, ◌≤◌, ◌<◌, ◌∙◌, ◌++◌, ℕ, List, [], Option, None, Some, ap, length, refl, sym, take, append-nil, inl, inr}
 use Rattle.std.specs.Io.KnownBytes.{Consumes, IsAtEnd, Keeps}
 use Rattle.cam_station.specs.Files.{HasRisenBy}
+use Rattle.cam_station.specs.declared.files.FileFault.{FileFault}
 use Rattle.cam_refusals.specs.Limits.{file_limit}
 use Rattle.camplot.specs.declared.reading.IoFault.{IoFault}
 use Rattle.camplot.specs.declared.reading.IoFault.TheVariants.{Failed, TooLong, Memory}
-use Rattle.camplot.specs.Disk.{AreAllOf, IsWhyNotAll, ReaderSeen, fault_heard, reader_seen}
+use Rattle.std.specs.IoError.{error_kind}
+use Rattle.std.specs.declared.io.Error.{Error}
+use Rattle.std.specs.declared.io.ErrorKind.{ErrorKind}
+use Rattle.std.specs.declared.io.ErrorKind.TheVariants.{OutOfMemory}
+use Rattle.camplot.specs.Disk.{AreAllOf, IsFaultOf, IsHeardOf, IsWhyNotAll, ReaderSeen, TellsOf, fault_heard, reader_seen}
 use Rattle.camplot.specs.Endings.{IsWhyNoScript}
 
 -- what was given before a read that gave nothing
@@ -44,3 +49,43 @@ pub no_script : (fault : IoFault) (old new : ReaderSeen) → IsWhyNotAll fault f
 no_script (Failed kind) old new rose = inl rose
 no_script TooLong old new more = inr more
 no_script Memory old new within = within
+
+some_kind : (one two : ErrorKind) → Some one ≡ Some two → one ≡ two
+some_kind one two same = cc
+
+-- a fault that an error gave tells of it
+pub tells_of : (error : Error) (fault : IoFault) (last : Option ErrorKind) → last ≡ Some (error_kind error) → IsFaultOf error fault
+    → TellsOf last fault
+tells_of error fault last is h =
+    record {
+      memory = λ memory. h.memory (some_kind _ _ (sym is ∙ memory));
+      failed = λ kind same other.
+          let kind_is : error_kind error ≡ kind = some_kind _ _ (sym is ∙ same) in
+          h.failed (λ memory. other (sym kind_is ∙ memory)) ∙ ap (λ k. Failed k) kind_is;
+      none = λ none kind failed. let no : None ≡ Some (error_kind error) = sym none ∙ is in cc;
+    }
+
+-- what a line is told of a fault tells of the error that the fault tells of
+pub heard_of : (last : Option ErrorKind) (fault : IoFault) → TellsOf last fault → IsHeardOf last (fault_heard fault)
+heard_of last fault told =
+    record {
+      memory = λ memory. ap fault_heard (told.memory memory);
+      failed = λ kind same other. ap fault_heard (told.failed kind same other);
+    }
+
+-- where no error came, nothing is claimed
+pub heard_none : (last : Option ErrorKind) (told : FileFault) → last ≡ None → IsHeardOf last told
+heard_none last told none =
+    record {
+      memory = λ memory. let no : None ≡ Some OutOfMemory = sym none ∙ memory in cc;
+      failed = λ kind same other. let no : None ≡ Some kind = sym none ∙ same in cc;
+    }
+
+-- and memory may have been refused elsewhere
+pub tells_none : (last : Option ErrorKind) (fault : IoFault) → last ≡ None → ((kind : ErrorKind) → fault ≢ Failed kind) → TellsOf last fault
+tells_none last fault none own =
+    record {
+      memory = λ memory. let no : None ≡ Some OutOfMemory = sym none ∙ memory in cc;
+      failed = λ kind same other. let no : None ≡ Some kind = sym none ∙ same in cc;
+      none = λ is. own;
+    }

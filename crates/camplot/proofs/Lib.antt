@@ -1,3 +1,4 @@
 pub mod Faults
 pub mod PlainCalls
+pub mod Replacing
 pub mod Values

@@ -1,10 +1,11 @@
 -- What is read from a file and written to one, as far as a clause can speak of it.
-use Rattle.std.specs.Prelude.{◌≡◌, ◌≢◌, ℕ, ◌≤◌, ◌<◌, List, length, Option, IfSome}
+use Rattle.std.specs.Prelude.{◌≡◌, ◌≢◌, ℕ, ◌≤◌, ◌<◌, ◌++◌, List, length, Option, None, Some, IfSome, Result, Ok, Err, ⊤, codes}
 use Rattle.std.specs.Io.KnownBytes.{Consumes}
 use Rattle.std.specs.IoError.{error_kind}
 use Rattle.std.specs.declared.io.Error.{Error}
+use Rattle.std.specs.declared.io.ErrorKind.{ErrorKind}
 use Rattle.std.specs.declared.io.ErrorKind.TheVariants.{OutOfMemory}
-use Rattle.cam_station.specs.Files.{HasRisenBy}
+use Rattle.cam_station.specs.Files.{AtPath, FileOf, HasRisenBy, ToldFiles}
 use Rattle.cam_station.specs.declared.files.FileFault.{FileFault}
 use Rattle.cam_station.specs.declared.files.FileFault.TheVariants as files
 use Rattle.camplot.specs.declared.reading.IoFault.{IoFault}
@@ -48,3 +49,45 @@ abbrev pub IsWhyNotAll : IoFault → ℕ → ReaderSeen → ReaderSeen → Type 
 IsWhyNotAll (Failed kind) limit old new = HasRisenBy 1 old.failures new.failures
 IsWhyNotAll TooLong limit old new = HasGivenMore old.left new.left limit
 IsWhyNotAll Memory limit old new = HasGivenWithin old.left new.left limit
+
+-- the kind of the error that a call answers; none where it succeeds
+abbrev pub error_of : {T : Type 0} → Result T Error → Option ErrorKind
+error_of (Ok given) = None
+error_of (Err error) = Some (error_kind error)
+
+-- The fault tells of the error that came last: of want of memory alone that memory was refused, and of any other that a file
+-- failed by it.
+pub record TellsOf (last : Option ErrorKind) (fault : IoFault) : Type 0 where
+  pub memory : last ≡ Some OutOfMemory → fault ≡ Memory
+  pub failed : (kind : ErrorKind) → last ≡ Some kind → kind ≢ OutOfMemory → fault ≡ Failed kind
+  pub none : last ≡ None → (kind : ErrorKind) → fault ≢ Failed kind
+
+-- and so does what a line of a script is told
+pub record IsHeardOf (last : Option ErrorKind) (told : FileFault) : Type 0 where
+  pub memory : last ≡ Some OutOfMemory → told ≡ files.Memory
+  pub failed : (kind : ErrorKind) → last ≡ Some kind → kind ≢ OutOfMemory → told ≡ files.Failed
+
+-- where a type tells what its files hold, each path is the file's own
+abbrev pub IsNamed : ToldFiles → List ℕ → List ℕ → Type 0
+IsNamed None path real = ⊤
+IsNamed (Some told) path real = real ≡ path
+
+-- the path of the program's own file, while the file at this path is written
+abbrev pub own_path : List ℕ → List ℕ
+own_path path = path ++ codes " (camplot, unfinished)"
+
+-- what other paths than these two hold is what they held
+abbrev pub KeepsAllBut : (List ℕ → Option AtPath) → (List ℕ → Option AtPath) → List ℕ → List ℕ → Type 0
+KeepsAllBut old new one two = (other : List ℕ) → other ≢ one → other ≢ two → new other ≡ old other
+
+-- this path holds what that one held, and every third path what it held
+abbrev pub HasMoved : ToldFiles → ToldFiles → List ℕ → List ℕ → Type 0
+HasMoved None new from to = ⊤
+HasMoved (Some old) None from to = ⊥
+HasMoved (Some old) (Some new) from to = (new to ≡ old from) × KeepsAllBut old new from to
+
+-- this path holds these bytes, and every other but the program's own what it held
+abbrev pub IsReplaced : ToldFiles → ToldFiles → List ℕ → List ℕ → List ℕ → Type 0
+IsReplaced None new own path bytes = ⊤
+IsReplaced (Some old) None own path bytes = ⊥
+IsReplaced (Some old) (Some new) own path bytes = (new path ≡ Some (FileOf bytes)) × KeepsAllBut old new own path

@@ -11,6 +11,8 @@ use Rattle.cam_refusals.specs.Limits.{file_limit}
 use Rattle.camplot.specs.Disk.{AreAllOf, HasGivenMore, HasGivenWithin, ReaderSeen}
 use Rattle.camplot.specs.declared.ending.Ending.{Ending}
 use Rattle.camplot.specs.declared.ending.Ending.TheVariants.{Ran, Unread, Stopped}
+use Rattle.camplot.specs.declared.ending.Outcome.{Outcome}
+use Rattle.camplot.specs.declared.ending.Outcome.TheVariants.{NoWords, Answered, Ended}
 
 -- 0 where no line was refused, 1 where some line was, 2 where the script was not run to its end
 abbrev pub status_of : Ending → ℕ
@@ -18,6 +20,12 @@ status_of (Ran zero) = 0
 status_of (Ran (suc refused)) = 1
 status_of (Unread fault) = 2
 status_of (Stopped fault) = 2
+
+-- and of a call of the program
+abbrev pub outcome_status : Outcome → ℕ
+outcome_status NoWords = 2
+outcome_status (Answered status) = status
+outcome_status (Ended ending) = status_of ending
 
 -- how many lines were refused, where all were run
 abbrev pub refused_in : Ending → ℕ

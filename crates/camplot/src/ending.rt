@@ -1,7 +1,7 @@
 //! How a run of a script ends, and what the program tells of it.
 
 ghost use Rattle.std.specs.Prelude.{◌≡◌};
-ghost use Rattle.camplot.specs.Endings.{status_of};
+ghost use Rattle.camplot.specs.Endings.{outcome_status, status_of};
 
 use cam_station::{FileFault, RunFault};
 
@@ -40,6 +40,30 @@ impl Ending {
             Ending::Stopped(RunFault::Output) => Some("output failed"),
             // Not reached, since the options give no other depth.
             Ending::Stopped(RunFault::Depth) => Some("the depth is not from 1 to 1000"),
+        }
+    }
+}
+
+/// How a call of the program ended.
+#[derive(Drop)]
+pub enum Outcome {
+    /// Its words had no memory, or are not UTF-8.
+    NoWords,
+    /// Clap has answered its words, by this exit status.
+    Answered(u8),
+    /// It ran a script, or had none to run.
+    Ended(Ending),
+}
+
+impl Outcome {
+    /// The exit status: that of the run, or of clap's answer, and 2 where there was neither.
+    pub fn status(&self) -> u8
+        ensures { result ≡ outcome_status self.now }
+    {
+        match self {
+            Outcome::NoWords => 2,
+            Outcome::Answered(status) => *status,
+            Outcome::Ended(ending) => ending.status(),
         }
     }
 }

@@ -8,26 +8,39 @@ ghost use Rattle.std.specs.Prelude.{◌≡◌};
 mod advice;
 mod bad_line;
 mod forms;
+mod kind;
+mod near;
 mod place;
+mod quotes;
+mod remedies;
 mod white;
+mod window;
 
+use crate::calls::Calls;
+use crate::documents::as_installed;
 use crate::options::Call;
-use crate::reading::write_whole;
+use crate::originals::Course;
+use crate::reading::{Why, write_whole};
 use crate::system::Disk;
 use advice::advice_on;
 use bad_line::{other_file, why_bad};
 use cam_refusals::Refusal;
 use cam_station::{Fault, Reply, Station, Watch};
 use forms::begins_with_command;
+use kind::kind_of;
 use place::{column_at, line_at};
+use quotes::quoted;
+use remedies::remedy_of;
 use std::alloc::{AllocError, Global};
 use std::io::Write;
-use std::rt::Files as SystemFiles;
 use std::str;
 use white::{is_white, where_it_lies};
 
 /// How many bytes of a line are shown.
 const MOST_SHOWN: usize = 60;
+
+/// What is told of a group that nothing closes.
+const OPEN: &str = "the script ends inside this group: no `end` and no `abort` closed it";
 
 /// Erases the line of a terminal on which progress stands.
 const ERASED: &str = "\r\u{1b}[K";
@@ -62,14 +75,16 @@ fn path_in(line: &[u8]) -> Option<&str> {
     str::from_utf8(line).ok()?.split_ascii_whitespace().last()
 }
 
-/// The line and the column of a place in a file, where the file can be read again.
-fn line_and_column<R: SystemFiles>(
-    files: &Disk<'_, R>,
+/// The line and the column of a place in a file, where the file is one that can be read again: a pipe would wait for more,
+/// or be empty.
+fn line_and_column<C: Calls>(
+    calls: &mut C,
     alloc: Global,
     path: &str,
     at: usize,
 ) -> Option<(usize, usize)> {
-    let bytes = files.read_again(alloc, path)?;
+    calls.node(path)?;
+    let bytes = calls.read(alloc, path).ok()?;
     let bytes = bytes.as_slice();
     if at > bytes.len() {
         return None;
@@ -78,31 +93,32 @@ fn line_and_column<R: SystemFiles>(
 }
 
 /// Where in the file of a load a place lies: its line and its column too, where the file can be read again.
-fn place_in_file<R: SystemFiles>(
-    files: &Disk<'_, R>,
+fn place_in_file<C: Calls>(
+    calls: &mut C,
     alloc: Global,
     path: &str,
     at: usize,
 ) -> Result<String, AllocError> {
-    match line_and_column(files, alloc, path, at) {
+    match line_and_column(calls, alloc, path, at) {
         Some((line, column)) => { format!(in alloc; " at byte {at}, {path}:{line}:{column}") }
         None => { format!(in alloc; " at byte {at} of {path}") }
     }
 }
 
 /// What is told of the file of a refused line: the place in it, or why it failed.
-fn file_part<R: SystemFiles>(
-    files: &Disk<'_, R>,
+fn file_part<C: Calls>(
+    calls: &mut C,
     alloc: Global,
     line: &[u8],
     fault: Fault,
+    why: Why,
 ) -> Result<String, AllocError> {
     if fault.code == Refusal::FileFault {
-        let why = files.why();
-        return format!(in alloc; " ({why})");
+        let reason = why.reason;
+        return format!(in alloc; " ({reason})");
     }
     match (fault.at, path_in(line)) {
-        (Some(at), Some(path)) => place_in_file(files, alloc, path, at),
+        (Some(at), Some(path)) => place_in_file(calls, alloc, path, at),
         _ => Ok(String::new(alloc)),
     }
 }
@@ -124,37 +140,58 @@ fn advised(
     alloc: Global,
     code: Refusal,
     shown: Option<&'static str>,
+    documents: Option<&str>,
 ) -> Result<String, AllocError> {
     let (_, advice) = advice_on(code.number());
-    shown.unwrap_or(advice).to_string(alloc)
+    as_installed(alloc, shown.unwrap_or(advice), documents)
 }
 
 /// What goes to standard error in the course of a run.
 #[derive(Drop)]
-pub struct Notes<'a, W> {
+pub struct Notes<'a, W, C> {
     alloc: Global,
     errors: W,
+    calls: C,
     call: &'a Call,
+    course: &'a Course,
+    /// The folder of the documents, if the program is installed.
+    documents: Option<&'a str>,
     /// Whether standard error is a terminal, where progress stands in one line.
-    is_terminal: bool,
+    pub is_terminal: bool,
     /// How many lines the script has.
     lines: u64,
     /// The number of the line that is run.
     number: u64,
-    /// Whether the script was seen to be a file of another kind.
+    /// What the script is, where it is a file of another kind than text.
+    kind: Option<&'static str>,
+    /// Whether the script was told to be a file of another kind.
     is_other_file: bool,
+    /// The number of the line that began the open group.
+    group: Option<u64>,
 }
 
-impl<'a, W: Write> Notes<'a, W> {
-    pub fn new(alloc: Global, errors: W, call: &'a Call, is_terminal: bool) -> Notes<'a, W> {
+impl<'a, W: Write, C: Calls> Notes<'a, W, C> {
+    pub fn new(
+        alloc: Global,
+        errors: W,
+        calls: C,
+        call: &'a Call,
+        course: &'a Course,
+        documents: Option<&'a str>,
+    ) -> Notes<'a, W, C> {
         Notes {
             alloc,
             errors,
+            calls,
             call,
-            is_terminal,
+            course,
+            documents,
+            is_terminal: false,
             lines: 0,
             number: 0,
+            kind: None,
             is_other_file: false,
+            group: None,
         }
     }
 
@@ -185,6 +222,10 @@ impl<'a, W: Write> Notes<'a, W> {
             if self.is_other_file {
                 return Ok(None);
             }
+            if let Some(kind) = self.kind {
+                self.is_other_file = true;
+                return Ok(Some(format!(in self.alloc; "the script {kind}")?));
+            }
             if let Some(other) = other_file(line) {
                 self.is_other_file = true;
                 return Ok(Some(other.to_string(self.alloc)?));
@@ -192,20 +233,31 @@ impl<'a, W: Write> Notes<'a, W> {
         }
         match why_bad(self.alloc, line)? {
             Some(why) => Ok(Some(why)),
-            None => Ok(Some(advised(self.alloc, Refusal::BadLine, None)?)),
+            None => Ok(Some(advised(self.alloc, Refusal::BadLine, None, self.documents)?)),
         }
     }
 
     /// What to do about a refused line; nothing where it was told before.
-    fn remedy(&mut self, line: &[u8], code: Refusal) -> Result<Option<String>, AllocError> {
-        if code == Refusal::BadLine {
+    fn remedy(
+        &mut self,
+        line: &[u8],
+        fault: Fault,
+        why: Why,
+        station: &Station,
+    ) -> Result<Option<String>, AllocError> {
+        if fault.code == Refusal::BadLine {
             return self.bad_line(line);
         }
-        let shown = match code {
-            Refusal::FileFault => path_advice(line),
-            _ => None,
-        };
-        Ok(Some(advised(self.alloc, code, shown)?))
+        if fault.code == Refusal::FileFault {
+            let shown = why.remedy.or(path_advice(line));
+            return Ok(Some(advised(self.alloc, fault.code, shown, self.documents)?));
+        }
+        if let Ok(line) = str::from_utf8(line)
+            && let Some(remedy) = remedy_of(self.alloc, &mut self.calls, line, fault, station)?
+        {
+            return Ok(Some(remedy));
+        }
+        Ok(Some(advised(self.alloc, fault.code, None, self.documents)?))
     }
 
     /// Writes a line about this one.
@@ -219,20 +271,57 @@ impl<'a, W: Write> Notes<'a, W> {
     }
 
     /// Explains a refused line.
-    fn explain<R: SystemFiles>(
+    fn explain(
         &mut self,
         line: &[u8],
         fault: Fault,
-        files: &Disk<'_, R>,
+        why: Why,
+        station: &Station,
     ) -> Result<(), AllocError> {
-        let Some(remedy) = self.remedy(line, fault.code)? else {
+        let Some(remedy) = self.remedy(line, fault, why, station)? else {
             return Ok(());
         };
-        let file = file_part(files, self.alloc, line, fault)?;
+        let file = file_part(&mut self.calls, self.alloc, line, fault, why)?;
         let code = fault.number();
         let (name, _) = advice_on(code);
         let told = format!(in self.alloc; "refused {code}, {name}{file}: {remedy}")?;
         self.tell(line, told.as_str())
+    }
+
+    /// Tells of quotation marks in an accepted line, and of a file that went straight to its path, for this reason.
+    fn note_accepted(&mut self, line: &[u8], straight: Option<&str>) -> Result<(), AllocError> {
+        if let Some(told) = quoted(line) {
+            self.tell(line, told)?;
+        }
+        let Some(reason) = straight else {
+            return Ok(());
+        };
+        if !self.course.puts() {
+            return Ok(());
+        }
+        let told = format!(in self.alloc;
+            "ok, written straight to its path, where a failure leaves it cut: no file can be made next to it ({reason})"
+        )?;
+        self.tell(line, told.as_str())
+    }
+
+    /// Whether a group is open after an accepted line.
+    fn group_after(&mut self, line: &[u8]) {
+        match line.trim_ascii() {
+            b"begin" => self.group = Some(self.number),
+            b"end" | b"abort" => self.group = None,
+            _ => {}
+        }
+    }
+
+    /// Tells of a group that is open at the end of the script.
+    pub fn ends(&mut self) {
+        if let Some(number) = self.group
+            && self.call.explain
+        {
+            self.number = number;
+            let _ = self.tell(b"begin", OPEN);
+        }
     }
 
     /// Tells of a picture that is all white where its layer lies.
@@ -243,15 +332,17 @@ impl<'a, W: Write> Notes<'a, W> {
     }
 }
 
-impl<R: SystemFiles, W: Write> Watch<Disk<'_, R>> for Notes<'_, W> {
+impl<C: Calls, W: Write, D: Calls> Watch<Disk<'_, D>> for Notes<'_, W, C> {
     fn script(&mut self, script: &[u8]) {
         let ends = script.iter().filter(|byte| **byte == b'\n').count() as u64;
         let is_ended = script.is_empty() || script.ends_with(b"\n");
         self.lines = ends.saturating_add(u64::from(!is_ended));
+        self.kind = kind_of(script);
     }
 
     fn line(&mut self, number: u64, line: &[u8]) {
         self.number = number;
+        self.course.begins(line);
         if self.call.progress && is_run(line) {
             let _ = self.name_line(line);
         }
@@ -268,13 +359,20 @@ impl<R: SystemFiles, W: Write> Watch<Disk<'_, R>> for Notes<'_, W> {
         line: &[u8],
         reply: &Result<Reply, Fault>,
         station: &Station,
-        files: &Disk<'_, R>,
+        files: &Disk<'_, D>,
     ) {
+        if reply.is_ok() {
+            self.course.is_accepted();
+        }
         if !self.call.explain {
             return;
         }
+        if reply.is_ok() {
+            self.group_after(line);
+            let _ = self.note_accepted(line, files.straight());
+        }
         let _ = match reply {
-            Err(fault) => self.explain(line, *fault, files),
+            Err(fault) => self.explain(line, *fault, files.why(), station),
             Ok(Reply::Bytes { bytes, drawn }) if is_white(bytes.as_slice()) => {
                 self.note_white(line, *drawn, station)
             }

@@ -30,5 +30,5 @@ a faulty file `refused N AT`, where AT is the place in bytes. --explain prints w
 
 Exit status: 0 if no line was refused, 1 if some line was, 2 if the script did not run to its end.
 
-The program's folder has docs/formats.md on scripts and files, docs/refusals.md on each N and what to
-do about it, and docs/recipes.md with scripts to start from.";
+Pages: docs/formats.md on scripts and files, docs/refusals.md on each N and what to do about it,
+docs/recipes.md with scripts to start from.";

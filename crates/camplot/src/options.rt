@@ -9,7 +9,7 @@ ghost use Rattle.camplot.specs.Synopsis.{camplot, depth_option, explain_option, 
 ghost use Rattle.camplot.specs.Synopsis.{progress_option, script_argument};
 ghost use Rattle.camplot.specs.declared.options.OptionsFault.TheVariants.{Refused, Memory};
 
-use crate::help::{AFTER_HELP, VERSION};
+use crate::help::VERSION;
 use clap::{Arg, ArgAction, Command, value_parser};
 use std::alloc::{AllocError, Global};
 
@@ -101,13 +101,13 @@ fn progress_option<'a>(alloc: Global) -> Arg<'a>
 }
 
 /// The program's command line; an `Err` is for memory.
-fn command<'a>(alloc: Global) -> Result<Command<'a>, AllocError>
+fn command<'a>(alloc: Global, after_help: &'a str) -> Result<Command<'a>, AllocError>
     ensures { IfOk result (λ made. app_of made ≡ camplot) }
 {
     Command::new(alloc, "camplot")
         .about("Edits and plots the layers of a printed circuit board")
         .version(VERSION)
-        .after_help(AFTER_HELP)
+        .after_help(after_help)
         .arg(script_argument(alloc))?
         .arg(depth_option(alloc))?
         .arg(explain_option(alloc))?
@@ -116,8 +116,8 @@ fn command<'a>(alloc: Global) -> Result<Command<'a>, AllocError>
 
 /// The path of the script, the undo depth, from 1 to 1,000, and whether refused lines are explained and lines named, as the
 /// words ask for. The first word is the program's name. The error is `Refused` where clap takes no such words or has no memory
-/// to read them, and `Memory` where there is none for the command or the path.
-pub fn options(alloc: Global, words: &[String]) -> Result<Call, OptionsFault>
+/// to read them, and `Memory` where there is none for the command or the path. `after_help` is what `--help` prints last.
+pub fn options(alloc: Global, words: &[String], after_help: &str) -> Result<Call, OptionsFault>
     ensures given { IfOk result
         (λ r. IsCallFor (map string_bytes words.now) (string_bytes r.path) r.depth) }
     ensures explain { IfOk result (λ r. Asks (map string_bytes words.now) r.explain) }
@@ -139,7 +139,7 @@ pub fn options(alloc: Global, words: &[String]) -> Result<Call, OptionsFault>
         → map string_bytes words.now ≡ explained_call name script depth
         → IfOk result (λ r. r.explain ≡ true) }
 {
-    let matches = command(alloc)?.try_get_matches_from(words)?;
+    let matches = command(alloc, after_help)?.try_get_matches_from(words)?;
     let script = matches.get_str("script").unwrap();
     let depth = matches.get_one::<u32>("depth").unwrap();
     let explain = matches.get_flag("explain");

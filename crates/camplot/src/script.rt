@@ -36,7 +36,7 @@ fn script_at<F: Files, I: Read>(
         return match read_all(alloc, input, FILE_LIMIT) {
             Ok(script) => Ok(script),
             Err(fault) => {
-                input.why = fault.reason("there is none");
+                input.why = fault.why("there is none");
                 Err(fault.file_fault())
             }
         };

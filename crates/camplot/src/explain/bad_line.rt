@@ -1,14 +1,12 @@
 //! Why a line is bad.
 
-use super::forms::{Misfit, first_misfit, fits, form_of, meaning};
+use super::forms::{COMMANDS, Misfit, first_misfit, fits, form_of, meaning};
+use super::near::nearest;
 use super::shown;
 use std::alloc::{AllocError, Global};
 
 /// What a file is in place of a script, by a line of it that begins with no command.
 pub fn other_file(line: &str) -> Option<&'static str> {
-    if line.contains('\0') {
-        return Some("the script is in UTF-16: save it as UTF-8");
-    }
     let line = line.trim();
     if line.starts_with('%') || line.ends_with('%') || line.ends_with('*') {
         return Some("this is a Gerber file and no script: `load NAME gerber PATH` reads it");
@@ -30,23 +28,46 @@ fn cause(line: &str) -> Option<&'static str> {
     None
 }
 
+/// The words of which one may be meant at a place.
+fn choice(place: &str) -> &'static str {
+    match place {
+        "LINE" => COMMANDS,
+        "KIND" | "POL" | "TURN" | "DIR" | "ITEM" | "SEGMENT" => meaning(place),
+        _ => "",
+    }
+}
+
+/// Which word was meant, where one is near; the number of an aperture is meant by its name in a file.
+fn meant(alloc: Global, place: &str, word: &str) -> Result<String, AllocError> {
+    if let Some(number) = word.strip_prefix('D')
+        && place == "N"
+        && fits(alloc, place, number)
+    {
+        return format!(in alloc; ": did you mean {number}?");
+    }
+    match nearest(choice(place), word) {
+        Some(near) => { format!(in alloc; ": did you mean {near}?") }
+        None => Ok(String::new(alloc)),
+    }
+}
+
 /// What else a word shows that does not fit at a place.
-fn hint(alloc: Global, place: &str, word: &str) -> Result<&'static str, AllocError> {
+fn hint(alloc: Global, place: &str, word: &str) -> Result<String, AllocError> {
     if word.starts_with('#') {
-        return Ok(": a comment has a line of its own");
+        return String::from_str(alloc, ": a comment has a line of its own");
     }
     if word.contains('"') || word.contains('\'') {
-        return Ok(": a path has no quotation marks and no blanks");
+        return String::from_str(alloc, ": a path has no quotation marks and no blanks");
     }
     let small = word.to_ascii_lowercase(alloc)?;
     let small = small.as_str();
     if small != word && (form_of(place, small).is_some() || fits(alloc, place, small)) {
-        return Ok(": write it in small letters");
+        return String::from_str(alloc, ": write it in small letters");
     }
     if place == "PATH" {
-        return Ok(": a path has no blanks");
+        return String::from_str(alloc, ": a path has no blanks");
     }
-    Ok("")
+    meant(alloc, place, word)
 }
 
 /// The misfit in words.
@@ -55,7 +76,14 @@ fn told(alloc: Global, misfit: Misfit<'_>) -> Result<String, AllocError> {
         Misfit::NoCommand { word } => {
             let hint = hint(alloc, "LINE", word)?;
             let word = shown(alloc, word.as_bytes())?;
-            format!(in alloc; "no command is \"{word}\"{hint}: camplot --help has all of them")
+            let colon = if hint.as_str().ends_with('?') {
+                ""
+            } else {
+                ":"
+            };
+            format!(in alloc;
+                "no command is \"{word}\"{hint}{colon} camplot --help has all of them"
+            )
         }
         Misfit::Word { form, place, word } => {
             let hint = hint(alloc, place, word)?;

@@ -36,6 +36,11 @@ SEGMENT l X Y [SEGMENT]
 SEGMENT cw X Y CX CY [SEGMENT]
 SEGMENT ccw X Y CX CY [SEGMENT]";
 
+/// The first words of all lines.
+pub const COMMANDS: &str =
+    "load window redraw plot write insert delete move reorder aperture polarity tool diameter \
+setattr dropattr begin end abort undo redo list";
+
 /// What may stand for the words of the forms: a row has them, a line that is accepted with such a word in place of `?`, and
 /// what such a word is.
 const WORDS: &str = "\

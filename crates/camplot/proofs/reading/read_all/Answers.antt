@@ -1,6 +1,6 @@
 use Rattle.std.proofs.Common.{◌≡◌, ◌∙◌, ℕ, ◌+◌, ◌++◌, ◌≤◌, ◌<◌, List, arith, length, take, length-append, rules}
 use Rattle.std.proofs.KnownBytes.{Consumes-trans}
-use Rattle.camplot.proofs.Faults.{all_read, read_failed}
+use Rattle.camplot.proofs.Faults.{all_read, read_failed, tells_none}
 use Rattle.camplot.proofs.reading.read_all.Goals as goal
 
 pub returns-in-Err-clause-err : goal.returns-in-Err-clause-err
@@ -71,6 +71,7 @@ loop-preserved g c =
       bound = omega (arith, whole, room, length-append c.loop.bytes.items piece);
       read = Consumes-trans _ _ _ c.loop.bytes.items piece c.loop.invariant.read c.in-Ok-read.ensures.bytes.0;
       failures = c.in-Ok-read.ensures.ok ∙ c.loop.invariant.failures;
+      error = c.in-Ok-read.ensures.none ∙ c.loop.invariant.error;
     })
 
 pub returns-in-Err-clause-ok : goal.returns-in-Err-clause-ok
@@ -93,3 +94,11 @@ returns-then-is_err-clause-ok c = assumption arith
 
 pub returns-in_default-clause-err : goal.returns-in_default-clause-err
 returns-in_default-clause-err c = grind (arith)
+
+pub returns-then-count-limit-clause-told : goal.returns-then-count-limit-clause-told
+returns-then-count-limit-clause-told g c =
+    tells_none _ _ (c.in-Ok-read.ensures.none ∙ c.loop.invariant.error) (λ kind same. cc)
+
+pub returns-then-is_err-clause-told : goal.returns-then-is_err-clause-told
+returns-then-is_err-clause-told g c =
+    tells_none _ _ (c.in-Ok-read.ensures.none ∙ c.loop.invariant.error) (λ kind same. cc)

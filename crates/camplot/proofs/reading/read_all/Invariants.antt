@@ -1,4 +1,4 @@
-use Rattle.std.proofs.Common.{◌≡◌, ◌≤◌, length}
+use Rattle.std.proofs.Common.{◌≡◌, ◌≤◌, None, length}
 use Rattle.std.specs.Io.KnownBytes.{Consumes}
 use Rattle.camplot.proofs.reading.read_all.Given as goal
 
@@ -10,4 +10,5 @@ invariant-loop g l =
       bound : length l.bytes.items ≤ l.limit;
       read : Consumes (g.R.Read.remaining l.initial.reader.reader) (g.R.Read.remaining l.reader.reader) l.bytes.items;
       failures : l.reader.failures ≡ l.initial.reader.failures;
+      error : l.reader.error ≡ None;
     }

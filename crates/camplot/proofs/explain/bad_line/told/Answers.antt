@@ -6,6 +6,3 @@ fact_in-format-in-Extra c = grind (arith)
 
 pub fact_in-format-in-Word : goal.fact_in-format-in-Word
 fact_in-format-in-Word c = assumption arith
-
-pub fact_in-format-in-Word-8 : goal.fact_in-format-in-Word-8
-fact_in-format-in-Word-8 c = grind (arith)
