@@ -17,12 +17,16 @@ NAMELESS = ("unfolding ", "infix", "open ")
 ANSWERS = ("Answers.antt", "Invariants.antt", "Proof.antt")
 PATH = re.compile(r"crate::((?:proofs|specs)(?:::[\w+-]+)+)")
 PARTS = ("src", "specs", "proofs")
-# A public function, with the blanks before that of a type; a word, and the dot or the last colon of the path before it; and
-# what hands names on or defines them.
+# A public function, with the blanks before that of a type; a name, and the dot or the colons before it with what they follow;
+# and what defines one.
 PUBLIC = re.compile(r"(?m)^( *)pub (?:const )?(?:unsafe )?fn (\w+)")
-WORDS = re.compile(r"([.:]?)\b([a-z_]\w*)")
-DEFINED = re.compile(r"\bfn \w+")
-HANDED = re.compile(r"(?ms)^(?:pub(?:\(\w+\))? )?use [^;]*;")
+CALL = re.compile(r"(?:(\b\w+|[>)\]?])?(?:<[^<>()]*>)?\s*(\.|::)\s*)?\b([a-z_]\w*)")
+DEFINED = re.compile(r"\bfn (\w+)")
+TYPE = re.compile(r"(?m)^ *(?:pub(?:\([a-z]+\))? )?(?:struct|enum|trait|type) (\w+)")
+# What is imported of a crate, or of one of its modules; what hands names on; and any import.
+IMPORTED = re.compile(r"(?ms)^ *(?:pub(?:\(\w+\))? )?use (\w+)::([^;]*);")
+HANDED_ON = re.compile(r"(?ms)^pub(?:\(\w+\))? use crate::[^;]*;")
+USED = re.compile(r"(?ms)^ *(?:pub(?:\(\w+\))? )?(?:ghost )?use [^;]*;")
 COMMENT = re.compile(r"//.*")
 
 
@@ -97,15 +101,73 @@ def uncited(root):
     return [it for it in sorted(defined) if it not in cited]
 
 
+class Code:
+    """The code of a crate: the functions and types that it defines, what it imports of other crates, and what it calls."""
+
+    def __init__(self, root, name):
+        self.name = name
+        self.texts = {it: HANDED_ON.sub("", COMMENT.sub("", read(it))) for it in below(f"{root}/crates/{name}/src", ".rt")}
+        joined = "\n".join(self.texts.values())
+        self.functions = {it[1] for it in DEFINED.finditer(joined)}
+        self.types = set(TYPE.findall(joined))
+        self.imported = {}
+        for path, names in IMPORTED.findall(joined):
+            for it in re.split(r"[{},\s]+", names):
+                self.imported.setdefault(it, set()).add(path if os.path.isdir(f"{root}/crates/{path}") else name)
+
+    def public(self):
+        """Its public functions, laws left out: of each its file, its name, and whether it is a method."""
+        for path, text in self.texts.items():
+            if not path.endswith("laws.rt"):
+                yield from ((path, name, bool(blanks)) for blanks, name in PUBLIC.findall(text))
+
+    def calls(self):
+        """What it calls: the name, whether of a type or a value, and the crate that has it, or None where any may."""
+        for text in self.texts.values():
+            # (what an import names is not called)
+            for owner, mark, name in CALL.findall(DEFINED.sub("", USED.sub("", text))):
+                yield name, bool(mark), self.home(owner, mark, name)
+
+    def home(self, owner, mark, name):
+        if mark == ".":
+            return {self.name} if owner == "self" and name in self.functions else None
+        if owner == "Self" or owner in self.types:
+            return {self.name}
+        if owner:
+            return self.imported.get(owner) or None
+        return {self.name} if name in self.functions and name not in self.imported else self.imported.get(name)
+
+
+def uses_of(root):
+    """The crates of crates.txt that each of them is made over, itself among them, all the way down."""
+    with open(f"{root}/crates.txt", encoding="utf-8") as it:
+        lines = [line.partition("#")[0].partition(":") for line in it if line.strip()]
+    direct = {it[0].split()[0]: it[2].split() for it in lines if it[0].strip()}
+    found = {}
+    for name in direct:
+        reach, new = set(), [name]
+        while new:
+            it = new.pop()
+            if it not in reach:
+                reach.add(it)
+                new += direct.get(it, ())
+        found[name] = reach
+    return found
+
+
 def uncalled(root):
-    """The public functions that no code calls, each as its file and its name: methods of which no code has the name behind
-    a dot or a path, and other functions of which none has the name. Laws are called by nobody."""
-    defined, called = [], set()
-    for path in [it for crate in sorted(os.listdir(f"{root}/crates")) for it in below(f"{root}/crates/{crate}/src", ".rt")]:
-        text = HANDED.sub("", COMMENT.sub("", read(path)))
-        if not path.endswith("laws.rt"):
-            defined += [(path, blanks and ".", name) for blanks, name in PUBLIC.findall(text)]
-        called.update(WORDS.findall(DEFINED.sub("", text)))
-    called = {(mark.replace(":", "."), name) for mark, name in called}
-    called |= {("", name) for _, name in called}
-    return [(os.path.relpath(path, root), name) for path, mark, name in defined if (mark, name) not in called]
+    """The public functions that no code calls, each as its file and its name. A name is resolved by its crate: what a method
+    of `self` or a function of a crate's own is named there is no call of another crate's. Laws are called by nobody."""
+    crates = {it: Code(root, it) for it in sorted(os.listdir(f"{root}/crates"))}
+    reach = uses_of(root)
+    called = set()
+    for crate in crates.values():
+        for name, is_method, homes in crate.calls():
+            for home in homes or reach.get(crate.name, {crate.name}):
+                called |= {(home, name, is_method), (home, name, False)}
+    return [
+        (os.path.relpath(path, root), name)
+        for crate in crates.values()
+        for path, name, is_method in crate.public()
+        if (crate.name, name, is_method) not in called
+    ]

@@ -3,6 +3,7 @@
 
   .ci/costs.py SEEN     prints it again, by what `.ci/times watch` saw of a whole run of the gate; what that did not see
                         stays as it is
+  .ci/costs.py --demo   prints it again, by what `.ci/prove` took for the crates that it has proved in this folder
 """
 import os
 import sys
@@ -10,8 +11,9 @@ from collections import defaultdict
 from dataclasses import dataclass
 
 HERE = os.path.dirname(os.path.realpath(__file__))
-HEAD = """# What each crate took at the last gate, in seconds of one processor: its proof, that with its tests, its edits;
-# and the most memory of one check, in MB. `./check --costs` writes this file.
+HEAD = """# What each crate took at the last gate, in seconds of one processor: its proof, that with its tests, its edits; and the
+# most memory of one check, in MB. `./check --costs` writes these. Then what ./demo took to prove and build it, in seconds
+# of one processor, if that is known: 0 stands for its proof.
 """
 
 
@@ -23,6 +25,12 @@ class Cost:
     tests: float = 120
     edits: float = 120
     megabytes: float = 2500
+    demo: float = 0
+
+    @property
+    def build(self):
+        """Seconds of one processor that the demo takes for it."""
+        return self.demo or self.proof
 
     @property
     def memory(self):
@@ -60,16 +68,27 @@ def seen_in(path):
     return kinds, most
 
 
+def took_of(root, name):
+    """Seconds of one processor that .ci/prove took for a crate, None if it has not proved it here."""
+    try:
+        with open(f"{root}/crates/{name}/out/demo/took", encoding="utf-8") as it:
+            return float(it.read())
+    except (OSError, ValueError):
+        return None
+
+
 def main(path):
     root = os.path.dirname(HERE)
-    costs, (kinds, most) = costs_of(root), seen_in(path)
+    costs, (kinds, most) = costs_of(root), ({}, {}) if path == "--demo" else seen_in(path)
     with open(f"{root}/crates.txt", encoding="utf-8") as it:
         names = [line.partition(":")[0].split()[0] for line in it if line.partition("#")[0].strip()]
     print(HEAD, end="")
     for name in names:
         old, new = costs[name], kinds.get(name, {})
         numbers = [new.get(kind, getattr(old, kind) if not new else 0) for kind in ("proof", "tests", "edits")]
-        print(name, *[round(it) for it in numbers], round(most[name] / 1000) if name in most else round(old.megabytes))
+        took = took_of(root, name) if path == "--demo" else None
+        numbers += [most[name] / 1000 if name in most else old.megabytes, old.demo if took is None else took]
+        print(name, *[round(it) for it in numbers])
     return 0
 
 

@@ -3,9 +3,9 @@ left without its body."""
 import re
 from dataclasses import dataclass
 
-FUNCTION = re.compile(r"^( *)(?:pub(?:\([a-z]+\))? )?(?:const )?(?:unsafe )?fn (\w+)")
+FUNCTION = re.compile(r'^( *)(?:pub(?:\([a-z]+\))? )?(?:const )?(?:unsafe )?(?:extern "C" )?fn (\w+)')
 TYPE = re.compile(r"(?m)^(?:pub(?:\([a-z]+\))? )?(?:struct|enum) (\w+)")
-BLOCK = re.compile(r"^(?:unsafe )?impl(?:<.*?>)? (?:(?P<of>\S+) for )?&?(?:'\w+ )?(?P<type>\w+)")
+BLOCK = re.compile(r"^(?:unsafe )?impl(?:<.*?>)? (?:(?P<of>.+?) for )?&?(?:'\w+ )?(?P<type>\w+)")
 TRAIT = re.compile(r"^(?:pub(?:\([a-z]+\))? )?trait (?P<type>\w+)")
 CONSTANT = re.compile(r"^ *(?:pub(?:\([a-z]+\))? )?(?:const|static) (\w+)\s*:")
 TACTIC = re.compile(r"#\[tactic\([^\]]*\]")
