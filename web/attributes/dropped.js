@@ -4,8 +4,8 @@
 // can be saved with it all the same (write.js). Of a drill file it keeps the tools, the holes and the slots alone: XNC
 // has its attributes in comments (`; #@! TA.AperFunction,..`), and none of them is kept.
 
-import { latin1 } from "../bytes.js";
-import { DRILL, kindOf } from "../file_kinds.js";
+import { latin1 } from "../bytes/index.js";
+import { DRILL, kindOf } from "../board/index.js";
 import { readAttributes } from "./read.js";
 import { APERTURE, OBJECT } from "./text.js";
 

@@ -17,7 +17,7 @@
 // - a name has one attribute, the one that was set last; TD takes one away by its name, or all.
 // The comments `G04 #@! TA..*`, `TO` and `TD` count as the commands that they hold.
 
-import { latin1 } from "../bytes.js";
+import { latin1 } from "../bytes/index.js";
 import { Commands, NotJoined, commentOf, packed, standardComment } from "./commands.js";
 import { Dictionary, NONE } from "./dictionary.js";
 

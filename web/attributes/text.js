@@ -1,7 +1,7 @@
 // The texts of attributes: their names and fields, and what their escapes stand for. Gerber Layer Format Specification,
 // "Attributes" and "Strings".
 
-import { latin1Bytes, utf8 } from "../bytes.js";
+import { latin1Bytes, utf8 } from "../bytes/index.js";
 
 /** What sets an aperture attribute, and what sets an object attribute. */
 export const APERTURE = "TA";

@@ -13,7 +13,7 @@
 // A station that loads the text writes the same canonical text again, and `readAttributes` reads the same of each item:
 // `checkedWithAttributes` lets a station load it, and throws where that is not so.
 
-import { latin1, latin1Bytes } from "../bytes.js";
+import { latin1, latin1Bytes } from "../bytes/index.js";
 import { Commands, packed } from "./commands.js";
 import { readAttributes } from "./read.js";
 import { OBJECT } from "./text.js";

@@ -3,10 +3,11 @@
 
 import { createHash } from "node:crypto";
 import { gzipSync } from "node:zlib";
-import { readFileSync, writeFileSync } from "node:fs";
+import { readFileSync, readdirSync, writeFileSync } from "node:fs";
 import { dirname, join } from "node:path";
 import { fileURLToPath } from "node:url";
 import { inlined } from "./inline.js";
+import { packed } from "./contents.js";
 import { refusalsOf } from "./refusals.js";
 
 const web = dirname(dirname(fileURLToPath(import.meta.url)));
@@ -30,21 +31,32 @@ function within(text, element) {
 const json = (value) => JSON.stringify(value).replace(/</g, "\\u003c");
 
 // In this order: of two rules that are as strong as one another the later one holds.
-const STYLES = ["roles", "frame", "board", "panels", "windows"];
+const STYLES = ["roles", "frame", "board", "panels", "telling", "windows"];
+
+// The board of examples/kicad, which a page opens for who has none at hand.
+function exampleFiles() {
+  const folder = join(web, "../examples/kicad");
+  const names = /** @type {string[]} */ (readdirSync(folder)).filter((name) => /\.(gbr|drl)$/.test(name)).sort();
+  return { files: names.map((name) => packed(/** @type {{ bytes: Uint8Array }} */ ({ name, bytes: readFileSync(join(folder, name)) }))) };
+}
+
+/** @param {string} text */
+const asText = (text) => text.trim().replace(/&/g, "&amp;").replace(/</g, "&lt;");
 
 /** @param {Uint8Array} module @returns {string} */
 function pageOf(module) {
   const style = within(STYLES.map((name) => read(`page/style/${name}.css`)).join("\n"), "style");
   const script = within(inlined(join(web, "page/main.js")), "script");
   const worker = within(inlined(join(web, "worker/main.js")), "script");
-  const netsWorker = within(inlined(join(web, "nets/worker.js")), "script");
-  const convertingWorker = within(inlined(join(web, "page/converting_worker.js")), "script");
+  const netsWorker = within(inlined(join(web, "worker/nets_worker.js")), "script");
+  const convertingWorker = within(inlined(join(web, "worker/converting_worker.js")), "script");
   const policy = ["default-src 'none'", `script-src ${sum(script)} 'wasm-unsafe-eval'`, `style-src ${sum(style)}`,
     "worker-src blob:", "base-uri 'none'", "form-action 'none'"].join("; ");
   /** @type {Record<string, string>} */
   const parts = {
     policy, style, script, worker, netsWorker, convertingWorker, module: gzipSync(module, { level: 9 }).toString("base64"),
     refusals: json(refusalsOf(read("../docs/refusals.md"))), contents: "null",
+    example: json(exampleFiles()), notice: asText(read("page/icons.txt")),
   };
   return read("page/index.html").replace(/\{(\w+)\}/g, (/** @type {string} */ whole, /** @type {string} */ name) => parts[name] ?? whole);
 }

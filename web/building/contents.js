@@ -16,8 +16,11 @@ const EMPTY = '<script type="application/json" id="contents">null</script>';
  * @property {string | null} [window]
  */
 
-/** @param {{bytes?: Uint8Array}} part */
-function packed({ bytes, ...rest }) {
+/**
+ * @param {{bytes?: Uint8Array}} part
+ * @returns {{packed?: string}}
+ */
+export function packed({ bytes, ...rest }) {
   return bytes ? { ...rest, packed: gzipSync(bytes, { level: 9 }).toString("base64") } : rest;
 }
 

@@ -1,5 +1,7 @@
 // A module and all that it imports as one text without imports: each module becomes the body of a function that answers
-// what it exports, those that others need before them. Only the forms that web/ uses are read.
+// what it exports, those that others need before them. Only the forms that web/ uses are read. A floor's index, which hands
+// names of other modules on and does nothing else, is no part of the text: what is imported of it comes from the module that
+// has it, and the floor's other modules stay out.
 
 import { readFileSync } from "node:fs";
 import { dirname, resolve } from "node:path";
@@ -10,7 +12,9 @@ const EXPORTED = /^export (?:async )?(?:function\*?|class|const|let) (\w+)/gm;
 // Several of one line, as 'export const MM = "mm", INCH = "inch";'.
 const SEVERAL = /^export const (\w+ = "\w*"(?:, \w+ = "\w*")+);$/gm;
 const LIST = /^export \{([^}]*)\};$/gm;
-// Comments that give types: they are for tsc, and left out.
+// Comments, for who reads the modules, and those that give types, for tsc: both are left out. (A text over several lines may
+// have no line that begins as a comment does.)
+const LINE_COMMENTS = /^ *\/\/.*\n/gm;
 const TYPES = /^ *\/\*\*(?:[^*]|\*(?!\/))*\*\/\n/gm;
 
 /**
@@ -26,10 +30,56 @@ class Inliner {
     this.names = new Map();
     /** @type {Map<string, Set<string>>} what each exports, by its name */
     this.exports = new Map();
+    /** @type {Map<string, Map<string, string[]> | null>} what indexes hand on, by their paths */
+    this.indexes = new Map();
     /** @type {string[]} */
     this.open = [];
     /** @type {string[]} */
     this.texts = [];
+  }
+
+  /**
+   * Of each name that an index hands on, the path of the module that it is from, and its name there.
+   * @param {string} path
+   * @returns {Map<string, string[]> | null} null of a module that does anything else
+   */
+  index(path) {
+    const known = this.indexes.get(path);
+    if (known !== undefined) return known;
+    const text = /** @type {string} */ (readFileSync(path, "utf8")).replace(TYPES, "").replace(LINE_COMMENTS, "");
+    const handed = [...text.matchAll(REEXPORT)].flatMap(([, list, source]) =>
+      pairs(list).map(([from, to]) => /** @type {[string, string[]]} */ ([to, [resolve(dirname(path), source), from]])));
+    const found = handed.length && !text.replace(REEXPORT, "").trim() ? new Map(handed) : null;
+    this.indexes.set(path, found);
+    return found;
+  }
+
+  /**
+   * The module that a name is from, and the name there: past indexes.
+   * @param {string} path
+   * @param {string} name
+   * @returns {string[]}
+   */
+  origin(path, name) {
+    const found = this.index(path)?.get(name);
+    return found ? this.origin(found[0], found[1]) : [path, name];
+  }
+
+  /**
+   * Names that a module takes of another one, by the names in the whole of the modules that they are from.
+   * @param {string} path
+   * @param {string} source
+   * @param {string[][]} wanted
+   */
+  taken(path, source, wanted) {
+    /** @type {Map<string, string[][]>} */
+    const found = new Map();
+    for (const [from, to] of wanted) {
+      const [origin, name] = this.origin(resolve(dirname(path), source), from), module = this.add(origin);
+      if (!this.exports.get(module)?.has(name)) throw new Error(`${path}: ${origin} does not export ${name}`);
+      found.set(module, [...found.get(module) ?? [], [name, to]]);
+    }
+    return [...found];
   }
 
   /**
@@ -44,21 +94,13 @@ class Inliner {
     this.open.push(path);
     /** @type {string[]} */
     const exported = [];
-    /** @type {(source: string, wanted: string[][]) => string} */
-    const of = (source, wanted) => {
-      const other = resolve(dirname(path), source), name = this.add(other);
-      const lacking = wanted.find(([from]) => !this.exports.get(name)?.has(from));
-      if (lacking) throw new Error(`${path}: ${other} does not export ${lacking[0]}`);
-      return name;
-    };
-    let text = /** @type {string} */ (readFileSync(path, "utf8")).replace(TYPES, "").replace(IMPORT, (_, whole, list, source) => {
-      const name = of(source, whole ? [] : pairs(list));
-      if (whole) return `const ${whole.slice(5)} = ${name};`;
-      return `const { ${pairs(list).map(([from, to]) => from === to ? from : `${from}: ${to}`).join(", ")} } = ${name};`;
+    let text = /** @type {string} */ (readFileSync(path, "utf8")).replace(TYPES, "").replace(LINE_COMMENTS, "").replace(IMPORT, (_, whole, list, source) => {
+      if (whole) return `const ${whole.slice(5)} = ${this.add(resolve(dirname(path), source))};`;
+      return this.taken(path, source, pairs(list)).map(([name, names]) =>
+        `const { ${names.map(([from, to]) => from === to ? from : `${from}: ${to}`).join(", ")} } = ${name};`).join("\n");
     });
     text = text.replace(REEXPORT, (_, list, source) => {
-      const name = of(source, pairs(list));
-      exported.push(...pairs(list).map(([from, to]) => `${to}: ${name}.${from}`));
+      for (const [name, names] of this.taken(path, source, pairs(list))) exported.push(...names.map(([from, to]) => `${to}: ${name}.${from}`));
       return "";
     });
     text = text.replace(LIST, (_, list) => {

@@ -5,6 +5,7 @@
  * @typedef {object} Choice
  * @property {string} name  of the value among the converter's options
  * @property {string} option  as commands have it and refusals name it
+ * @property {string[]} [old]  earlier names, which commands read still
  * @property {string} label  what a page calls it
  * @property {"switch" | "one" | "text" | "file"} form  a switch; one of `values`; a text; a file
  * @property {[string, string][]} [values]  each with what a page calls it
@@ -16,22 +17,28 @@
  * @typedef {Record<string, string | true>} Chosen  values of choices by their names
  */
 
-/** @type {[string, string][]} */
-const UNITS = [["mm", "mm"], ["inch", "inch"]];
+/**
+ * What both kinds of files may lack.
+ * @type {Record<"unit" | "format" | "zeros", Omit<Choice, "name">>}
+ */
+const SHARED = {
+  unit: { option: "--unit", label: "unit", form: "one", values: [["mm", "mm"], ["inch", "inch"]], value: "UNIT",
+    help: "the unit of a file that does not have one" },
+  format: { option: "--format", label: "digits before and after the point", form: "text", value: "I.D", example: "2.4",
+    help: "how many digits stand before and after the point, in a file that does not tell" },
+  zeros: { option: "--zeros", label: "zeros that are written", form: "one", value: "ZEROS",
+    values: [["leading", "leading"], ["trailing", "trailing"]],
+    help: "the zeros that are written, and not those that are left out" },
+};
 
 /** @type {Record<"gerber" | "drill", Choice[]>} */
 export const CHOICES = {
   gerber: [
     { name: "nearest", option: "--nearest", label: "to the nearest nm", form: "switch",
       help: "write what has no exact form by the nearest that has one" },
-    { name: "unit", option: "--unit", label: "unit", form: "one", values: UNITS, value: "UNIT",
-      help: "the unit of a file that does not have one" },
-    { name: "format", option: "--format", label: "digits before and after the point", form: "text", value: "I.D",
-      example: "2.4", help: "how many digits stand before and after the point, in a file whose coordinates stand before " +
-        "any format" },
-    { name: "zeros", option: "--zeros", label: "zeros that are written", form: "one", value: "ZEROS",
-      values: [["leading", "leading"], ["trailing", "trailing"]],
-      help: "with --format: the zeros that are written, and not those that are left out; by default trailing" },
+    { name: "unit", ...SHARED.unit },
+    { name: "format", ...SHARED.format },
+    { name: "zeros", ...SHARED.zeros },
     { name: "arcs", option: "--arcs", label: "arcs", form: "one", value: "ARCS",
       values: [["single", "of one quadrant, without signs"], ["multi", "of any angle, with signs"]],
       help: "arcs of a file with neither G74 nor G75: of one quadrant, I and J without sign, or of any angle" },
@@ -39,12 +46,9 @@ export const CHOICES = {
       help: "coordinates without D01, D02 or D03 repeat the last of these" },
   ],
   drill: [
-    { name: "unit", option: "--unit", label: "unit", form: "one", values: UNITS, value: "UNIT", help: "mm or inch" },
-    { name: "digits", option: "--digits", label: "digits", form: "text", value: "I:D", example: "2:4",
-      help: "how many digits stand before and after the point" },
-    { name: "zeros", option: "--zeros", label: "zeros that are written", form: "one", value: "ZEROS",
-      values: [["leading", "leading"], ["trailing", "trailing"]],
-      help: "the zeros that are written (LZ, TZ), and not those that are left out" },
+    { name: "unit", ...SHARED.unit },
+    { name: "digits", ...SHARED.format, label: "digits", old: ["--digits"] },
+    { name: "zeros", ...SHARED.zeros },
     { name: "report", option: "--report", label: "report of the program", form: "file", value: "REPORT",
       help: "the report that the CAD program wrote with the file" },
     { name: "tools", option: "--tool", label: "diameters", form: "text", value: "N=SIZE", example: "1=0.8mm 2=40mil",

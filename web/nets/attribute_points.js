@@ -1,17 +1,26 @@
 // The points of nets that the Gerber files of copper name themselves, by the attributes .N and .P of their items.
 
-import { named, plainText } from "../attributes/read.js";
+import { named, plainText } from "../attributes/index.js";
+import { Centres } from "./alignment.js";
+import { itemOf } from "../board/index.js";
+import { headOf } from "../station/index.js";
+import { Clears } from "./clears.js";
+import { flatItems } from "./flat_items.js";
 import { placesOf } from "./item_places.js";
+import { placeWords } from "./words.js";
 
 /** Pads of these functions have no plated hole (Gerber Layer Format Specification, ".AperFunction"). */
 const WITHOUT_HOLE = /^(?:SMDPad|BGAPad|ConnectorPad|HeatsinkPad|TestPad|CastellatedPad|FiducialPad|WasherPad|AntiPad)$/;
+
+/** Pads of these have one. */
+const WITH_HOLE = /^(?:ViaPad|ComponentPad)$/;
 
 /**
  * A copper layer's items with what its file says of them.
  * @typedef {object} SaidLayer
  * @property {string} label what people call the layer
- * @property {{words: string, reach: number}[]} items in order; how far each reaches from its centre or its line, in nm
- * @property {import("../attributes/read.js").Reading} reading
+ * @property {import("./flat_items.js").SaidItems} items
+ * @property {import("../attributes/index.js").Reading | null} reading
  */
 
 // The net of an item: `name`, null for a pad without a net; undefined where the file says nothing of one, or of several.
@@ -27,24 +36,48 @@ function pinOf(attributes) {
   return fields && fields.length > 1 ? `${plainText(fields[0])}-${plainText(fields[1])}` : null;
 }
 
-/** Points by their places, those of flashes of one net at one place on several layers as one. */
+/**
+ * Points by their places, those of flashes of one net at one place on several layers as one, where a plated hole may join them:
+ * pads without plating stand for each layer by itself.
+ */
 class Collection {
-  constructor() {
+  /** @param {Centres} unplated the centres of holes without plating */
+  constructor(unplated) {
+    this.unplated = unplated;
+    /** @type {import("./points.js").NetPoint[]} */
     this.points = [];
+    /** @type {Map<string, import("./points.js").NetPoint>} */
     this.flashes = new Map();
   }
 
-  add(layer, label, place, item, { attributes, functionOf, reach }) {
-    const isFlash = item.kind === "flash", net = netOf(attributes, isFlash);
-    if (!item.isDark || net === undefined) return;
-    const pin = pinOf(attributes), source = `${label} ${place}`;
-    const point = ([x, y]) => ({ net, name: pin ?? source, isPin: pin !== null, source, x, y, layers: [layer], isThrough: false,
-      isPad: isFlash, reach });
-    if (!isFlash) this.points.push(...item.places.map(point));
-    else this.addFlash(point(item.places[0]), functionOf, pin);
+  /**
+   * The points of an item: one of a flash, one from each end of a draw or an arc, and a few of a region; each tries the item's
+   * own places in its order, until one is black.
+   */
+  add(layer, label, { item, attributes, place, copy, move }, { functionOf, isCleared, hasClear }) {
+    const { kind } = headOf(item.words), isFlash = kind === "flash", net = netOf(attributes, isFlash);
+    if (net === undefined) return;
+    const own = (isDense) => placesOf(item, isDense).map(move).filter((spot) => !isCleared(spot));
+    let spots = own(false);
+    if (!spots.length && hasClear) spots = own(true);
+    const pin = pinOf(attributes), source = `${label} ${place}`, middle = move(placesOf(item)[0] ?? itemOf(item.words).points[0]);
+    const pointOf = (list) => {
+      const [x, y] = isFlash ? move(itemOf(item.words).points[0]) : list[0] ?? middle;
+      return { net, name: pin ?? source, isPin: pin !== null, source, x, y, layers: [layer], isThrough: false, copy,
+        spots: list.map(([across, up]) => ({ layer, x: across, y: up })), reach: hasClear ? 0 : item.reach };
+    };
+    if (isFlash) this.addFlash(pointOf(spots), functionOf, pin);
+    else if (kind === "region") this.points.push(...startsOf(spots).map((at) => pointOf([...spots.slice(at), ...spots.slice(0, at)])));
+    else this.points.push(pointOf(spots), pointOf([...spots].reverse()));
   }
 
   addFlash(point, functionOf, pin) {
+    const isUnplated = this.unplated.near(point.x, point.y) !== null;
+    if (isUnplated || WITHOUT_HOLE.test(functionOf ?? "")) {
+      this.points.push({ ...point, isBareAllowed: isUnplated && point.net === null });
+      return;
+    }
+    point.isDrilled = WITH_HOLE.test(functionOf ?? "");
     const key = `${point.x} ${point.y} ${point.net ?? `N/C ${pin}`}`, known = this.flashes.get(key);
     const [layer] = point.layers;
     if (!known) {
@@ -52,28 +85,61 @@ class Collection {
       this.points.push(point);
     } else if (!known.layers.includes(layer)) {
       known.layers.push(layer);
-      known.isThrough = !WITHOUT_HOLE.test(functionOf ?? "");
+      known.isThrough = true;
+      known.spots.push(...point.spots);
       known.source += `, ${point.source}`;
     }
   }
 }
 
+/** So many points a region has. */
+const OF_REGION = 3;
+
+// Which of a region's places each of its points tries first: some far from one another.
+function startsOf({ length }) {
+  const starts = Array.from({ length: OF_REGION }, (_, at) => Math.floor(at * length / OF_REGION));
+  return [...new Set(starts)];
+}
+
+// Points of several copies have nets of their own.
+function ofCopies(points) {
+  const copies = new Set(points.map(({ copy }) => copy));
+  if (copies.size < 2) return points;
+  return points.map((point) => {
+    if (point.copy === null || point.net === null) return point;
+    const [x, y] = point.copy.split(" ").map(Number);
+    return { ...point, net: copyName(point.net, x, y) };
+  });
+}
+
 /**
- * The points that attributes name: flashes, ends of draws and of arcs, a place inside each region.
+ * What a net of a copy of a panel is called.
+ * @param {string} net
+ * @param {number} x by how much the copy is moved
+ * @param {number} y
+ */
+export function copyName(net, x, y) {
+  return `${net} of the copy at ${placeWords({ x, y })}`;
+}
+
+/**
+ * The points that attributes name: places of flashes, draws, arcs and regions that are copper by the item itself and not cleared
+ * later, also of those in repeats and blocks.
  * @param {SaidLayer[]} layers of copper, from the top
+ * @param {{x: number, y: number}[]} unplated the centres of holes without plating
  * @returns {import("./points.js").NetPoint[]}
  */
-export function pointsOfAttributes(layers) {
-  const collection = new Collection();
+export function pointsOfAttributes(layers, unplated) {
+  const collection = new Collection(new Centres(unplated));
   layers.forEach(({ label, items, reading }, layer) => {
     if (!reading) return;
-    items.forEach(({ words, reach }, place) => {
-      const attributes = reading.items[place]?.attributes;
-      if (!attributes?.length) return;
-      const item = placesOf(words), ofAperture = reading.apertures.get(item.aperture) ?? [];
+    const flat = flatItems(items, reading), clears = new Clears(flat), hasClear = clears.count > 0;
+    flat.forEach((one, order) => {
+      if (!one.attributes.length || !one.isDark) return;
+      const { number } = headOf(one.item.words), ofAperture = (number === null ? undefined : reading.apertures.get(number)) ?? [];
       const functionOf = named(ofAperture, ".AperFunction")?.fields[0];
-      collection.add(layer, label, place, item, { attributes, functionOf, reach });
+      collection.add(layer, label, one, { functionOf, hasClear, isCleared: (spot) => clears.isCleared(order, spot) });
     });
   });
-  return collection.points;
+  return ofCopies(collection.points);
 }

@@ -76,6 +76,20 @@ function lookAbove(rows, row, away, gap, places) {
   }
 }
 
+// Whether each row has the runs of the one above it.
+function sameRows(rows) {
+  const found = new Uint8Array(rows.height);
+  for (let row = 1; row < rows.height; row++) {
+    const { band, first, end } = rows.at(row), above = rows.at(row - 1);
+    let isSame = end - first === above.end - above.first;
+    for (let at = first, other = above.first; at < end && isSame; at++, other++) {
+      isSame = band.starts[at] === above.band.starts[other] && band.ends[at] === above.band.ends[other];
+    }
+    found[row] = isSame ? 1 : 0;
+  }
+  return found;
+}
+
 // The columns of two runs that are nearest to each other.
 function columnsOf(start, end, otherStart, otherEnd) {
   if (otherStart >= end) return [end - 1, otherStart];
@@ -93,9 +107,12 @@ function columnsOf(start, end, otherStart, otherEnd) {
 export function nearPlaces(nets, gap) {
   const found = [];
   nets.copper.forEach((_, layer) => {
-    const rows = new Rows(nets, layer), places = new Places(layer, 2 * Math.ceil(gap) + 2);
+    const rows = new Rows(nets, layer), places = new Places(layer, 2 * Math.ceil(gap) + 2), isSame = sameRows(rows);
     for (let row = 0; row < rows.height; row++) {
-      for (let away = 0; away <= Math.min(row, Math.ceil(gap)); away++) lookAbove(rows, row, away, gap, places);
+      lookAbove(rows, row, 0, gap, places);
+      // What is as near to a row as it is to one that is the same and lies between them is known from that one.
+      const last = isSame[row] ? 0 : Math.min(row, Math.ceil(gap));
+      for (let away = 1; away <= last; away++) if (!isSame[row - away + 1]) lookAbove(rows, row, away, gap, places);
     }
     found.push(...places.closed.map(({ best }) => best));
   });

@@ -7,6 +7,8 @@ import { Ways } from "./ways.js";
 
 /** Of copper with points of many nets, how many of them get a place where they touch. */
 const MOST_WAYS = 12;
+/** How many opens and how many shorts get their places: each is a search over copper. */
+export const MOST_FULL = 20;
 
 /**
  * A place on the board.
@@ -37,7 +39,7 @@ class Comparison {
   constructor(nets, grid, points) {
     this.nets = nets;
     this.grid = grid;
-    this.placed = points.map((point) => placed(nets, grid, point));
+    this.placed = points.filter(({ layers }) => layers.length).map((point) => placed(nets, grid, point));
     // Points by their net's name, each with the copper that it is on; a point without a net has a name of its own.
     this.byName = new Map();
     this.byCopper = new Map();
@@ -63,25 +65,23 @@ class Comparison {
       if (coppers.size < 2) continue;
       const parts = [...coppers].map(([copper, points]) => ({ copper, points }))
         .sort((one, other) => other.points.length - one.points.length || one.copper - other.copper);
-      opens.push({ kind: "open", net, parts, gaps: this.gapsOf(parts) });
+      opens.push({ kind: "open", net, parts, gaps: opens.length < MOST_FULL ? this.gapsOf(parts) : [] });
     }
     return opens;
   }
 
   /**
-   * Each part but the first, and what keeps it from another.
+   * Each part but the largest, and what keeps it from another.
    * @param {Part[]} parts
    * @returns {Gap[]}
    */
   gapsOf(parts) {
-    const nearest = nearestParts(this.nets, parts.map(({ copper }) => copper));
-    const joined = new Set([0]), gaps = [];
-    for (let part = 1; part < parts.length; part++) {
-      if (joined.has(part)) continue;
-      joined.add(part);
-      gaps.push(this.holeGap(parts, part) ?? this.copperGap(parts, part, nearest.get(parts[part].copper)));
-    }
-    return gaps.filter((gap) => gap !== null);
+    const { nearest, largest } = nearestParts(this.nets, parts.map(({ copper }) => copper));
+    return parts.flatMap(({ copper }, part) => {
+      if (copper === largest) return [];
+      const gap = this.holeGap(parts, part) ?? this.copperGap(parts, part, nearest.get(copper));
+      return gap ? [gap] : [];
+    });
   }
 
   /**
@@ -140,7 +140,7 @@ class Comparison {
       const isShort = own.length > 1 || (own.length === 1 && names.size > 1);
       if (!isShort) continue;
       const nets = [...names].map(([net, points]) => ({ net, points }));
-      shorts.push({ kind: "short", nets, touching: this.touching(copper, nets) });
+      shorts.push({ kind: "short", nets, touching: shorts.length < MOST_FULL ? this.touching(copper, nets) : [] });
     }
     return shorts;
   }
@@ -174,7 +174,7 @@ class Comparison {
 
   /** @returns {Bare[]} */
   bare() {
-    return this.placed.filter(({ on }) => !on.length).map(({ point }) => ({ kind: "bare", point }));
+    return this.placed.filter(({ point, on }) => !on.length && !point.isBareAllowed).map(({ point }) => ({ kind: "bare", point }));
   }
 
   /** @returns {Loose[]} */
@@ -223,10 +223,30 @@ function merged(one, other) {
 export function namesOf(nets, grid, points, wanted) {
   const names = new Map([...wanted].map((net) => [net, new Set()]));
   for (const point of points) {
-    if (point.net === null) continue;
+    if (point.net === null || !point.layers.length) continue;
     for (const { net } of placed(nets, grid, point).on) names.get(net)?.add(point.net);
   }
   return new Map([...names].map(([net, found]) => [net, [...found]]));
+}
+
+/**
+ * Whether nets on one piece of copper are no short, since all of them may touch.
+ * @param {Short} short
+ * @param {[string, string][]} mayTouch pairs of nets; capital and small letters are the same
+ */
+function isAllowed({ nets }, mayTouch) {
+  if (nets.some(({ points }) => points[0].net === null)) return false;
+  const names = nets.map(({ net }) => net.toUpperCase()), reached = new Set(names.slice(0, 1)), waiting = [...reached];
+  while (waiting.length) {
+    const name = waiting.pop();
+    for (const pair of mayTouch) {
+      const at = pair.findIndex((one) => one.toUpperCase() === name), other = at < 0 ? null : pair[1 - at].toUpperCase();
+      if (other === null || reached.has(other) || !names.includes(other)) continue;
+      reached.add(other);
+      waiting.push(other);
+    }
+  }
+  return reached.size === names.length;
 }
 
 /**
@@ -234,11 +254,14 @@ export function namesOf(nets, grid, points, wanted) {
  * @param {import("./nets.js").Nets} nets
  * @param {import("./grid.js").Grid} grid
  * @param {import("./points.js").NetPoint[]} points
+ * @param {{apart?: import("./nets.js").Nets, mayTouch?: [string, string][]}} ties the nets without the items that tie two nets,
+ *   in which shorts are looked for; and nets that may touch anywhere
  * @returns {{opens: Open[], shorts: Short[], bare: Bare[], loose: Loose[], names: Map<number, string[]>}} `names` has those
  *   of the points on each net of copper
  */
-export function compareNets(nets, grid, points) {
-  const comparison = new Comparison(nets, grid, points);
+export function compareNets(nets, grid, points, { apart = nets, mayTouch = [] } = {}) {
+  const comparison = new Comparison(nets, grid, points), untied = apart === nets ? comparison : new Comparison(apart, grid, points);
   const names = new Map([...comparison.byCopper].map(([copper, found]) => [copper, [...found.keys()]]));
-  return { opens: comparison.opens(), shorts: comparison.shorts(), bare: comparison.bare(), loose: comparison.loose(), names };
+  return { opens: comparison.opens(), shorts: untied.shorts().filter((short) => !isAllowed(short, mayTouch)), bare: comparison.bare(),
+    loose: comparison.loose(), names };
 }

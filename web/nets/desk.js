@@ -15,7 +15,7 @@ import { BAND, bandOf, runsOf } from "./runs.js";
 /** Pictures of copper and of holes in one window, and their nets. */
 export class Desk {
   /**
-   * @param {import("../windows.js").PlotWindow} window
+   * @param {import("../board/index.js").PlotWindow} window
    * @param {DeskLayer[]} layers copper from the top, then holes
    */
   constructor(window, layers) {

@@ -4,7 +4,7 @@ import { mm } from "./words.js";
 
 /** A window's pixels: column 0 is at the left, row 0 at the top. Places are in nm. */
 export class Grid {
-  /** @param {import("../windows.js").PlotWindow} window */
+  /** @param {import("../board/index.js").PlotWindow} window */
   constructor({ x, y, pitch, width, height }) {
     this.x = x;
     this.y = y;

@@ -1,22 +1,24 @@
 // Netlists in the forms IPC-D-356 and IPC-D-356A, as KiCad, Altium, EAGLE and pcb-rnd write them.
 
-import { hasByteOrderMark, latin1 } from "../bytes.js";
-import { LEFT_OUT, Unread, pointOf } from "./ipc_record.js";
+import { hasByteOrderMark, latin1 } from "../bytes/index.js";
+import { CONTINUED, LEFT_OUT, Unread, continued, pointOf } from "./ipc_record.js";
 
 /**
  * What a netlist has.
  * @typedef {object} Netlist
  * @property {import("./ipc_record.js").Point[]} points in order
  * @property {string} unit what one count is, in words
+ * @property {number} nm how many nm one count is
+ * @property {boolean} isUnitTold whether the file says so
  * @property {Map<string, number>} leftOut how many records of each code say nothing of points
  */
 
-/** nm for one count, by what `P  UNITS` has. */
-const UNITS = new Map([
-  ["CUST 0", { nm: 2540, words: "0.0001 inch" }],
-  ["CUST 1", { nm: 1000, words: "0.001 mm" }],
-  ["CUST 2", { nm: 2540, words: "0.0001 inch" }],
-]);
+/** What one count may be. */
+export const INCHES = { nm: 2540, words: "0.0001 inch" };
+export const MILLIMETRES = { nm: 1000, words: "0.001 mm" };
+
+/** What one count is, by what `P  UNITS` has; a file without such a line is in inches. */
+const UNITS = new Map([["CUST 0", INCHES], ["CUST 1", MILLIMETRES], ["CUST 2", INCHES]]);
 
 const SUBSTITUTE = 0x1a;
 const RECORD = /^[03]\d\d/;
@@ -27,17 +29,31 @@ const END = "999";
  * @param {Uint8Array} bytes the file, or its beginning
  */
 export function isNetlist(bytes) {
-  const lines = linesOf(bytes.subarray(0, 65536)).filter((line) => line.trim() !== "");
-  const first = lines.find((line) => !/^C( |$)/.test(line));
+  const lines = textOf(bytes.subarray(0, 65536)).split(/\r\n|\r|\n/).filter((line) => line.trim() !== "");
+  const first = lines.find((line) => !line.startsWith("C"));
   return first !== undefined && (/^P +\S/.test(first) || /^3(?:07|17|27|67).{54}/.test(first))
     && lines.some((line) => /^P +UNITS +/.test(line) || /^3(?:07|17|27|67).{35}A\d\dX/.test(line));
 }
 
-function linesOf(bytes) {
+function textOf(bytes) {
   let end = bytes.length;
   // Some programs end a file as CP/M did.
   while (bytes[end - 1] === SUBSTITUTE) end--;
-  return latin1(bytes.subarray(hasByteOrderMark(bytes) ? 3 : 0, end)).split(/\r\n|\r|\n/);
+  return latin1(bytes.subarray(hasByteOrderMark(bytes) ? 3 : 0, end));
+}
+
+const LF = 10, CR = 13;
+
+// Each line, one after another: a list of a million would cost more than what is read of them.
+function eachLine(text, take) {
+  let from = 0, number = 0;
+  for (let at = 0; at <= text.length; at++) {
+    const code = at < text.length ? text.charCodeAt(at) : LF;
+    if (code !== LF && code !== CR) continue;
+    take(text.slice(from, at), ++number);
+    if (code === CR && text.charCodeAt(at + 1) === LF) at++;
+    from = at + 1;
+  }
 }
 
 class Reader {
@@ -47,6 +63,8 @@ class Reader {
     this.points = [];
     this.leftOut = new Map();
     this.isEnded = false;
+    // The record of the point that was read last.
+    this.record = null;
   }
 
   take(line, number) {
@@ -58,7 +76,7 @@ class Reader {
     if (text === END) this.isEnded = true;
     else if (/^P( |$)/.test(text)) this.takeParameter(text.slice(1).trim());
     else if (RECORD.test(text)) this.takeRecord(text, number);
-    else if (!/^C( |$)/.test(text)) throw new Unread("the line begins with none of P, C, a record's number and 999");
+    else if (!text.startsWith("C")) throw new Unread("the line begins with none of P, C, a record's number and 999");
   }
 
   takeParameter(text) {
@@ -69,8 +87,9 @@ class Reader {
 
   takeUnit(value) {
     const unit = UNITS.get(value.replace(/ +/g, " "));
-    if (!unit) throw new Unread(`UNITS ${value} is none of ${[...UNITS.keys()].join(", ")}`);
+    if (!unit) throw new Unread(`UNITS ${value.slice(0, 20).trim()} is none of ${[...UNITS.keys()].join(", ")}`);
     if (this.unit !== null && this.unit.nm !== unit.nm) throw new Unread("UNITS stands twice, with two values");
+    if (this.unit === null && this.points.length) throw new Unread("UNITS stands after the first record");
     this.unit = unit;
   }
 
@@ -83,32 +102,43 @@ class Reader {
   takeRecord(text, number) {
     const code = text.slice(0, 3);
     if (LEFT_OUT.includes(code)) {
-      this.leftOut.set(code, (this.leftOut.get(code) ?? 0) + 1);
+      this.leaveOut(code);
       return;
     }
-    if (this.unit === null) throw new Unread("no line P  UNITS CUST 0, 1 or 2 stands before the first record");
-    this.points.push(pointOf(text, number, this.unit.nm, this.aliases));
+    const record = CONTINUED.has(code) ? continued(text, this.record) : text;
+    if (record === null) {
+      this.leaveOut(code);
+      return;
+    }
+    this.points.push(pointOf(record, number, (this.unit ?? INCHES).nm, this.aliases));
+    this.record = record;
+  }
+
+  leaveOut(code) {
+    this.leftOut.set(code, (this.leftOut.get(code) ?? 0) + 1);
   }
 }
 
 /**
  * Reads a netlist.
  * @param {Uint8Array} bytes
- * @returns {{netlist: Netlist | null, refusals: import("../convert/report.js").Refusal[]}} null where a line is refused
+ * @returns {{netlist: Netlist | null, refusals: import("../convert/index.js").Refusal[]}} null where a line is refused
  */
 export function readNetlist(bytes) {
-  const reader = new Reader(), refusals = [], lines = linesOf(bytes);
-  lines.forEach((line, at) => {
+  const reader = new Reader(), refusals = [];
+  let last = 1;
+  eachLine(textOf(bytes), (line, number) => {
+    if (line.trim() !== "") last = number;
     try {
-      reader.take(line, at + 1);
+      reader.take(line, number);
     } catch (fault) {
       if (!(fault instanceof Unread)) throw fault;
-      refusals.push({ line: at + 1, what: fault.message });
+      refusals.push({ line: number, what: fault.message });
     }
   });
-  const last = lines.reduce((found, line, at) => (line.trim() === "" ? found : at + 1), 1);
   if (!reader.isEnded) refusals.push({ line: last, what: "the file ends without 999" });
   else if (!refusals.length && !reader.points.length) refusals.push({ line: last, what: "the file has no point" });
   if (refusals.length) return { netlist: null, refusals };
-  return { netlist: { points: reader.points, unit: reader.unit.words, leftOut: reader.leftOut }, refusals };
+  const { nm, words } = reader.unit ?? INCHES, { points, leftOut } = reader;
+  return { netlist: { points, unit: words, nm, isUnitTold: reader.unit !== null, leftOut }, refusals };
 }

@@ -28,10 +28,21 @@ const KINDS = new Map([["317", "through"], ["327", "surface"], ["307", "blind"],
 /** Records that say nothing of points: conductors, what lies next to what, outlines, and how these go on. */
 export const LEFT_OUT = ["378", "379", "389", "078", "079", "089"];
 
+/** Records that go on with a point: the same pad on another side. Their fields that are blank are those of the record before. */
+export const CONTINUED = new Map([["017", "317"], ["027", "327"]]);
+
+/** The columns of a point's fields: its net; part, pin and M; hole; access; place. */
+const FIELDS = [[3, 20], [20, 32], [32, 38], [38, 41], [41, 57]];
+
 // Columns 42 to 57: a sign or a blank, and six columns of digits, which blanks may begin.
 const PLACE = /^X([-+ ])(?=.{6}Y)( *\d+)Y([-+ ])(?=.{6})( *\d+)$/;
-// What may stand behind the place: the pad's sides, its turn, the sides that solder mask covers, layers.
+// What may stand behind the place: the pad's sides, its turn, the sides that solder mask covers, layers. It is tried on a few
+// characters alone, in which blanks stand one by one, since it tries every way to share blanks out.
+const MOST_REST = 60;
 const REST = /^ *(?:X( *\d{1,4}))? *(?:Y( *\d{1,4}))? *(?:R( *\d{1,3}))? *(?:S([0-3]?))? *(?:L(\d{1,2})[-L]?(\d{1,2}))? *$/;
+
+/** Names that say that a pad has no net. */
+const NO_NET = /^n\/?c$/i;
 
 /** @param {string} why @returns {never} */
 function fail(why) {
@@ -48,7 +59,7 @@ function signed(sign, digits) {
 
 function nameOf(field, aliases) {
   const name = field.trim();
-  if (name === "" || name === "N/C") return null;
+  if (name === "" || NO_NET.test(name)) return null;
   if (!/^NNAME/.test(name)) return name;
   return aliases.get(name) ?? fail(`${name} is an alias that no line P NNAME.. defines before`);
 }
@@ -93,6 +104,20 @@ function spanOf(first, last) {
 }
 
 /**
+ * The record that a continuation stands for.
+ * @param {string} line that begins with 017 or 027
+ * @param {string | null} before the record that it goes on with
+ * @returns {string | null} null where it has no place
+ */
+export function continued(line, before) {
+  if (before === null) fail(`there is no record that ${line.slice(0, 3)} goes on with`);
+  const own = line.padEnd(57);
+  if (own.slice(41, 57).trim() === "") return null;
+  const fields = FIELDS.map(([from, to]) => (own.slice(from, to).trim() === "" ? before : own).slice(from, to));
+  return `${CONTINUED.get(line.slice(0, 3))}${fields.join("")}${own.slice(57)}`;
+}
+
+/**
  * The point of a record.
  * @param {string} line a line that begins with 3 and two digits
  * @param {number} number the line's number
@@ -107,8 +132,8 @@ export function pointOf(line, number, unit, aliases) {
   if (line.slice(17, 20).trim() !== "") fail(`columns 18 to 20 are not blank; a name has at most 14 characters`);
   const place = PLACE.exec(line.slice(41, 57));
   if (!place) fail(`columns 42 to 57 have ${line.slice(41, 57)} in place of X and Y with a sign and six digits each`);
-  const tail = line.slice(57), rest = REST.exec(tail);
-  if (!rest) fail(`${tail.trim()} is not a size, a rotation, a solder mask and layers, as X0787Y0787R270S0`);
+  const tail = line.slice(57).replace(/ {2,}/g, " "), rest = tail.length > MOST_REST ? null : REST.exec(tail);
+  if (!rest) fail(`${tail.trim().slice(0, MOST_REST)} is not a size, a rotation, a solder mask and layers, as X0787Y0787R270S0`);
   const [, width, height, turn, , first, last] = rest;
   if (turn !== undefined && whole(turn) > 360) fail(`the rotation ${turn} is more than 360 degrees`);
   return {

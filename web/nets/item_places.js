@@ -1,11 +1,15 @@
 // Where an item of a layer lies, by its words: places that are copper where it is dark.
 
-import { itemOf } from "../page/items.js";
+import { itemOf } from "../board/index.js";
+import { linesOfItem } from "./outline.js";
 
-/** A contour is cut by lines at these parts of its height. */
-const HEIGHTS = [0.5, 0.25, 0.75, 0.125, 0.375, 0.625, 0.875];
+/** @typedef {import("./flat_items.js").Pair} Pair */
 
-/** Where a line at a height crosses a contour, from left to right. */
+/**
+ * Where a line at a height crosses a contour, from left to right.
+ * @param {Pair[]} corners
+ * @param {number} y
+ */
 function crossings(corners, y) {
   /** @type {number[]} */
   const found = [];
@@ -16,37 +20,86 @@ function crossings(corners, y) {
   return found.sort((one, other) => one - other);
 }
 
+/** Where on a stretch inside a contour places are tried: in its middle first. */
+const PARTS = [0.5, 0.25, 0.75, 0.1, 0.9, 0.4, 0.6];
+
 /**
- * The middle of the widest stretch inside a contour, on a few lines across it.
- * @param {[number, number][]} corners
- * @returns {[number, number][]}
+ * Places on the stretches inside a contour, on a few lines across it: the middles first, and the widest first of these.
+ * @param {Pair[]} corners
+ * @param {number} lines how many lines
+ * @returns {Pair[]}
  */
-function insideOf(corners) {
-  let low = Infinity, high = -Infinity, best = null;
+function insideOf(corners, lines) {
+  let low = Infinity, high = -Infinity;
   for (const [, y] of corners) {
     low = Math.min(low, y);
     high = Math.max(high, y);
   }
-  for (const part of HEIGHTS) {
-    const y = low + (high - low) * part + 0.5, across = crossings(corners, y);
-    for (let at = 0; at + 1 < across.length; at += 2) {
-      const width = across[at + 1] - across[at];
-      if (!best || width > best.width) best = { width, x: (across[at] + across[at + 1]) / 2, y };
-    }
+  /** @type {{width: number, left: number, y: number}[]} */
+  const found = [];
+  for (let line = 1; line < lines; line++) {
+    const y = low + (high - low) * line / lines + 0.5, across = crossings(corners, y);
+    for (let at = 0; at + 1 < across.length; at += 2) found.push({ width: across[at + 1] - across[at], left: across[at], y });
   }
-  return best ? [[best.x, best.y]] : [];
+  found.sort((one, other) => other.width - one.width);
+  return PARTS.flatMap((part) => found.map(({ width, left, y }) => /** @type {Pair} */ ([left + width * part, y])));
+}
+
+/** So many lines cross a region, and so many parts a draw is tried in; more where all these places are cleared. */
+const FEW = 8, MANY = 64;
+
+/**
+ * Places along a line of chords, from its start to its end.
+ * @param {Pair[]} line
+ * @param {number} parts
+ * @returns {Pair[]}
+ */
+function along(line, parts) {
+  return Array.from({ length: parts + 1 }, (_, at) => {
+    const way = at / parts * (line.length - 1), first = Math.min(Math.floor(way), line.length - 2), part = way - first;
+    const [x0, y0] = line[first], [x1, y1] = line[first + 1];
+    return [x0 + (x1 - x0) * part, y0 + (y1 - y0) * part];
+  });
 }
 
 /**
- * The places of an item in the words that `insert` takes, in nm: a flash's centre, the ends of a draw or an arc, a place
- * inside a region, cut along the chords of its arcs.
- * @param {string} words
- * @returns {{kind: string, isDark: boolean, aperture: number | null, places: [number, number][]}}
+ * Places of a dark item that are copper by itself, in its own coordinates in nm: of a flash the centre first, of a draw or an arc
+ * from its start to its end, of a region the middles of its widest stretches first.
+ * @param {import("./flat_items.js").SaidItem} item
+ * @param {boolean} isDense whether more places are wanted
+ * @returns {Pair[]}
  */
-export function placesOf(words) {
+export function placesOf({ words, offsets }, isDense = false) {
+  const item = itemOf(words), parts = isDense ? MANY : FEW;
+  if (!item) return [];
+  const { kind, points } = item;
+  if (kind === "flash") return offsets.map(([x, y]) => [points[0][0] + x, points[0][1] + y]);
+  if (kind === "region") return insideOf([points[0], ...linesOfItem(words).flatMap((line) => line.slice(1))], parts);
+  return kind === "draw" || kind === "arc" ? along(linesOfItem(words)[0], isDense ? MANY : 4) : [];
+}
+
+/**
+ * The centre of an item that may be a pad or a hole: of a flash and a hit, of a rout with two ends, as a slot, and of the box
+ * around a region's corners.
+ * @param {string} words
+ * @returns {Pair[]} one, or none
+ */
+export function centresOf(words) {
   const item = itemOf(words);
-  if (!item) return { kind: "repeat", isDark: false, aperture: null, places: [] };
-  const { kind, number, polarity, points } = item, isDark = polarity !== "clear";
-  const corners = kind === "region" ? [points[0], ...item.segments.map(({ to }) => to)] : [];
-  return { kind, isDark, aperture: number, places: kind === "region" ? insideOf(corners) : points.slice(0, 2) };
+  if (!item) return [];
+  const { kind, points } = item;
+  if (kind === "flash" || kind === "hit") return [points[0]];
+  if (kind === "rout" && points.length === 2) return [middle(points)];
+  return kind === "region" ? [middle([points[0], ...item.segments.map((/** @type {{to: Pair}} */ { to }) => to)])] : [];
+}
+
+/**
+ * The middle of the box around places.
+ * @param {Pair[]} places
+ * @returns {Pair}
+ */
+function middle(places) {
+  const [x0, y0, x1, y1] = places.reduce(([left, low, right, high], [x, y]) => [Math.min(left, x), Math.min(low, y), Math.max(right, x),
+    Math.max(high, y)], [Infinity, Infinity, -Infinity, -Infinity]);
+  return [(x0 + x1) / 2, (y0 + y1) / 2];
 }

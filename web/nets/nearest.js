@@ -56,25 +56,34 @@ class Search {
 }
 
 /**
- * For each of some nets the nearest place of another of them on the same layer.
+ * For each of some nets the nearest place of another of them on the same layer; but for the one with the most runs, which the
+ * others are looked for from.
  * @param {import("./nets.js").Nets} nets
  * @param {number[]} parts
- * @returns {Map<number, Nearest>} without those that share no layer with another
+ * @returns {{nearest: Map<number, Nearest>, largest: number}} without those that share no layer with another
  */
 export function nearestParts(nets, parts) {
   const wanted = new Set(parts), table = new Table(nets, (net) => wanted.has(net), false);
+  /** @type {Map<number, number[]>} */
   const ownRuns = new Map(parts.map((part) => [part, []]));
-  for (let at = 0; at < table.size; at++) ownRuns.get(table.owners[at]).push(at);
+  // How many parts lie on each layer.
+  const seen = table.offsets.map(() => new Set());
+  for (let at = 0; at < table.size; at++) {
+    ownRuns.get(table.owners[at]).push(at);
+    seen[table.layers[at]].add(table.owners[at]);
+  }
+  const largest = parts.reduce((most, part) => (ownRuns.get(part).length > ownRuns.get(most).length ? part : most));
   const nearest = new Map();
   for (const part of parts) {
-    const search = new Search(table, part), own = ownRuns.get(part);
+    if (part === largest) continue;
+    const search = new Search(table, part), own = ownRuns.get(part).filter((at) => seen[table.layers[at]].size > 1);
     // A few of its runs first, so that the others need not look far.
     const step = Math.max(1, Math.floor(Math.sqrt(own.length)));
     for (let at = 0; at < own.length; at += step) search.look(own[at]);
     for (const at of own) search.look(at);
     if (search.found) nearest.set(part, search.found);
   }
-  return nearest;
+  return { nearest, largest };
 }
 
 /**

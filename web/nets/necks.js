@@ -1,34 +1,29 @@
 // Where the copper of one net is thinner than a width: what no disc of that width inside the copper covers, but corners.
 
 import { BAND } from "./runs.js";
+import { common, difference, flatRows, grown, runsOfFlat, shrunk } from "./discs.js";
 import { netsOf } from "./nets.js";
-import { both, either, rowsOf, runsOfRows, stretched, without } from "./rows.js";
-import { shortestAcross } from "./ways.js";
+import { Widths } from "./widths.js";
 
-// How far a disc of a radius reaches to each side, by rows away from its centre.
-function reaches(radius) {
-  return Array.from({ length: radius + 1 }, (_, away) => Math.floor(Math.sqrt(radius * radius - away * away)));
-}
+/** Widths that differ by less, in pixels, are as narrow as one another. */
+const SAME = 0.5;
 
-// Row by row, what discs inside the copper cover: the centres where one fits, and then the discs about these.
-function covered(rows, radius) {
-  const reach = reaches(radius), around = (all, row, by, merge, outside) => {
-    let found = stretched(all[row], by * reach[0]);
-    for (let away = 1; away <= radius; away++) {
-      for (const other of [row - away, row + away]) found = merge(found, stretched(all[other] ?? outside, by * reach[away]));
-    }
-    return found;
-  };
-  const centres = rows.map((_, row) => (rows[row].length ? around(rows, row, -1, both, []) : []));
-  return rows.map((_, row) => around(centres, row, 1, either, []));
-}
+/** A part that no disc covers: its box, and pixels of it in whose middle it is measured, [column, row, column, row ..]. */
+class Part {
+  constructor(left, top) {
+    this.left = this.right = left;
+    this.top = this.bottom = top;
+    /** @type {number[]} */
+    this.pixels = [];
+    /** @type {Set<number>} */
+    this.contacts = new Set();
+  }
 
-// Where a part that no disc covers touches what discs cover: a number of stretches apart from one another.
-function contactsOf(thin, covering) {
-  return thin.map((row, at) => {
-    const near = either(either(stretched(row, 1), thin[at - 1] ?? []), thin[at + 1] ?? []);
-    return both(near, covering[at]);
-  });
+  take(row, start, end) {
+    this.left = Math.min(this.left, start);
+    this.right = Math.max(this.right, end);
+    this.bottom = row;
+  }
 }
 
 /**
@@ -36,28 +31,29 @@ function contactsOf(thin, covering) {
  * reach farther from it than they are wide.
  */
 class Thin {
+  /** @param {import("./runs.js").Runs} runs @param {number} radius */
   constructor(runs, radius) {
     this.runs = runs;
-    const rows = rowsOf(runs.bands), covering = covered(rows, radius), thin = rows.map((row, at) => without(row, covering[at]));
-    this.parts = netsOf([runsOfRows(thin, runs.width)]);
-    // Corners of a stretch of contacts touch too: the covered copper next to a thin part, grown by a pixel.
-    this.contacts = netsOf([runsOfRows(contactsOf(thin, covering).map((row) => stretched(row, 1)), runs.width)]);
+    this.widths = new Widths(runs);
+    this.rows = flatRows(runs);
+    const covering = grown(shrunk(this.rows, radius), radius), thin = difference(this.rows, covering);
+    this.parts = netsOf([runsOfFlat(thin, runs.width)]);
+    // Contacts: the covered copper next to a thin part, grown by a pixel, since corners of a stretch of it touch too.
+    this.contacts = netsOf([runsOfFlat(grown(common(grown(thin, 1), covering), Math.SQRT2), runs.width)]);
     this.radius = radius;
+    this.step = Math.ceil(radius / 2);
   }
 
   find() {
-    const boxes = [], touched = [];
-    this.parts.visit(() => true, (_, row, start, end, part) => {
-      const box = boxes[part] ??= { left: start, right: end, top: row, bottom: row, area: 0, pixels: [] };
-      box.left = Math.min(box.left, start);
-      box.right = Math.max(box.right, end);
-      box.bottom = row;
-      box.area += end - start;
-      box.pixels.push((start + end - 1) >> 1, row);
-      const contacts = touched[part] ??= new Set();
-      for (const away of [-1, 0, 1]) this.addContacts(contacts, row + away, start - 1, end + 1);
+    /** @type {Part[]} */
+    const parts = [];
+    this.parts.visit(() => true, (_, row, start, end, number) => {
+      const part = parts[number] ??= new Part(start, row);
+      part.take(row, start, end);
+      this.addPixels(part, row, start, end);
+      for (const away of [-1, 0, 1]) this.addContacts(part.contacts, row + away, start - 1, end + 1);
     });
-    return boxes.flatMap((box, part) => (this.isNeck(box, touched[part].size) ? [this.narrowest(box)] : []));
+    return parts.flatMap((part) => (this.isNeck(part) ? [this.widthOf(part)] : [])).filter((width) => width);
   }
 
   addContacts(contacts, row, start, end) {
@@ -68,23 +64,74 @@ class Thin {
     }
   }
 
-  isNeck({ left, right, top, bottom }, contacts) {
-    const longer = Math.max(right - left, bottom + 1 - top);
-    return contacts !== 1 || longer > 3 * this.radius + 2;
+  // The copper is as wide at a pixel as at those next to it, but where a row of copper begins or ends next to it; of rows that
+  // are alike a few are enough.
+  addPixels({ pixels }, row, start, end) {
+    const cuts = [], { offsets, starts, ends } = this.rows;
+    for (const other of [row - 1, row + 1]) {
+      if (other < 0 || other >= this.runs.height) continue;
+      for (let at = this.firstEndingAfter(other, start); at < offsets[other + 1] && starts[at] < end; at++) {
+        if (starts[at] > start) cuts.push(starts[at]);
+        if (ends[at] < end) cuts.push(ends[at]);
+      }
+    }
+    if (!cuts.length && row % this.step) return;
+    pixels.push((start + end - 1) >> 1, row);
+    cuts.sort((one, other) => one - other);
+    for (let at = 1; at < cuts.length; at++) if (cuts[at] > cuts[at - 1]) pixels.push((cuts[at - 1] + cuts[at] - 1) >> 1, row);
+  }
+
+  firstEndingAfter(row, column) {
+    const { offsets, ends } = this.rows;
+    let low = offsets[row], high = offsets[row + 1];
+    while (low < high) {
+      const middle = (low + high) >> 1;
+      if (ends[middle] > column) high = middle;
+      else low = middle + 1;
+    }
+    return low;
+  }
+
+  isNeck({ left, right, top, bottom, contacts }) {
+    return contacts.size !== 1 || Math.max(right - left, bottom + 1 - top) > 3 * this.radius + 2;
   }
 
   /**
-   * The shortest line across, of those through the middles of the part's runs.
-   * @param {{pixels: number[]}} part
+   * The least width of a part; of one that ends in nothing, as a sharp tip does, the one in its middle.
+   * @param {Part} part
+   * @returns {import("./widths.js").Width | undefined}
    */
-  narrowest({ pixels }) {
-    /** @type {import("./ways.js").Across | null} */
-    let best = null;
-    for (let at = 0; at < pixels.length; at += 2) {
-      best = shortestAcross(this.runs, pixels[at], pixels[at + 1], best?.width ?? Infinity) ?? best;
+  widthOf({ pixels, contacts }) {
+    if (contacts.size === 1) {
+      const widths = measured(this.widths, pixels, false).sort((one, other) => one.width - other.width);
+      return widths[widths.length >> 1];
     }
-    return best;
+    const narrow = measured(this.widths, pixels, true);
+    return narrow[narrow.length >> 1];
   }
+}
+
+/**
+ * The widths at some pixels, [column, row, column, row ..], in their order.
+ * @param {Widths} widths
+ * @param {number[]} pixels
+ * @param {boolean} isLeast whether only those are wanted that are as narrow as the narrowest
+ * @returns {import("./widths.js").Width[]}
+ */
+export function measured(widths, pixels, isLeast) {
+  /** @type {import("./widths.js").Width[]} */
+  let found = [];
+  let least = Infinity;
+  for (let at = 0; at < pixels.length; at += 2) {
+    const width = widths.at(pixels[at], pixels[at + 1], least + SAME);
+    if (!width) continue;
+    found.push(width);
+    if (isLeast && width.width < least) {
+      least = width.width;
+      found = found.filter((known) => known.width < least + SAME);
+    }
+  }
+  return found;
 }
 
 /**
@@ -94,8 +141,8 @@ class Thin {
  * @returns {{layer: number, net: number, column: number, row: number, width: number}[]}
  */
 export function thinPlaces(nets, width) {
-  const radius = Math.floor(width / 2);
-  if (radius < 1) return [];
+  // Where copper has this width, the white pixels' centres on both its sides are farther apart by two pixels at most.
+  const radius = width / 2 + 1;
   return nets.copper.flatMap((runs, layer) => new Thin(runs, radius).find()
     .filter((place) => place.width < width)
     .map((place) => ({ layer, net: nets.netAt(layer, place.column, place.row), ...place })))

@@ -1,5 +1,7 @@
 // The points of a netlist on the pictures of a board.
 
+import { aligned } from "./alignment.js";
+
 /**
  * A point that belongs to a net.
  * @typedef {object} NetPoint
@@ -9,9 +11,15 @@
  * @property {string} source where it is told, as `line 7` or `top 3`
  * @property {number} x in nm
  * @property {number} y
- * @property {number[]} layers the copper layers, by their places in the stack, on which it may lie
+ * @property {number[]} layers the copper layers, by their places in the stack, on which it may lie; none of a point whose
+ *   layers are not there, which is not compared
  * @property {boolean} isThrough whether a plated hole joins these layers there
+ * @property {boolean} [isDrilled] whether a netlist or an attribute says that it has a plated hole
+ * @property {boolean} [isBareAllowed] whether it may have no copper, as a hole without plating and without a net
  * @property {number} reach how far from the place its pad reaches, in nm; 0 where that is not known
+ * @property {{layer: number, x: number, y: number}[]} [spots] places on its layers, in place of its own: the first that is black
+ *   counts on each
+ * @property {string | null} [copy] which copy of a panel it belongs to
  */
 
 /**
@@ -19,39 +27,62 @@
  * @typedef {{point: NetPoint, on: {layer: number, column: number, row: number, net: number}[]}} Placed
  */
 
-// The layer of an access side: 1 is the top, and the last number the bottom. Some programs call the bottom 2 on boards of
-// more layers; that is so where no point has a higher number, nor a layer in between a span.
-function layerReader(points, numbers) {
-  const most = points.reduce((found, { access }) => Math.max(found, access), 0);
-  const last = numbers.length - 1, isSides = most <= 2 && numbers.length > 2;
-  return (access) => {
-    if (isSides) return access === 1 ? 0 : last;
-    const at = numbers.indexOf(access);
-    return at >= 0 ? at : access === 1 ? 0 : last;
-  };
-}
+/**
+ * The copper of a board: the numbers of the layers that are there, from the top, and the number of the lowest one as far as
+ * files tell, also if it is not there.
+ * @typedef {{numbers: number[], last: number}} CopperNumbers
+ */
 
-function layersBetween([first, last], numbers) {
-  return numbers.flatMap((number, at) => (first <= number && number <= last ? [at] : []));
+/**
+ * The copper of a stack.
+ * @param {import("./stack.js").Stack} stack
+ * @returns {CopperNumbers}
+ */
+export function numbersOf({ copper, missing }) {
+  const numbers = copper.map(({ number }) => number);
+  return { numbers, last: Math.max(...numbers, ...missing) };
 }
 
 /**
- * The points of a netlist, about the origin of the Gerber files.
+ * Which copper each point of a netlist lies on, by numbers: 1 is the top. Some programs call the bottom 2 on boards of more
+ * layers; that is so where no point has a higher number, nor a layer in between a span.
  * @param {import("./ipc.js").Netlist} netlist
- * @param {number[]} numbers of the copper layers, from the top
- * @param {{x: number, y: number}} shift what is added to each place
+ * @param {CopperNumbers} copper
+ * @returns {(point: import("./ipc_record.js").Point) => number[]}
+ */
+export function layerReader({ points }, { last }) {
+  const most = points.reduce((found, { access, span }) => Math.max(found, access, span?.[1] ?? 0), 0), lowest = Math.max(last, most);
+  const isSides = most <= 2;
+  return ({ access, span, kind }) => {
+    if (span) return between(span[0], span[1]);
+    if (kind !== "surface" && access === 0) return between(1, lowest);
+    return [access === 2 && isSides ? lowest : access];
+  };
+}
+
+function between(first, last) {
+  return Array.from({ length: last - first + 1 }, (_, at) => first + at);
+}
+
+/**
+ * The points of a netlist, about the origin of the Gerber files. One lies on the layers alone that are there.
+ * @param {import("./ipc.js").Netlist} netlist
+ * @param {CopperNumbers} copper
+ * @param {import("./alignment.js").Alignment} alignment
  * @returns {NetPoint[]}
  */
-export function pointsOfNetlist(netlist, numbers, shift = { x: 0, y: 0 }) {
-  const points = netlist.points.filter(({ kind }) => kind !== "tooling"), layerOf = layerReader(points, numbers);
-  return points.map((point) => {
-    const { line, kind, net, part, pin, access, span, hole, width, height } = point;
-    const layers = span ? layersBetween(span, numbers)
-      : kind === "surface" || access > 0 ? [layerOf(access)] : numbers.map((_, at) => at);
-    const sides = [width, height || width, hole ?? 0].filter((side) => side > 0);
-    return { net, name: pin === "" ? part : `${part}-${pin}`, isPin: part !== "VIA", source: `line ${line}`, x: point.x + shift.x,
-      y: point.y + shift.y, layers, isThrough: kind !== "surface" && point.isPlated,
-      reach: sides.length ? Math.max(Math.min(width, height || width), hole ?? 0) / 2 : 0 };
+export function pointsOfNetlist(netlist, copper, alignment) {
+  const points = netlist.points.filter(({ kind }) => kind !== "tooling"), layersOf = layerReader(netlist, copper);
+  return points.flatMap((point) => {
+    const { line, kind, net, part, pin } = point, { x, y } = aligned(alignment, point);
+    const [hole, width, height] = [point.hole ?? 0, point.width, point.height].map((length) => length * alignment.scale);
+    const layers = layersOf(point).map((number) => copper.numbers.indexOf(number)).filter((at) => at >= 0);
+    const found = { net, name: pin === "" ? part : `${part}-${pin}`, isPin: part !== "VIA", source: `line ${line}`, x, y, layers,
+      isThrough: kind !== "surface" && point.isPlated, isDrilled: kind !== "surface" && point.isPlated, isBareAllowed: net === null && kind !== "surface" && !point.isPlated,
+      reach: Math.max(Math.min(width, height || width), hole) / 2 };
+    if (found.isThrough || layers.length < 2) return [found];
+    // No hole joins a pad without plating: it stands for each of its layers by itself.
+    return layers.map((layer) => ({ ...found, layers: [layer], source: `${found.source}, copper ${copper.numbers[layer]}` }));
   });
 }
 
@@ -77,8 +108,13 @@ function nearBlack(runs, column, row, radius) {
  */
 export function placed(nets, grid, point) {
   const column = grid.columnOf(point.x), row = grid.rowOf(point.y);
-  const on = point.layers.map((layer) => ({ layer, column, row, net: nets.netAt(layer, column, row) }))
-    .filter(({ net }) => net >= 0);
+  const on = point.layers.flatMap((layer) => {
+    for (const { x, y } of point.spots?.filter((spot) => spot.layer === layer) ?? [point]) {
+      const at = { layer, column: grid.columnOf(x), row: grid.rowOf(y) }, net = nets.netAt(layer, at.column, at.row);
+      if (net >= 0) return [{ ...at, net }];
+    }
+    return [];
+  });
   if (on.length || point.reach < grid.pitch) return { point, on };
   const radius = Math.floor(point.reach / grid.pitch);
   const near = point.layers.flatMap((layer) => {
@@ -86,14 +122,4 @@ export function placed(nets, grid, point) {
     return found ? [{ layer, column: found[0], row: found[1], net: nets.netAt(layer, ...found) }] : [];
   });
   return { point, on: near };
-}
-
-/** How many points lie on copper at their very place. */
-export function countOnCopper(nets, grid, points, shift) {
-  let count = 0;
-  for (const { x, y, layers } of points) {
-    const column = grid.columnOf(x + shift.x), row = grid.rowOf(y + shift.y);
-    if (layers.some((layer) => nets.copper[layer].isBlack(column, row))) count++;
-  }
-  return count;
 }

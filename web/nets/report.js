@@ -2,8 +2,8 @@
 
 import { counted, mm, placeWords } from "./words.js";
 
-/** How many points of a net are told one by one. */
-const MOST_POINTS = 6;
+/** How many points of a net are told one by one; how many parts of one. */
+const MOST_POINTS = 6, MOST_PARTS = 12;
 
 /**
  * Points by their names, the first few of many.
@@ -45,7 +45,9 @@ export class Report {
 
   open({ net, parts, gaps }) {
     const rows = parts.map(({ points }, at) => `  part ${at + 1}: ${counted(points.length, "point")}: ${pointNames(points)}`);
-    return [`open: ${net} is in ${parts.length} parts`, ...rows, ...gaps.map((gap) => `  ${this.gap(gap)}`)];
+    const more = parts.length - MOST_PARTS;
+    return [`open: ${net} is in ${parts.length} parts`, ...rows.slice(0, MOST_PARTS), ...(more > 0 ? [`  and ${counted(more, "more part")}`] : []),
+      ...gaps.slice(0, MOST_PARTS).map((gap) => `  ${this.gap(gap)}`)];
   }
 
   short({ nets, touching }) {

@@ -8,43 +8,6 @@ import { BAND, Band, Runs } from "./runs.js";
  */
 
 /**
- * The rows that are wanted of both.
- * @param {Row} one
- * @param {Row} other
- * @returns {Row}
- */
-export function both(one, other) {
-  const row = [];
-  for (let at = 0, to = 0; at < one.length && to < other.length;) {
-    const start = Math.max(one[at], other[to]), end = Math.min(one[at + 1], other[to + 1]);
-    if (start < end) row.push(start, end);
-    if (one[at + 1] < other[to + 1]) at += 2;
-    else to += 2;
-  }
-  return row;
-}
-
-/**
- * What is in one of two rows at least.
- * @param {Row} one
- * @param {Row} other
- * @returns {Row}
- */
-export function either(one, other) {
-  const row = [];
-  for (let at = 0, to = 0; at < one.length || to < other.length;) {
-    const isOne = to >= other.length || (at < one.length && one[at] <= other[to]);
-    const [start, end] = isOne ? [one[at], one[at + 1]] : [other[to], other[to + 1]];
-    if (isOne) at += 2;
-    else to += 2;
-    const last = row.length - 1;
-    if (last > 0 && start <= row[last]) row[last] = Math.max(row[last], end);
-    else row.push(start, end);
-  }
-  return row;
-}
-
-/**
  * What is in the first row and not in the second.
  * @param {Row} one
  * @param {Row} other
@@ -63,22 +26,6 @@ export function without(one, other) {
     if (start < end) row.push(start, end);
   }
   return row;
-}
-
-/**
- * A row with each stretch longer by so much at both ends, or shorter.
- * @param {Row} row
- * @returns {Row}
- */
-export function stretched(row, by) {
-  const longer = [];
-  for (let at = 0; at < row.length; at += 2) {
-    const start = row[at] - by, end = row[at + 1] + by, last = longer.length - 1;
-    if (start >= end) continue;
-    if (last > 0 && start <= longer[last]) longer[last] = end;
-    else longer.push(start, end);
-  }
-  return longer;
 }
 
 /**

@@ -129,7 +129,7 @@ export function bandOf(bits, stride, width, first, rows) {
 
 /**
  * The runs of a picture of at most 65,535 pixels a row.
- * @param {import("../pbm.js").Picture} picture
+ * @param {import("../bytes/index.js").Picture} picture
  * @returns {Runs}
  */
 export function runsOf({ width, height, stride, bits }) {

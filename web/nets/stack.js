@@ -1,14 +1,13 @@
 // Which layers of a board are copper, from the top down, and which copper plated holes pass.
 
-import { HEAD } from "../file_kinds.js";
-import { fileFunction, functionFields } from "../layer_functions.js";
+import { HEAD, fileFunction, functionFields } from "../board/index.js";
 
 /**
  * A copper layer.
- * @typedef {{layer: import("../layers.js").Layer, number: number}} Copper its number from 1 at the top
- * @typedef {{layer: import("../layers.js").Layer, from: number, to: number, why: string}} Drilled holes, the first and the
+ * @typedef {{layer: import("../board/index.js").Layer, number: number}} Copper its number from 1 at the top
+ * @typedef {{layer: import("../board/index.js").Layer, from: number, to: number, why: string}} Drilled holes, the first and the
  *   last copper layer that they pass, by their places in the stack from 0, and what told it
- * @typedef {{copper: Copper[], holes: Drilled[], missing: number[], leftOut: {layer: import("../layers.js").Layer,
+ * @typedef {{copper: Copper[], holes: Drilled[], missing: number[], leftOut: {layer: import("../board/index.js").Layer,
  *   why: string}[]}} Stack `missing` has the numbers of copper that files name or count on, and that is not there
  */
 
@@ -73,7 +72,7 @@ function spanOf(layer, copper) {
 /**
  * The stack of a board's layers. Layers of holes without plating join nothing; where nothing tells it, holes are taken as
  * plated.
- * @param {import("../layers.js").Layer[]} layers each with the first bytes of its file, at least
+ * @param {import("../board/index.js").Layer[]} layers each with the first bytes of its file, at least
  * @returns {Stack}
  */
 export function stackOf(layers) {
@@ -87,10 +86,11 @@ export function stackOf(layers) {
 }
 
 const TOOL_ATTRIBUTE = /^;\s*#@!\s*(TA|TD)\.?([^,*]*),?(.*)$/;
+const TOOL_TYPE = /^;TYPE=(PLATED|NON_PLATED)$/;
 
 /**
- * The tools of a drill file that are not plated, by the attributes that stand before them in comments, as
- * `; #@! TA.AperFunction,NonPlated,NPTH,ComponentDrill`.
+ * The tools of a drill file that are not plated, by what stands before them in comments: the attributes of KiCad, as
+ * `; #@! TA.AperFunction,NonPlated,NPTH,ComponentDrill`, and Altium's `;TYPE=NON_PLATED`.
  * @param {string} text the file
  * @returns {Set<number>}
  */
@@ -98,8 +98,9 @@ export function toolsWithoutPlating(text) {
   const tools = new Set();
   let isPlated = true;
   for (const line of text.split(/\r\n|\r|\n/)) {
-    const attribute = TOOL_ATTRIBUTE.exec(line.trim()), tool = /^T0*(\d+).*C/.exec(line.trim());
-    if (attribute?.[1] === "TD") isPlated = true;
+    const attribute = TOOL_ATTRIBUTE.exec(line.trim()), tool = /^T0*(\d+).*C/.exec(line.trim()), type = TOOL_TYPE.exec(line.trim());
+    if (type) isPlated = type[1] === "PLATED";
+    else if (attribute?.[1] === "TD") isPlated = true;
     else if (attribute?.[2] === "AperFunction") isPlated = !/^\s*NonPlated/.test(attribute[3]);
     else if (tool && !isPlated) tools.add(Number(tool[1]));
     if (line.trim() === "%") break;

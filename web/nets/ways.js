@@ -1,6 +1,10 @@
 // The shortest way over copper between points, and its narrowest place.
 
 import { Table } from "./table.js";
+import { Widths, widthOf } from "./widths.js";
+
+/** Widths that differ by less, in pixels, are as narrow as one another. */
+const SAME = 1;
 
 /** Numbers by their keys, least key first. */
 class Queue {
@@ -65,6 +69,8 @@ export class Ways {
   constructor(nets, net) {
     this.nets = nets;
     this.table = new Table(nets, (found) => found === net, true);
+    /** @type {Widths[]} */
+    this.widths = [];
     // Of a layer those that holes join it with in the same row.
     const copperCount = nets.copper.length;
     this.through = this.table.offsets.map((_, layer) => nets.holes.flatMap(({ from, to }, at) => {
@@ -165,28 +171,62 @@ export class Ways {
   }
 
   /**
-   * The narrowest place on the shortest way between two coverings; of several the middle one.
+   * The narrowest place on the shortest way between two coverings, outside of the discs of copper about its ends: these are
+   * what the two lie on. Of several places as narrow as one another it is the middle one.
    * @param {Map<number, Stretch>} from
    * @param {Map<number, Stretch>} to
-   * @returns {{layer: number, column: number, row: number, width: number} | null} the middle of the shortest line across
-   *   copper there, and its length in pixels
+   * @returns {{layer: number, column: number, row: number, width: number} | null} the middle of the copper there, and its
+   *   width in pixels
    */
   narrowest(from, to) {
     const search = this.search(from, to);
     if (!search.goal) return null;
-    let best = [];
-    for (const { run, enter, leave } of this.traced(search, search.goal.run, search.goal.column)) {
-      const layer = this.table.layers[run], row = this.table.rows[run];
+    const way = this.pixelsOf(this.traced(search, search.goal.run, search.goal.column));
+    if (!way.length) return this.holeOf(search.goal);
+    const ends = [way[0], way[way.length - 1]].map((pixel) => ({ layer: pixel.layer, disc: this.widthsOf(pixel.layer).disc(pixel.column, pixel.row) }));
+    const isIn = ({ layer, column, row }) => ends.some((end) => end.disc && end.layer === layer
+      && Math.hypot(end.disc.x - column, end.disc.y - row) < end.disc.radius);
+    return this.leastOn(way.filter((pixel) => !isIn(pixel))) ?? this.leastOn(way) ?? { ...way[0], width: this.widthAt(way[0]) };
+  }
+
+  widthsOf(layer) {
+    return this.widths[layer] ??= new Widths(this.nets.copper[layer]);
+  }
+
+  // The pixels of copper on a way, in order.
+  pixelsOf(way) {
+    const pixels = [];
+    for (const { run, enter, leave } of way) {
+      const layer = this.table.layers[run], row = this.table.rows[run], step = leave < enter ? 1 : -1;
       if (layer >= this.nets.copper.length) continue;
-      for (let column = Math.min(enter, leave); column <= Math.max(enter, leave); column++) {
-        const most = best.length ? best[0].width : Infinity;
-        const line = shortestAcross(this.nets.copper[layer], column, row, most + 1);
-        if (line && line.width < most) best = [];
-        if (line) best.push({ layer, ...line });
-      }
+      for (let column = leave; column !== enter + step; column += step) pixels.push({ layer, column, row });
     }
-    // Of places as narrow as one another the middle one.
-    return best[best.length >> 1] ?? this.holeOf(search.goal);
+    return pixels;
+  }
+
+  widthAt({ layer, column, row }) {
+    const disc = this.widthsOf(layer).disc(column, row);
+    return disc ? widthOf(disc).width : 0;
+  }
+
+  // The place of the least width at some pixels of a way; null where copper ends at all of them.
+  leastOn(pixels) {
+    let found = [], least = Infinity;
+    for (const { layer, column, row } of pixels) {
+      const width = this.widthsOf(layer).at(column, row, least + SAME);
+      if (!width) continue;
+      found.push({ layer, ...width });
+      least = Math.min(least, width.width);
+    }
+    found = found.filter(({ width }) => width < least + SAME);
+    if (!found.length) return null;
+    const [first] = found, last = found[found.length - 1], x = (first.column + last.column) / 2, y = (first.row + last.row) / 2;
+    // Between two corners of white, as where two discs overlap, copper is so narrow for a little way alone; its narrowest place
+    // is exact. A longer stretch of one width is told at its middle.
+    const isLong = Math.hypot(last.column - first.column, last.row - first.row) > 2 * Math.sqrt(2 * least * SAME) + 2;
+    if (!isLong) return nearestOf(found, ({ width }) => width);
+    const { layer, column, row } = nearestOf(pixels, (pixel) => Math.hypot(pixel.column - x, pixel.row - y));
+    return { layer, ...this.widthsOf(layer).at(column, row) ?? { column, row }, width: least };
   }
 
   // Where the way lies in holes alone, the place of one.
@@ -194,6 +234,10 @@ export class Ways {
     const layer = Math.min(this.table.layers[run], this.nets.copper.length - 1);
     return { layer, column, row: this.table.rows[run], width: 0 };
   }
+}
+
+function nearestOf(list, away) {
+  return list.reduce((best, place) => (away(place) < away(best) ? place : best));
 }
 
 function span(from, to) {
@@ -208,35 +252,4 @@ function cover(covered, run, low, high) {
   } else {
     covered.set(run, { low, high });
   }
-}
-
-const DIRECTIONS = Array.from({ length: 8 }, (_, at) => [Math.cos(at * Math.PI / 8), Math.sin(at * Math.PI / 8)]);
-
-/**
- * The shortest of eight lines across copper through a pixel, as its length in pixels and its middle; null where none is
- * shorter than `most`.
- * @param {import("./runs.js").Runs} runs
- * @param {number} column
- * @param {number} row
- * @param {number} most
- * @returns {Across | null}
- *
- * @typedef {{width: number, column: number, row: number}} Across
- */
-export function shortestAcross(runs, column, row, most) {
-  /** @type {Across | null} */
-  let best = null;
-  for (const [dx, dy] of DIRECTIONS) {
-    const bound = best?.width ?? most;
-    let ahead = 0, behind = 0;
-    while (ahead + behind + 1 < bound && runs.isBlack(Math.round(column + (ahead + 1) * dx), Math.round(row + (ahead + 1) * dy))) {
-      ahead++;
-    }
-    while (ahead + behind + 1 < bound && runs.isBlack(Math.round(column - (behind + 1) * dx), Math.round(row - (behind + 1) * dy))) {
-      behind++;
-    }
-    const width = ahead + behind + 1, middle = (ahead - behind) / 2;
-    if (width < bound) best = { width, column: Math.round(column + middle * dx), row: Math.round(row + middle * dy) };
-  }
-  return best;
 }

@@ -1,21 +1,29 @@
 // What the page can do by a name: one table, from which the buttons, the keys and the page of keys are made.
 
 import { byId, element } from "./dom.js";
+import { iconOf } from "./icons.js";
 
 /** @type {Page.Action[]} */
 export const actions = [];
 
-// `keys` are as KeyboardEvent.key has them, with Ctrl+ and Shift+ in front; the first is shown on the button.
+// `keys` are as KeyboardEvent.key has them, with Ctrl+ and Shift+ in front; the first is shown on the button. `why` says why it
+// cannot be done now, or null where it can; its icon stands in icons.js by its id.
 /**
  * @param {string} id
  * @param {string} group
  * @param {string} label
  * @param {string[]} keys
  * @param {Page.Action["run"]} run
+ * @param {Page.Action["why"]} [why]
  */
-export function act(id, group, label, keys, run) {
-  actions.push({ id, group, label, keys, run });
+export function act(id, group, label, keys, run, why) {
+  actions.push({ id, group, label, keys, run, why, word: "" });
 }
+
+// The groups in the order in which they are listed; others come after them.
+const GROUPS = ["Files", "Edit", "Arrange", "Tools", "View"];
+/** @param {Page.Action} action */
+export const groupAt = ({ group }) => GROUPS.includes(group) ? GROUPS.indexOf(group) : GROUPS.length;
 
 /** @type {Record<string, string>} */
 const named = { " ": "Space", "ArrowLeft": "←", "ArrowRight": "→", "ArrowUp": "↑", "ArrowDown": "↓" };
@@ -65,7 +73,9 @@ function runKey(event) {
 export function listenToKeys() {
   document.addEventListener("keydown", (event) => {
     const { key } = event, target = /** @type {HTMLInputElement} */ (event.target);
-    if (event.altKey || event.isComposing || document.querySelector("dialog[open]")) return;
+    if (event.altKey || event.isComposing || document.querySelector("dialog[open]")) return undefined;
+    // (it types nothing, and the browser's own meaning of it in a field leads out of the page)
+    if (keyOf(event) === "Ctrl+k") return runKey(event);
     // It leaves a field, and lets go of nothing else.
     if (key === "Escape" && isTyping(target)) return byId("marks").focus({ preventScroll: true });
     if (!isOfControl(target, event)) return runKey(event);
@@ -75,23 +85,56 @@ export function listenToKeys() {
   });
 }
 
+/** @param {Page.Action} action */
+const titleOf = ({ label, keys: [key] }) => key ? `${label} (${keyWords(key)})` : label;
+
+// The icon of a button stands before its word, or above it.
+/** @param {HTMLElement} found @param {string} word */
+function putIcon(found, word) {
+  const icon = word ? iconOf(found.dataset.act) : null;
+  if (!icon) return;
+  found.replaceChildren(icon, element("span", { className: "word" }, word));
+  found.classList.add("command");
+}
+
 // The buttons of the page: each names its action.
 export function listenToButtons() {
   for (const found of /** @type {NodeListOf<HTMLElement>} */ (document.querySelectorAll("button[data-act]"))) {
     const action = actions.find(({ id }) => id === found.dataset.act);
     if (!action) throw new Error(`no action ${found.dataset.act}`);
     found.onclick = (event) => action.run(event);
-    const key = action.keys[0] ? ` (${keyWords(action.keys[0])})` : "";
-    found.title = `${action.label}${key}`;
-    found.setAttribute("aria-label", action.label);
+    found.title = titleOf(action);
+    // (its name has the words that it shows: a person who speaks says these)
+    const shown = found.textContent.trim(), isSaid = action.label.toLowerCase().includes(shown.toLowerCase());
+    found.setAttribute("aria-label", isSaid ? action.label : `${shown}: ${action.label}`);
     if (action.keys[0]) found.setAttribute("aria-keyshortcuts", action.keys[0].replace("Ctrl", "Control"));
+    action.word ||= shown;
+    putIcon(found, shown);
   }
+}
+
+// The buttons of what cannot be done now are grey, and say why.
+/** @param {Page.Runner} machine */
+export function listenToAble(machine) {
+  const able = actions.filter(({ why }) => why).map((action) => ({ action,
+    buttons: /** @type {HTMLElement[]} */ ([...document.querySelectorAll(`button[data-act=${action.id}]`)]) }));
+  machine.panel((state) => able.map(({ action }) => action.why(state)), (state) => {
+    for (const { action, buttons } of able) {
+      const why = action.why(state);
+      for (const found of buttons) {
+        found.setAttribute("aria-disabled", String(why !== null));
+        found.title = why ?? titleOf(action);
+        if (why) found.setAttribute("aria-description", why);
+        else found.removeAttribute("aria-description");
+      }
+    }
+  });
 }
 
 export function showKeys() {
   /** @type {Map<string, Page.Action[]>} */
   const groups = new Map();
-  for (const action of actions) {
+  for (const action of [...actions].sort((one, other) => groupAt(one) - groupAt(other))) {
     if (!action.keys.length) continue;
     if (!groups.has(action.group)) groups.set(action.group, []);
     groups.get(action.group).push(action);
@@ -102,4 +145,6 @@ export function showKeys() {
       element("dd", {}, label)]))));
   byId("keys-body").replaceChildren(...parts);
   byId("keys").showModal();
+  // (the button that closes it has the focus, and stands at its end)
+  byId("keys").scrollTop = 0;
 }

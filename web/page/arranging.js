@@ -2,14 +2,15 @@
 // array.
 
 import { button, element, field } from "./dom.js";
-import { lengthIn, lengthText, wholeOf } from "./units.js";
+import { lengthIn, lengthText, wholeOf } from "../board/index.js";
 import { act, actions, keyWords } from "./actions.js";
+import { nothingPicked } from "./reasons.js";
 
-/** @type {<V extends "turn" | "align">(verb: V, more: Page.Verbs[V]) => Page.Gesture} */
-const edit = (verb, more) => /** @type {Page.Edit} */ ({ kind: "edit", verb, ...more });
+/** @type {<V extends "turn" | "align">(verb: V, more: Machine.Verbs[V]) => Machine.Gesture} */
+const edit = (verb, more) => /** @type {Machine.Edit} */ ({ kind: "edit", verb, ...more });
 
 // Each gesture by its name: the words on its button, its label and key, and what it is.
-/** @type {[id: string, words: string, label: string, key: string, gesture: Page.Gesture][]} */
+/** @type {[id: string, words: string, label: string, key: string, gesture: Machine.Gesture][]} */
 const GESTURES = [
   ["turn-left", "↺", "Turn a quarter counterclockwise", "r", edit("turn", { turn: "r90" })],
   ["turn-right", "↻", "Turn a quarter clockwise", "Shift+r", edit("turn", { turn: "r270" })],
@@ -31,8 +32,8 @@ const askForArray = (machine) => machine.send({ kind: "ask",
 
 /** @param {Page.Parts} page */
 export function nameArranging({ machine }) {
-  for (const [id, , label, key, gesture] of GESTURES) act(id, "Arrange", label, [key], () => machine.gesture(gesture));
-  act("array", "Arrange", "Copies in columns and rows", ["k"], () => askForArray(machine));
+  for (const [id, , label, key, gesture] of GESTURES) act(id, "Arrange", label, [key], () => machine.gesture(gesture), nothingPicked);
+  act("array", "Arrange", "Copies in columns and rows", ["k"], () => askForArray(machine), nothingPicked);
 }
 
 /** @param {string} id @param {string} words */
@@ -51,14 +52,14 @@ const buttonsOf = (does) => GESTURES.filter(([, , , , gesture]) => (gesture.kind
   .map(([id, words]) => buttonOf(id, words));
 
 // The rows of buttons below what is picked.
-/** @param {Page.State} state */
+/** @param {Machine.State} state */
 export function arrangingRows({ picked }) {
   return [row("turn", ...buttonsOf("turn"), buttonOf("array", "array ..")),
     ...picked.length > 1 ? [row("align", ...buttonsOf("align"))] : [], row("all of this", ...buttonsOf("pickLike"))];
 }
 
 // The dialogue of an array: how many columns and rows, and how far one is from the next.
-/** @param {Page.State} state @returns {Page.Dialogue} */
+/** @param {Machine.State} state @returns {Page.Dialogue} */
 export function arrayQuestion({ picked, unit }) {
   const input = (value, label, properties = {}) => element("input", { type: "text", value, id: `array-${label}`, spellcheck: false,
     ...properties });

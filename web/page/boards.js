@@ -1,107 +1,197 @@
-// Several boards in one page, each with a state, a station and a journal of its own, and the part of it that is seen. One is
-// shown; in the others nothing is under way, and their stations wait.
+// The boards of this window, each with a state, a station and a journal of its own, and the part of it that is seen. One is shown; in
+// the others nothing is under way, and their stations wait. Which boards the browser has beside these, other windows know too.
 
-import { button, byId, redraw } from "./dom.js";
-import { faultWords } from "./kept.js";
-import { firstState, isBlank, isIdle } from "./machine/state.js";
-import { step } from "./machine/step.js";
-
-// What the names of a board's files have in common, or else the name of its first file.
-/** @param {Page.State} state */
-function titleOf({ layers }) {
-  const names = layers.flatMap(({ file, label }) => file ?? label);
-  if (!names.length) return null;
-  const [first] = names;
-  let length = first.length;
-  while (length > 0 && !names.every((name) => name.startsWith(first.slice(0, length)))) length--;
-  const common = first.slice(0, length).replace(/\.[^.]*$/, "").replace(/[-_. ]+$/, "");
-  return common.length > 2 ? common : first;
-}
-
-/** @param {Page.View} view @returns {Page.Seen} */
-const viewOf = ({ left, top, pitch, isMirrored, quarters }) => ({ left, top, pitch, isMirrored, quarters });
+import { CLOSING_MS, Holding } from "./holding.js";
+import { Kept } from "./kept.js";
+import { firstState, isBlank, step, waitingOf } from "../machine/index.js";
+import { Store, faultWords, settled } from "./store.js";
+import { adopt, handOver, stolen, takeOver } from "./handing.js";
+import { nameOf, plural, titleOf } from "../board/index.js";
+import { bringOver } from "./older_store.js";
 
 export class Boards {
-  // `openStation` starts one for the machine, `openJournal` promises the journal of a key, and `keepLooks` keeps how the board
-  // that is shown looks.
-  /**
-   * @param {Page.Runner} machine
-   * @param {Page.View} view
-   * @param {{ openStation: () => Promise<void>, openJournal: (key: string) => Promise<Page.Kept>, keepLooks: () => void }} page
-   */
-  constructor(machine, view, { openStation, openJournal, keepLooks }) {
+  /** @param {Page.Runner} machine @param {Page.Platform} platform @param {Page.Desk} desk what shows a board (main.js) */
+  constructor(machine, platform, desk) {
     this.machine = machine;
-    this.view = view;
-    this.openStation = openStation;
-    this.openJournal = openJournal;
-    this.keepLooks = keepLooks;
-    // Each by its key, the first one's is empty: { key, number, title, state, link, kept, view }, without a state where it was not
-    // shown since the page was opened.
+    this.platform = platform;
+    this.desk = desk;
     /** @type {Page.Board[]} */
-    this.list = [{ key: "", number: 1, title: null, state: null }];
-    this.shown = this.list[0];
-    this.count = 1;
+    this.list = [];
+    /** @type {Page.Board | null} */
+    this.shown = null;
+    // The boards of the browser that this window has not; `isHeld` where another one has.
+    /** @type {(Page.Listing & { isHeld: boolean })[]} */
+    this.others = [];
     /** @type {Promise<unknown>} */
     this.last = Promise.resolve();
-    // Whether the first one was closed next to others: its journal, which knows the others, stays.
-    this.isFirstGone = false;
-    // The board that is to be shown when the page has begun.
-    /** @type {Page.Board | null} */
-    this.wanted = null;
+    /** @type {Store | null} */
+    this.store = null;
+    /** @type {Holding | null} */
+    this.holding = null;
+    // The last moment at which a board was shown, and whether nothing was done in this window yet.
+    this.moment = 0;
+    this.isNew = platform.isFresh;
   }
 
-  // What is kept of which boards there are.
-  /** @returns {Page.Registry} */
-  get registry() {
-    return { boards: this.list.slice(1).map(({ key, number, title }) => ({ key, number, title })), shown: (this.wanted ?? this.shown).key,
-      count: this.count, isFirstGone: this.isFirstGone };
+  // Opens the store under the name of a journal, and takes the boards that this window goes on with: those that it had when it was
+  // loaded anew, or in a window that is new all that no other one has. What is said of that.
+  /** @param {string} journal @param {boolean} hasContents */
+  async open(journal, hasContents) {
+    const { platform } = this, name = journal ? `camplot boards ${journal}` : "camplot boards";
+    this.store = await Store.open(platform, name, () => this.lost());
+    this.holding = new Holding(platform, name, { asked: (key) => handOver(this, key), stolen: (key) => stolen(this, key),
+      heard: () => this.refresh() });
+    const older = this.store.base ? await bringOver(this.store, `camplot ${journal}`).catch((fault) => ({ left: 0, fault })) : { left: 0 };
+    if (this.store.base) await this.sweep();
+    const taken = await this.takeFree(CLOSING_MS);
+    this.list = taken.length ? taken : [await this.fresh(hasContents)];
+    this.shown = this.list.reduce((one, other) => other.shown > one.shown ? other : one);
+    this.moment = this.shown.shown;
+    await this.refresh();
+    return this.words(older);
   }
 
-  // How the page looks, with that where it is the first board's.
-  /** @param {Page.Looks} looks @returns {Page.Looks} */
-  looks(looks) {
-    return this.shown === this.list[0] ? { ...looks, registry: this.registry } : looks;
-  }
-
-  keepRegistry() {
-    const { kept } = this.list[0];
-    if (kept?.looks) kept.keepLooks({ ...kept.looks, registry: this.registry });
-  }
-
-  // Which boards there were when the page was left. It is known before anything is kept, since that has the boards too.
-  /** @param {Page.Registry | undefined} registry */
-  know(registry) {
-    if (!registry) return;
-    const { boards, shown, count, isFirstGone } = registry;
-    this.list.push(...boards.map((board) => ({ ...board, state: null })));
-    Object.assign(this, { count, isFirstGone, wanted: this.list.find(({ key }) => key === shown) ?? null });
-  }
-
-  // Shows the board that was shown, unless a person chose one meanwhile.
-  async restore() {
-    const { wanted } = this;
+  // The board that is shown has begun, unless a person chose another one meanwhile.
+  begun() {
     this.park();
-    if (wanted && wanted !== this.shown) await this.show(wanted);
-    this.wanted = null;
-    this.draw();
+    this.machine.await(this.shown.kept.keepLooks());
+    this.desk.changed();
+    this.watch();
   }
 
-  get visible() {
-    return this.list.filter((board) => !this.isFirstGone || board !== this.list[0]);
+  // A window that was killed says nothing: one in which nothing was done looks whether there are boards to go on with.
+  async watch() {
+    while (this.isUntouched) {
+      await this.platform.pause(CLOSING_MS);
+      if (this.isUntouched && this.others.some(({ isHeld }) => isHeld)) await this.refresh();
+    }
+  }
+
+  // What a person is told of the other boards when the page begins.
+  /** @param {{ left: number, fault?: Error }} older what became of those that pages of before had */
+  words({ left, fault }) {
+    const held = this.others.filter(({ isHeld }) => isHeld).length, found = this.others.filter(({ isFound }) => isFound).length;
+    const are = (count) => count === 1 ? "is" : "are";
+    return [held ? `${plural(held, "board")} ${are(held)} open in another window: see 'boards'.` : "",
+      found ? `${plural(found, "board")} ${are(found)} kept that no list had: see 'boards'.` : "",
+      left ? "A window with the page as it was before an update is open: close it, and load this page again to have its boards." : "",
+      fault ? `The boards that this page kept before an update are kept still, and could not be opened (${faultWords(fault)}).` : ""]
+      .filter((words) => words).join(" ");
+  }
+
+  /** @param {Page.Listing} listing @returns {Page.Board} */
+  boardOf(listing) {
+    const { key, number, title, shown, hasContents } = listing;
+    /** @type {Page.Board} */
+    const board = { key, number, title, shown, hasContents, state: null };
+    board.kept = new Kept(this.store, board, listing, (event, kept) => this.hear(event, kept));
+    return board;
+  }
+
+  // Another board, in which nothing was done.
+  async fresh(hasContents = false) {
+    const key = this.platform.newName(), all = await this.store.list();
+    /** @type {Page.Board} */
+    const board = { key, number: 1 + Math.max(0, ...[...all, ...this.list].map(({ number }) => number)), title: null, shown: this.now(), hasContents,
+      state: null };
+    board.kept = new Kept(this.store, board, null, (event, kept) => this.hear(event, kept));
+    await this.holding.take(key);
+    return board;
+  }
+
+  now() {
+    this.moment = Math.max(this.moment + 1, this.platform.now());
+    return this.moment;
+  }
+
+  // Forgets boards in which nothing is, and that no window has.
+  async sweep() {
+    const { window } = this.platform;
+    for (const { key, isBlank: isEmpty, window: its } of await this.store.list()) {
+      if (!isEmpty || its === window || !await this.holding.take(key)) continue;
+      await this.store.attempt(async (stores) => {
+        const { lines, files } = stores, range = this.store.of(key);
+        const counts = await Promise.all([settled(lines.count(range)), settled(files.count(range))]);
+        if (counts.some((count) => count > 0)) return;
+        this.store.empty(stores, key);
+        stores.boards.delete(key);
+      });
+      this.holding.letGo(key);
+    }
+  }
+
+  // Takes what no other window has: of a window that was loaded anew its own boards alone. What is not there any more once it is taken
+  // was closed meanwhile.
+  /** @param {number} patience */
+  async takeFree(patience) {
+    const { isFresh, window } = this.platform, wanted = (await this.store.list()).filter((listing) => !listing.isFound
+      && (isFresh ? !listing.isBlank : listing.window === window));
+    const taken = await Promise.all(wanted.map(({ key }) => this.holding.take(key, patience)));
+    const keys = new Set(wanted.filter((_, at) => taken[at]).map(({ key }) => key));
+    const listed = (await this.store.list()).filter(({ key }) => keys.has(key));
+    // (what was stolen from a window that stood still meanwhile is known by now)
+    await this.holding.elsewhere();
+    const there = listed.filter(({ key }) => this.holding.held.has(key));
+    for (const key of keys) if (!there.some((listing) => listing.key === key)) this.holding.letGo(key);
+    return there.map((listing) => this.boardOf(listing));
+  }
+
+  // Looks again at which boards there are beside those of this window. One in which nothing was done goes on with those that no
+  // window has any more.
+  async refresh() {
+    const listed = await this.store.list(), held = await this.holding.elsewhere();
+    this.others = listed.filter(({ key, isBlank: isEmpty }) => !this.holding.held.has(key) && (!isEmpty || held.has(key)))
+      .map((listing) => ({ ...listing, isHeld: held.has(listing.key) }));
+    this.desk.changed();
+    if (this.isUntouched && this.others.some(({ isHeld, isFound }) => !isHeld && !isFound)) this.inTurn(() => this.succeed());
+  }
+
+  // Whether nothing was done in this window since it was opened.
+  get isUntouched() {
+    const { isNew, list, machine } = this;
+    return isNew && list.length === 1 && list[0] === this.shown && !list[0].kept.isListed && machine.hasBegun && isBlank(machine.state);
+  }
+
+  async succeed() {
+    if (!this.isUntouched) return;
+    const [blank] = this.list, taken = await this.takeFree(0);
+    if (!taken.length) return;
+    this.isNew = false;
+    this.list.push(...taken);
+    await this.change(taken.reduce((one, other) => other.shown > one.shown ? other : one));
+    if (isBlank(blank.state)) this.drop(blank);
+    await this.refresh();
   }
 
   // What the machine has of the board that is shown.
   park() {
-    const { machine, view, shown } = this, { state, link, kept } = machine;
-    Object.assign(shown, { state, link, kept, view: viewOf(view), title: titleOf(state) });
+    const { machine, shown } = this, { state, link, kept } = machine;
+    Object.assign(shown, { state, link, kept, view: this.desk.seen(), title: titleOf(state) });
   }
 
   // One switch after another.
-  /** @param {() => unknown} act */
+  /** @template T @param {() => Promise<T>} act @returns {Promise<T>} */
   inTurn(act) {
-    this.last = this.last.then(act).catch((fault) => this.machine.send({ kind: "fault", why: faultWords(fault) }));
+    const turn = this.last.then(act);
+    this.last = turn.catch((fault) => this.machine.send({ kind: "fault", why: faultWords(fault) }));
     this.machine.await(this.last);
-    return this.last;
+    return turn;
+  }
+
+  // Opens files in the board that they were given to. Where another one is shown by now they are kept, and opened when that is shown.
+  /** @param {Page.Board} board @param {{ files: Machine.File[], areNamed: boolean, faults: string[] }} given */
+  take(board, { files, areNamed, faults }) {
+    if (board === this.shown) return this.machine.open(files, areNamed, faults);
+    if (!this.list.includes(board)) return this.say("The board that files were dropped on is not open any more, so they were not opened.", true);
+    const { state, kept } = board, { station } = state;
+    // (its station waits: nothing of it begins)
+    const waiting = step({ ...state, station: { ...station, isOpen: false } }, { kind: "open", files, areNamed, faults, token: "" }).state;
+    board.state = { ...waiting, station };
+    this.say(`${plural(files.length, "file")} for ${nameOf(board)}: opened as soon as it is shown.`);
+    const { count, isLost, isOpen, records } = state.kept, ids = waiting.queue.flatMap(({ files: its = [] }) => its);
+    if (!isOpen || isLost || records.length) return undefined;
+    return this.machine.await(kept.write({ from: count, records: [], files: ids.map((id) => [id, waiting.files[id].bytes]),
+      waiting: waitingOf(waiting) }));
   }
 
   /** @param {Page.Board} board */
@@ -109,11 +199,12 @@ export class Boards {
     return this.inTurn(() => this.change(board));
   }
 
+  // Another board next to the one that is shown. It is listed at once, or says that it is not kept.
   add() {
+    this.isNew = false;
     return this.inTurn(async () => {
-      const number = ++this.count;
-      /** @type {Page.Board} */
-      const board = { key: `board ${number}`, number, title: null, state: null };
+      const board = await this.fresh();
+      await board.kept.list();
       this.list.push(board);
       await this.change(board);
     });
@@ -123,36 +214,37 @@ export class Boards {
   // shown, and nothing of it between the two.
   /** @param {Page.Board} board */
   async change(board) {
-    const { machine, view } = this;
-    if (board === this.shown) return;
-    const kept = board.state ? board.kept : await this.openJournal(board.key), journal = board.state ? null : await kept.read();
-    await this.atRest();
-    this.keepLooks();
+    const { desk, machine } = this;
+    if (board === this.shown || !this.list.includes(board)) return;
+    const journal = board.state ? null : await board.kept.read();
+    await machine.atRest();
+    desk.keepLooks();
     this.park();
+    Object.assign(board, { shown: this.now() });
     this.shown = board;
-    this.wanted = null;
-    for (const name of [...view.pictures.keys()]) view.forget(name);
     if (board.state) {
       Object.assign(machine, { state: board.state, link: board.link, kept: board.kept });
-      view.number = 0;
-      view.isWhole = true;
-      view.show(board.view);
+      desk.show(board.view);
+      // (what was given to it meanwhile begins)
+      machine.send({ kind: "setting", changes: {} });
       machine.draw();
     } else {
-      Object.assign(board, { kept });
-      Object.assign(machine, { state: firstState(), link: null, kept });
-      machine.send({ kind: "begin", kept: journal, contents: null });
+      desk.show(null);
+      Object.assign(machine, { state: firstState(), link: null, kept: board.kept });
+      machine.send({ kind: "begin", kept: journal, contents: board.hasContents ? desk.contents() : null });
+      this.tellLost();
       await this.begin();
     }
-    this.keepRegistry();
-    this.draw();
+    machine.await(board.kept.keepLooks());
+    this.holding.tell();
+    desk.changed();
   }
 
   // Starts the station of a board that was not shown yet.
   async begin() {
     const { machine } = this;
     try {
-      await this.openStation();
+      await this.desk.openStation();
       machine.send({ kind: "started" });
     } catch (fault) {
       machine.send({ kind: "stopped", why: faultWords(fault) });
@@ -161,39 +253,72 @@ export class Boards {
     this.park();
   }
 
-  // Done when nothing is under way in the board that is shown, no refused file of it is tried, and its station does not just begin:
-  // what is answered then would be taken for an answer to another board.
-  atRest() {
-    const { machine } = this;
-    /** @param {Page.State} state */
-    const isAtRest = (state) => isIdle(state) && (state.station.isOpen || state.station.why !== null);
-    return new Promise((done) => {
-      const look = () => isAtRest(machine.state) && machine.inbox.length === 0 ? done() : setTimeout(look, 5);
-      look();
-    });
+  // A board is in no tab any more, and its lock is free.
+  /** @param {Page.Board} board */
+  drop(board) {
+    this.list = this.list.filter((other) => other !== board);
+    board.link?.end("closed");
+    board.kept.isLost = true;
+    this.holding.letGo(board.key);
+    this.holding.tell();
+    this.desk.changed();
   }
 
   // The board that is shown was closed: its tab goes, where there is another one, but not with what was opened in it meanwhile.
   left() {
-    if (this.visible.length < 2) return this.draw();
+    if (this.list.length < 2) return this.desk.changed();
     return this.inTurn(async () => {
-      await this.atRest();
-      if (!isBlank(this.machine.state)) return this.draw();
-      const gone = this.shown, at = this.visible.indexOf(gone), next = this.visible[at + 1] ?? this.visible[at - 1];
+      await this.machine.atRest();
+      const gone = this.shown, at = this.list.indexOf(gone), next = this.list[at + 1] ?? this.list[at - 1];
+      if (!next || !isBlank(this.machine.state)) return this.desk.changed();
       await this.change(next);
-      if (gone === this.list[0]) this.isFirstGone = true;
-      else {
-        this.list = this.list.filter((board) => board !== gone);
-        gone.link?.end("closed");
-        gone.kept.forget();
-      }
-      this.keepRegistry();
-      this.draw();
+      if (!isBlank(gone.state)) return this.change(gone);
+      const isGone = await gone.kept.forget();
+      this.drop(gone);
+      if (!isGone) this.say(`The browser could not delete what it kept of ${nameOf(gone)}.`, true);
+      return undefined;
     });
   }
 
+  /** @param {string} text @param {boolean} isFault */
+  say(text, isFault = false) {
+    this.machine.send({ kind: "say", text, isFault });
+  }
+
+  // Opens a board of the browser that no window has, or takes one over from another window.
+  /** @param {string} key */
+  adopt(key) {
+    return adopt(this, key);
+  }
+
+  /** @param {string} key */
+  takeOver(key) {
+    return takeOver(this, key);
+  }
+
+  // What the browser kept was deleted.
+  lost() {
+    for (const { kept } of this.list) kept?.lose();
+  }
+
+  // That what is kept of a board was deleted, or taken, before the board began was told to nobody.
+  tellLost() {
+    const { isLost, why } = this.shown.kept;
+    if (isLost) this.machine.send({ kind: "lost", why });
+  }
+
+  // What is heard of a journal.
+  /** @type {Page.Warn} */
+  hear(event, kept) {
+    if (event.isTaken) stolen(this, kept.key);
+    const { isTaken, ...lost } = event;
+    if (kept === this.machine.kept) this.machine.send(lost);
+    else this.happened((board) => board.kept === kept, lost);
+    return isTaken;
+  }
+
   // What happens to a board that is not shown: its station stops, or what is kept of it is deleted.
-  /** @param {(board: Page.Board) => boolean} isOf @param {Page.Event} event */
+  /** @param {(board: Page.Board) => boolean} isOf @param {Machine.Event} event */
   happened(isOf, event) {
     const board = this.list.find((other) => other !== this.shown && other.state && isOf(other));
     if (board) board.state = step(board.state, event).state;
@@ -204,25 +329,8 @@ export class Boards {
     return this.list.reduce((sum, board) => sum + (board === this.shown ? 0 : board.state?.unsaved ?? 0), 0);
   }
 
-  // Forgets what is kept of all of them but the one that is shown.
-  async forgetOthers() {
-    for (const board of this.list) {
-      if (board === this.shown) continue;
-      const kept = board.kept ?? await this.openJournal(board.key);
-      await kept.clear();
-    }
-  }
-
-  draw() {
-    const { visible, shown } = this, chosen = this.wanted ?? shown;
-    byId("tabs").hidden = visible.length < 2;
-    redraw(byId("tabs"), ...visible.map((board) => {
-      const title = (board === shown ? titleOf(this.machine.state) : board.title) ?? `board ${board.number}`;
-      return button(title, () => this.show(board), { role: "tab", "aria-selected": String(board === chosen), "data-row": board.key, title });
-    }));
-  }
-
-  listen() {
-    this.machine.panel(({ layers }) => [layers.map(({ file, label }) => file ?? label).join("\n")], () => this.draw());
+  // Forgets what is kept of the boards of this window.
+  async forgetAll() {
+    for (const { kept } of this.list) await kept.forget();
   }
 }

@@ -1,23 +1,27 @@
-// The actions of the page by their names and keys.
+// The table of all commands: each with its group, its label, its keys, what it does, and why it cannot be done now. Buttons, keys,
+// the list of commands and the page of keys are made from it.
 
 import { act, showKeys } from "./actions.js";
 import { activeBy } from "./layer_panel.js";
 import { byId } from "./dom.js";
 import { changeLook, changeUnit } from "./looks.js";
-import { drawingTools } from "./drawing_tools.js";
+import { drawingTools, isBlank } from "../machine/index.js";
+import { openExample } from "./example.js";
+import { noLayer, noTool, nothingDone, nothingOpen, nothingPicked, nothingToCompare, nothingUndone } from "./reasons.js";
 import { pileOf } from "./pointer.js";
 import { raise } from "./layer_settings.js";
 import { askForScript } from "./saving.js";
 import { nameArranging } from "./arranging.js";
 import { nameLooking } from "./looking.js";
+import { nameTelling } from "./telling_actions.js";
+import { switchBoard } from "./board_view.js";
 
 // What a key does to what is picked, and else to the view.
 /** @param {Page.Parts} page @param {number} x @param {number} y */
-const step = ({ machine, view }, x, y) => (event) => {
+const step = ({ machine, view, held }, x, y) => (event) => {
   const { grid, picked, work, queue } = machine.state, length = grid * (event.shiftKey ? 10 : 1), way = view.wayOf(x, -y);
-  if (picked.length || work || queue.length) {
-    return machine.gesture({ kind: "edit", verb: "move", dx: way.x * length, dy: way.y * length });
-  }
+  // (where something is under way, what is picked is known when its turn comes)
+  if (picked.length || work || queue.length) return held.stroke(way.x * length, way.y * length);
   const pixels = 80 * view.density;
   return view.pan(-x * pixels, y * pixels);
 };
@@ -29,38 +33,40 @@ function nameFiles({ machine, boards }) {
   const ask = (kind) => () => machine.send({ kind: "ask", question: { kind } });
   act("open", "Files", "Open files", ["Ctrl+o"], () => byId("files").click());
   act("open-folder", "Files", "Open a folder", ["Ctrl+Shift+o"], () => byId("folder").click());
-  act("save", "Files", "Save all layers", ["Ctrl+s"], () => machine.gesture({ kind: "save" }));
-  act("save-layer", "Files", "Save this layer", ["Ctrl+Shift+s"], () => machine.gesture({ kind: "save", name: state().active }));
-  act("save-whole", "Files", "Save all layers with attributes", [], () => machine.gesture({ kind: "save", isWhole: true }));
+  act("example", "Files", "Try an example: a small board", [], () => machine.await(openExample(machine, boards)));
+  act("save", "Files", "Save all layers", ["Ctrl+s"], () => machine.gesture({ kind: "save" }), noLayer);
+  act("save-layer", "Files", "Save this layer", ["Ctrl+Shift+s"], () => machine.gesture({ kind: "save", name: state().active }), noLayer);
+  act("save-whole", "Files", "Save all layers with attributes", [], () => machine.gesture({ kind: "save", isWhole: true }), noLayer);
   act("save-layer-whole", "Files", "Save this layer with attributes", [],
-    () => machine.gesture({ kind: "save", name: state().active, isWhole: true }));
+    () => machine.gesture({ kind: "save", name: state().active, isWhole: true }), noLayer);
   act("plot", "Files", "Save a plot", ["Ctrl+p"], () => state().layers.length ? ask("plot")()
-    : machine.send({ kind: "say", text: "No layer is open.", isFault: true }));
-  act("give", "Files", "Save a picture in colours", ["Shift+p"], ask("give"));
+    : machine.send({ kind: "say", text: "No layer is open.", isFault: true }), noLayer);
+  act("give", "Files", "Save a picture in colours", ["Shift+p"], ask("give"), nothingOpen);
   act("save-script", "Files", "Save the script with its files", ["Ctrl+e"], () => askForScript(machine));
-  act("close-layer", "Files", "Close the chosen layer", [], () => machine.gesture({ kind: "close", name: state().active }));
+  act("close-layer", "Files", "Close the chosen layer", [], () => machine.gesture({ kind: "close", name: state().active }), noLayer);
   act("new-board", "Files", "Another board, in a tab of its own", [], () => boards.add());
-  act("close-board", "Files", "Close the board", [], () => machine.gesture({ kind: "closeAll" }));
+  act("close-board", "Files", "Close the board", [], () => machine.gesture({ kind: "closeAll" }),
+    (now) => isBlank(now) && boards.list.length < 2 ? "No board is open." : null);
   act("anew", "Files", "Start over", [], ask("anew"));
 }
 
 /** @param {Page.Parts} page */
 function nameEdits(page) {
   const { machine } = page, edit = (verb, more = {}) => () => machine.gesture({ kind: "edit", verb, ...more });
-  act("undo", "Edit", "Undo", ["Ctrl+z"], edit("undo"));
-  act("redo", "Edit", "Redo", ["Ctrl+y", "Ctrl+Shift+z"], edit("redo"));
-  act("delete", "Edit", "Delete what is picked", ["Delete", "Backspace"], edit("delete"));
-  act("copy", "Edit", "Copy", ["Ctrl+c"], () => machine.gesture({ kind: "copy" }));
+  act("undo", "Edit", "Undo", ["Ctrl+z"], edit("undo"), nothingDone);
+  act("redo", "Edit", "Redo", ["Ctrl+y", "Ctrl+Shift+z"], edit("redo"), nothingUndone);
+  act("delete", "Edit", "Delete what is picked", ["Delete", "Backspace"], edit("delete"), nothingPicked);
+  act("copy", "Edit", "Copy", ["Ctrl+c"], () => machine.gesture({ kind: "copy" }), nothingPicked);
   act("paste", "Edit", "Paste into the chosen layer", ["Ctrl+v"], () => {
     const far = 10 * machine.state.grid;
     return machine.gesture({ kind: "edit", verb: "paste", dx: far, dy: far });
-  });
+  }, ({ copied }) => copied.length ? null : "Nothing was copied.");
   act("pick-all", "Edit", "Pick all items of the chosen layer", ["Ctrl+a"],
-    () => machine.gesture({ kind: "picks", all: machine.state.active }));
-  act("dark", "Edit", "Make dark", ["d"], edit("polarity", { value: "dark" }));
-  act("clear", "Edit", "Make clear", ["x"], edit("polarity", { value: "clear" }));
-  act("earlier", "Edit", "One place earlier in the list", ["["], edit("reorder", { by: -1 }));
-  act("later", "Edit", "One place later in the list", ["]"], edit("reorder", { by: 1 }));
+    () => machine.gesture({ kind: "picks", all: machine.state.active }), noLayer);
+  act("dark", "Edit", "Make dark", ["d"], edit("polarity", { value: "dark" }), nothingPicked);
+  act("clear", "Edit", "Make clear", ["x"], edit("polarity", { value: "clear" }), nothingPicked);
+  act("earlier", "Edit", "One place earlier in the list", ["["], edit("reorder", { by: -1 }), nothingPicked);
+  act("later", "Edit", "One place later in the list", ["]"], edit("reorder", { by: 1 }), nothingPicked);
   for (const [key, x, y, words] of /** @type {const} */ ([["ArrowLeft", -1, 0, "left"], ["ArrowRight", 1, 0, "right"],
     ["ArrowUp", 0, 1, "up"], ["ArrowDown", 0, -1, "down"]])) {
     act(`step-${words}`, "Edit", `Move ${words} what is picked, with Shift ten steps; else the view`,
@@ -77,7 +83,7 @@ function nameTools({ machine, view, pointer, marks, panels }) {
   act("measure", "Tools", "Measure", ["m"], tool("measure"));
   act("net", "Tools", "Net: light what hangs together", ["n"], tool("net"));
   for (const [name, key] of [["flash", "1"], ["draw", "2"], ["arc", "3"], ["region", "4"], ["hit", "5"], ["rout", "6"]]) {
-    act(name, "Tools", drawingTools[name].label, [key], tool(name));
+    act(name, "Tools", drawingTools[name].label, [key], tool(name), noTool(name));
   }
   act("end", "Tools", "End a region or a rout", ["Enter"], () => machine.send({ kind: "endMaking" }));
   act("escape", "Tools", "Let go", ["Escape"], () => {
@@ -89,7 +95,7 @@ function nameTools({ machine, view, pointer, marks, panels }) {
   act("pick-under", "Tools", "Pick under the pointer, again for the item below", [" "], () => {
     const at = pointer.last ?? { x: view.canvas.width / 2, y: view.canvas.height / 2 };
     return machine.gesture({ kind: "pickAt", ...pointer.under(at), reach: 8 * view.density * view.pitch, isAdded: false,
-      pile: pileOf(machine.state) });
+      pile: pileOf(machine.state, view.isMirrored) });
   });
 }
 
@@ -120,25 +126,26 @@ function nameGoing({ machine, view, going, keepLooks }) {
 /** @param {Page.Parts} page */
 function nameViews(page) {
   const { machine, view } = page;
-  /** @param {Page.Event} event */
+  /** @param {Machine.Event} event */
   const send = (event) => () => machine.send(event);
   /** @param {number} factor */
   const zoomBy = (factor) => () => view.zoom(factor, view.canvas.width / 2, view.canvas.height / 2);
-  act("fit", "View", "Show the whole board", ["0"], () => machine.gesture({ kind: "fit" }));
-  act("fit-picked", "View", "Show what is picked", ["f"], send({ kind: "showPicked" }));
+  act("fit", "View", "Show the whole board", ["0"], () => machine.gesture({ kind: "fit" }), nothingOpen);
+  act("fit-picked", "View", "Show what is picked", ["f"], send({ kind: "showPicked" }), nothingPicked);
   act("zoom-in", "View", "Closer", ["+", "="], zoomBy(1.5));
   act("zoom-out", "View", "Farther", ["-"], zoomBy(1 / 1.5));
   act("only", "View", "Show the chosen layer alone, or those before", ["o"],
-    () => machine.send({ kind: "only", name: machine.state.active }));
-  act("toggle", "View", "Show or hide the chosen layer", ["t"], send({ kind: "toggle" }));
-  act("all", "View", "Show all layers", ["a"], send({ kind: "show", name: null, isShown: true }));
-  act("none", "View", "Hide all layers", [], send({ kind: "show", name: null, isShown: false }));
-  act("layer-up", "View", "Choose the layer above", ["PageUp"], () => activeBy(machine, 1));
-  act("layer-down", "View", "Choose the layer below", ["PageDown"], () => activeBy(machine, -1));
-  act("raise", "View", "The chosen layer up in the pile", ["Shift+PageUp"], () => raise(machine, 1));
-  act("lower", "View", "The chosen layer down in the pile", ["Shift+PageDown"], () => raise(machine, -1));
-  act("compare", "View", "Compare with before the last step, or go back", ["b"],
-    () => machine.gesture({ kind: "compare", back: 1 }));
+    () => machine.send({ kind: "only", name: machine.state.active }), noLayer);
+  act("toggle", "View", "Show or hide the chosen layer", ["t"], send({ kind: "toggle" }), noLayer);
+  act("all", "View", "Show all layers", ["a"], send({ kind: "show", name: null, isShown: true }), noLayer);
+  act("none", "View", "Hide all layers", [], send({ kind: "show", name: null, isShown: false }), noLayer);
+  act("layer-up", "View", "Choose the layer above", ["PageUp"], () => activeBy(machine, 1), noLayer);
+  act("layer-down", "View", "Choose the layer below", ["PageDown"], () => activeBy(machine, -1), noLayer);
+  act("raise", "View", "The chosen layer up in the pile", ["Shift+PageUp"], () => raise(machine, 1), noLayer);
+  act("lower", "View", "The chosen layer down in the pile", ["Shift+PageDown"], () => raise(machine, -1), noLayer);
+  act("board", "View", "The side of the board as it will be made, or the layers again", ["b"], () => switchBoard(machine), noLayer);
+  act("compare", "View", "Compare with before the last step, or go back", ["Shift+c"],
+    () => machine.gesture({ kind: "compare", back: 1 }), nothingToCompare);
   act("copy-point", "View", "Copy the point under the pointer, in nm", ["c"], () => copyPoint(page));
   act("unit", "View", "The next unit: mm, inch, mil", ["u"], () => changeUnit(machine));
   act("look", "View", "Dark or light", ["l"], () => {
@@ -156,9 +163,11 @@ export function nameActions(page) {
   nameViews(page);
   nameGoing(page);
   nameLooking(page);
+  nameTelling(page);
   act("line", "Help", "Type a line of the script", [":"], () => {
     page.panels.unfold("foot");
     byId("line").focus();
   });
+  act("palette", "Help", "All commands by their names", ["Ctrl+k"], () => page.palette.open());
   act("keys", "Help", "All keys", ["?", "F1"], showKeys);
 }

@@ -34,7 +34,7 @@ export class ComparingView {
   }
 
   // The pictures of the window around both are shown again.
-  /** @param {Page.Comparison} comparison */
+  /** @param {Machine.Comparison} comparison */
   showWhole(comparison) {
     this.tried = "";
     if (comparison.sheets) this.machine.send({ kind: "setting", changes: { comparison: { ...comparison, sheets: null, view: "", window: null } } });

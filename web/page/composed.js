@@ -79,7 +79,7 @@ export class Composed {
     return boxes.filter((box) => box[2] > 0 && box[3] > 0);
   }
 
-  /** @param {Page.Context} context @param {Page.Frame} view */
+  /** @param {Board.Context} context @param {Page.Frame} view */
   draw(context, view) {
     const { shown } = this, { width, height } = view;
     if (!shown) return;

@@ -17,7 +17,7 @@ const readAll = (list) => Promise.all((list ?? []).map(read));
 
 // The page's contents, { title, id, files, lines, pictures, window } as web/building/contents.js has them; null where
 // there are none.
-/** @param {string} text @returns {Promise<Page.Contents | null>} */
+/** @param {string} text @returns {Promise<Machine.Contents | null>} */
 export async function contentsOf(text) {
   const contents = JSON.parse(text);
   if (!contents) return null;

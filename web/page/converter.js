@@ -1,5 +1,5 @@
-// Conversions of refused files, in a worker of their own, so that the page never waits for them. The worker is started when
-// something is to be converted, and ended where it is at work and nobody waits for it any more.
+// Conversions of refused files, and archives that are unpacked, in a worker of their own, so that the page never waits for them. The
+// worker is started when there is something to do, and ended where it is at work and nobody waits for it any more.
 
 import { Link } from "./station.js";
 import { byId } from "./dom.js";
@@ -11,14 +11,14 @@ export class Converter {
     this.count = 0;
   }
 
-  // What `kind` of web/page/converting_worker.js answers to a message; it fails where the worker ends before.
-  /** @template T @param {string} kind @param {object} message @returns {Promise<T>} */
-  async call(kind, message) {
+  // What `kind` of web/worker/converting_worker.js answers to a message; it fails where the worker ends before.
+  /** @template T @param {string} kind @param {object} message @param {Transferable[]} over @returns {Promise<T>} */
+  async call(kind, message, over = []) {
     this.link ??= this.start();
     const { link } = this;
     this.count++;
     try {
-      return await link.call(kind, message);
+      return await link.call(kind, message, over);
     } finally {
       if (this.link === link) this.count--;
     }

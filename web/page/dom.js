@@ -1,6 +1,6 @@
 // The elements of the page. What comes of a file becomes text, and never HTML.
 
-import { short } from "./units.js";
+import { short } from "../board/index.js";
 
 // Letters of what happened, so that the words of a long item are not laid out in the one line that they have.
 const MOST_TOLD = 1000;

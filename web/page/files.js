@@ -1,8 +1,19 @@
 // Files that are opened or dropped: their names and bytes, for the machine.
 
+import { Converter } from "./converter.js";
+import { HEAD, kindOf } from "../board/index.js";
 import { byId } from "./dom.js";
-import { faultWords } from "./kept.js";
-import { withUnpacked } from "./unpacking.js";
+import { faultWords } from "./store.js";
+import { isArchive, withUnpacked } from "../zip/index.js";
+import { isNetlist } from "../nets/index.js";
+import { isPbm } from "../bytes/index.js";
+
+// Archives are unpacked in a worker, so that the page never waits for them.
+const unpacking = new Converter();
+
+/** @type {import("../zip/index.js").Unpack} */
+export const unpackedApart = (bytes, archive) => unpacking.call("unpack", { bytes, archive }, [bytes.buffer]).catch((fault) =>
+  ({ files: [], faults: [`${archive} is not read: what unpacks it ended (${faultWords(fault)}).`] }));
 
 /**
  * What was dropped: a file, or a folder by its entry, and by its handle where the browser has one.
@@ -75,12 +86,23 @@ async function readDropped(list) {
   return { ...await readAll(files, faults), areNamed: !list.some(({ isFolder }) => isFolder) };
 }
 
+// A file of more bytes is read whole only where its first ones are those of something that the page opens.
+const LARGE = 2 ** 25;
+
+/** @param {Uint8Array} head */
+const isOfBoard = (head) => kindOf(head) !== null || isArchive(head) || isPbm(head) || isNetlist(head);
+
+/** @param {Blob} part */
+const bytesOf = async (part) => new Uint8Array(await part.arrayBuffer());
+
 /** @param {File[]} files @param {string[]} faults */
 export async function readAll(files, faults = []) {
   const read = [];
   for (const file of files) {
     try {
-      read.push({ name: file.name, bytes: new Uint8Array(await file.arrayBuffer()) });
+      const isRead = file.size <= LARGE || isOfBoard(await bytesOf(file.slice(0, HEAD)));
+      if (isRead) read.push({ name: file.name, bytes: await bytesOf(file) });
+      else faults.push(`${file.name} begins as no layer does, and has ${Math.round(file.size / 1e6)} MB, so it is not read.`);
     } catch {
       faults.push(`${file.name} cannot be read.`);
     }
@@ -107,19 +129,23 @@ function listenToDrags() {
   document.addEventListener("drop", () => show(false));
 }
 
-// `take` takes what is no layer and no picture out of the files that are opened, and gives the others back.
-/** @param {Page.Runner} machine @param {(files: Page.File[]) => Page.File[]} take */
-export function listenToFiles(machine, take = (files) => files) {
+// `take` takes what is no layer and no picture out of the files that are opened in the board that is shown, and gives the others
+// back. What is given to a board is opened in that board, whichever is shown when it is read.
+/** @param {Page.Runner} machine @param {import("./boards.js").Boards} boards @param {(files: Machine.File[]) => Machine.File[]} take */
+export function listenToFiles(machine, boards, take = (files) => files) {
   // One after another, in the order in which they were given.
   let last = Promise.resolve();
-  /** @param {Promise<{ files: Page.File[], faults: string[], areNamed: boolean }>} reading */
+  /** @param {Promise<{ files: Machine.File[], faults: string[], areNamed: boolean }>} reading */
   const inTurn = (reading) => {
+    // (none is shown while the page still looks which boards there are: it is the one that is shown first)
+    const board = boards.shown ?? { reading: 0 };
+    board.reading = (board.reading ?? 0) + 1;
     last = last.then(async () => {
-      const read = await reading, { files, faults, isAny } = await withUnpacked(read.files), all = [...read.faults, ...faults];
-      const rest = take(files);
+      const read = await reading, { files, faults, isAny } = await withUnpacked(read.files, unpackedApart), all = [...read.faults, ...faults];
+      const isShown = !("key" in board) || board === boards.shown, rest = isShown ? take(files) : files;
       // The files of an archive are opened as those of a folder.
-      if (rest.length || all.length || !files.length) machine.open(rest, read.areNamed && !isAny, all);
-    }).catch((fault) => machine.send({ kind: "fault", why: faultWords(fault) }));
+      if (rest.length || all.length || !files.length) boards.take(isShown ? boards.shown : /** @type {Page.Board} */ (board), { files: rest, areNamed: read.areNamed && !isAny, faults: all });
+    }).catch((fault) => machine.send({ kind: "fault", why: faultWords(fault) })).then(() => { board.reading--; });
     machine.await(last);
   };
   /** @param {HTMLInputElement} input @param {boolean} areNamed */

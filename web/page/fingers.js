@@ -9,9 +9,9 @@ export class Fingers {
   constructor(view, held) {
     this.view = view;
     this.held = held;
-    /** @type {Map<number, Page.Point>} */
+    /** @type {Map<number, Board.Point>} */
     this.places = new Map();
-    /** @type {{ point: Page.Point, pitch: number, span: number } | null} */
+    /** @type {{ point: Board.Point, pitch: number, span: number } | null} */
     this.pinch = null;
     this.timer = 0;
   }
@@ -20,7 +20,7 @@ export class Fingers {
     return this.places.size;
   }
 
-  /** @param {number} id @param {Page.Point} at */
+  /** @param {number} id @param {Board.Point} at */
   put(id, at) {
     this.rest();
     this.places.set(id, at);
@@ -45,7 +45,7 @@ export class Fingers {
   }
 
   // Whether the fingers pinch, of which one was moved.
-  /** @param {number} id @param {Page.Point} at */
+  /** @param {number} id @param {Board.Point} at */
   move(id, at) {
     if (!this.places.has(id)) return false;
     this.places.set(id, at);

@@ -1,14 +1,13 @@
 // How far two picked items are from one another: to the nm where both have a simple shape, else by their pixels.
 
 import { button, element } from "./dom.js";
-import { gapBetween, shapeOf } from "./shapes.js";
-import { lengthText, point } from "./units.js";
+import { gapBetween, lengthText, point, shapeOf } from "../board/index.js";
 
 // So many pairs of sides are looked at, since that is done whenever two items are picked; more are left to the pixels.
 const PAIRS = 4e6;
 
 // The gap of two picks by their shapes: { distance, from, to }; null where they have none that is simple.
-/** @param {Page.State} state */
+/** @param {Machine.State} state */
 function exactOf({ picked, entries }) {
   const shapes = picked.map(({ name, words }) => shapeOf(words, entries[name]));
   return shapes.includes(null) || shapes[0].sides.length * shapes[1].sides.length > PAIRS ? null : gapBetween(shapes[0], shapes[1]);
@@ -16,7 +15,7 @@ function exactOf({ picked, entries }) {
 
 // What is known of the gap: { distance, from, to } with `pitch` where it is of pixels; undefined where it was not asked, null where
 // it cannot be told.
-/** @param {Page.State} state */
+/** @param {Machine.State} state */
 function gapOf(state) {
   if (state.picked.length !== 2) return undefined;
   return exactOf(state) ?? (state.gap?.picked === state.picked ? state.gap.found : undefined);
@@ -24,16 +23,16 @@ function gapOf(state) {
 
 /**
  * The line of the gap, to be shown on the board; null where there is none.
- * @param {Page.State} state
+ * @param {Machine.State} state
  */
 export function gapLine(state) {
   const found = gapOf(state);
   return found && found.distance > 0 ? found : null;
 }
 
-/** @param {Page.Gap} gap @param {string} unit */
+/** @param {Board.Gap} gap @param {string} unit */
 function wordsOf({ distance, pitch, from, to }, unit) {
-  /** @param {Page.Pair} point */
+  /** @param {Board.Pair} point */
   const at = ([x, y]) => point(Math.round(x), Math.round(y), unit);
   const between = `between ${at(from)} and ${at(to)}`;
   /** @param {number} nm */
@@ -47,7 +46,7 @@ function wordsOf({ distance, pitch, from, to }, unit) {
 /**
  * The parts of the panel of what is picked that tell the gap of two items.
  * @param {Page.Runner} machine
- * @param {Page.State} state
+ * @param {Machine.State} state
  */
 export function gapParts(machine, state) {
   const found = gapOf(state);

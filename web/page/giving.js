@@ -2,17 +2,17 @@
 // station's own picture of each shown layer.
 
 import { element, field } from "./dom.js";
-import { lengthIn, mm, plural, seen } from "./units.js";
-import { inkPngOf } from "./packing.js";
+import { lengthIn, mm, plural, seen } from "../board/index.js";
+import { inkPngOf } from "../zip/index.js";
 import { download } from "./saving.js";
-import { shownLayers } from "./machine/state.js";
+import { pileSeen, shownLayers } from "../machine/index.js";
 
 // The view is given away when it is drawn, and for that the page waits so long: a person is told rather than kept waiting for
 // a drawing that takes longer.
 const PATIENCE_MS = 20000;
 
 // What is asked: which of the two, and of the SVG at which pitch.
-/** @param {Page.State} state @returns {Page.Dialogue} */
+/** @param {Machine.State} state @returns {Page.Dialogue} */
 export function giveQuestion(state) {
   const { unit } = state, dots = element("input", { type: "text", value: "1000", inputMode: "decimal" });
   const form = element("select", {}, element("option", { value: "png" }, "PNG of the view, at the screen's pixels"),
@@ -70,7 +70,7 @@ const SHARP = "image-rendering:optimizeSpeed;image-rendering:pixelated";
 // An SVG of pictures over each other: { left, low, pitch, width, height } in nm and pixels, the colour of the board, and of each
 // layer { label, colour, opacity, png }.
 /**
- * @param {Page.Area} window
+ * @param {Machine.Area} window
  * @param {string} board
  * @param {{ label: string, colour: string, opacity: number, png: Uint8Array }[]} layers
  * @param {boolean} isMirrored
@@ -88,10 +88,10 @@ export function svgOf({ left, low, pitch, width, height }, board, layers, isMirr
 }
 
 // The shown layers as SVG: `pictures` are the raw PBM files of the station, from the lowest layer up, in a window.
-/** @param {Page.View} view @param {Page.Pictures} given */
+/** @param {Page.View} view @param {Machine.Pictures} given */
 export async function giveSvg(view, { layers: names, window, pictures }) {
   const isLight = document.documentElement.dataset.look === "light", layers = [];
-  for (const layer of shownLayers(view.state)) {
+  for (const layer of pileSeen(shownLayers(view.state), view.isMirrored)) {
     const bytes = pictures[names.indexOf(layer.name)];
     if (!bytes) continue;
     const colour = seen(layer.colour, isLight);

@@ -1,6 +1,6 @@
 // Going to a place: a point that is typed, and links to a place in the page's address, with a mark there that fades.
 
-import { BOARD, NM_PER_MM, mm, pointIn } from "./units.js";
+import { BOARD, NM_PER_MM, mm, pointIn } from "../board/index.js";
 import { element, field } from "./dom.js";
 
 // The mark lasts long enough for an eye to find it, and is so large in pixels of the page.
@@ -26,7 +26,7 @@ export const linkOf = ({ x, y, zoom, isMirrored, quarters = 0 }) =>
   `#${mm(x)},${mm(y)},${Number(zoom.toFixed(4))}${isMirrored ? ",below" : ""}${quarters ? `,turned${90 * quarters}` : ""}`;
 
 // The question for a point.
-/** @param {Page.State} state @param {Page.Question} question @param {Page.Allow} allow @returns {Page.Dialogue} */
+/** @param {Machine.State} state @param {Machine.Question} question @param {Page.Allow} allow @returns {Page.Dialogue} */
 export function goQuestion({ unit }, question, allow) {
   const input = element("input", { type: "text", spellcheck: false, placeholder: "x, y", autofocus: true,
     "aria-label": `x, y in ${unit}` });
@@ -50,7 +50,7 @@ export class Going {
     this.machine = machine;
     this.view = view;
     // The mark: where it is, and since when. The place of a link that was read before a board was open.
-    /** @type {(Page.Point & { since: number }) | null} */
+    /** @type {(Board.Point & { since: number }) | null} */
     this.mark = null;
     /** @type {Page.Goal | null} */
     this.later = null;
@@ -120,7 +120,7 @@ export class Going {
   }
 
   // Shows all where the view has none of the boxes of what is shown; whether it has not.
-  /** @param {Page.ToPage["seek"]} found */
+  /** @param {Machine.ToPage["seek"]} found */
   seek({ boxes, whole }) {
     const { isLed, view } = this;
     this.isLed = false;
@@ -151,7 +151,8 @@ export class Going {
     if (left <= 0) return;
     const { x, y } = view.placeOf(mark.x, mark.y), size = MARK * density;
     context.save();
-    context.globalAlpha = left;
+    // (it fades but for those who want nothing that moves)
+    context.globalAlpha = matchMedia("(prefers-reduced-motion: reduce)").matches ? 1 : left;
     context.strokeStyle = getComputedStyle(view.canvas).getPropertyValue("--ink-new");
     context.lineWidth = 2 * density;
     context.beginPath();

@@ -1,19 +1,18 @@
 // What a drag has gripped: all that is picked, by one of its points or anywhere, or a handle of the one item that is. It goes by the
 // grid, or to an item that its point snaps to.
 
-import { handlesOf, reshaped } from "./handles.js";
-import { pointsOf } from "./shapes.js";
-import { snapped } from "./units.js";
+import { handlesOf, reshaped } from "../machine/index.js";
+import { pointsOf, snapped } from "../board/index.js";
 
 // Of so many picks the points are looked at, for one that is gripped, so that a press on a large pick is answered at once.
 const MOST = 200;
 
-/** @param {Page.Place} place */
+/** @param {Machine.Place} place */
 const keyOf = ({ name, place }) => `${name} ${place}`;
 
 export class Grip {
   // `handle` is the number of a handle, or null; `from` where the drag begins, in nm.
-  /** @param {Page.State} state @param {number | null} handle @param {Page.Point} from @param {import("./snaps.js").Snaps} snaps */
+  /** @param {Machine.State} state @param {number | null} handle @param {Board.Point} from @param {import("./snaps.js").Snaps} snaps */
   constructor({ picked, entries, grid }, handle, from, snaps) {
     this.handle = handle;
     this.from = from;
@@ -35,7 +34,7 @@ export class Grip {
   }
 
   // The point of what is picked that the pointer is on, null where it is on none.
-  /** @param {Page.Picked[]} picked @param {Page.State["entries"]} entries @returns {Page.Pair | null} */
+  /** @param {Machine.Picked[]} picked @param {Machine.State["entries"]} entries @returns {Board.Pair | null} */
   gripped(picked, entries) {
     const { from: { x, y }, snaps: { reach, isOn } } = this;
     if (!isOn) return null;
@@ -45,13 +44,13 @@ export class Grip {
   }
 
   // Where its point is when the pointer is somewhere.
-  /** @param {Page.Point} at */
+  /** @param {Board.Point} at */
   lookAt({ x, y }) {
     const { point, from } = this;
     return point ? { x: Math.round(point[0] + x - from.x), y: Math.round(point[1] + y - from.y) } : { x, y };
   }
 
-  /** @param {Page.Point} pointer */
+  /** @param {Board.Point} pointer */
   dragTo(pointer) {
     const at = this.lookAt(pointer), { grid, from, point } = this;
     // What is dragged snaps to nothing of itself.
@@ -71,7 +70,7 @@ export class Grip {
   }
 
   // What is done when it is let go.
-  /** @returns {Page.Gesture} */
+  /** @returns {Machine.Gesture} */
   gesture() {
     const { of, shift, words, item } = this;
     return this.isHandle ? { kind: "edit", verb: "reshape", was: item.words, words, of }

@@ -2,9 +2,8 @@
 // and back to the layers.
 
 import { button, byId, element, redraw } from "./dom.js";
-import { FOUND } from "./machine/comparing.js";
-import { layerOf } from "./machine/state.js";
-import { plural, wordsIn } from "./units.js";
+import { FOUND, layerOf } from "../machine/index.js";
+import { plural, wordsIn } from "../board/index.js";
 
 // So many steps are listed: the list is drawn anew with each edit.
 const SHOWN = 200;
@@ -12,7 +11,7 @@ const SHOWN = 200;
 const NEAR = 1_000_000;
 
 // Where a step joined or cut nets: its mark, which leads to the place.
-/** @param {Page.Runner} machine @param {Page.NetChange | undefined} change @param {string[] | undefined} shown */
+/** @param {Page.Runner} machine @param {Machine.NetChange | undefined} change @param {string[] | undefined} shown */
 function markOf(machine, change, shown) {
   if (!change) return [];
   const { kind, words, places: [first] } = change;
@@ -21,7 +20,7 @@ function markOf(machine, change, shown) {
   return [button(kind, lead, { className: "only nets-mark", title: words, "aria-label": `${words}: show where` })];
 }
 
-/** @param {Page.Runner} machine @param {Page.State} state */
+/** @param {Page.Runner} machine @param {Machine.State} state */
 function list(machine, { steps: { done, undone, group }, nets, unit }) {
   const made = done.slice(-SHOWN).map(({ words: told, at: step }, at, all) => {
     const back = all.length - at, words = wordsIn(told, unit);
@@ -39,13 +38,13 @@ function list(machine, { steps: { done, undone, group }, nets, unit }) {
 }
 
 // The layers that differ: each leads there.
-/** @param {Page.Runner} machine @param {Page.State} state @param {Page.Comparison["differing"]} differing */
+/** @param {Page.Runner} machine @param {Machine.State} state @param {Machine.Comparison["differing"]} differing */
 function differingRow(machine, state, differing) {
   return element("li", {}, ...differing.map(({ name, box }) => button(layerOf(state, name)?.label ?? name,
     () => machine.send({ kind: "lead", name, box }), { className: "only", "aria-label": `show where ${name} differs` })));
 }
 
-/** @param {Page.Runner} machine @param {Page.State} state */
+/** @param {Page.Runner} machine @param {Machine.State} state */
 function showCompared(machine, state) {
   const { comparison } = state;
   byId("compared").hidden = comparison === null;

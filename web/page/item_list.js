@@ -1,13 +1,13 @@
 // The items of the active layer with their places, some at a time, and the search for a place.
 
 import { button, byId, element, redraw } from "./dom.js";
-import { layerOf } from "./machine/state.js";
-import { wholeOf } from "./units.js";
+import { layerOf } from "../machine/index.js";
+import { wholeOf } from "../board/index.js";
 
-// As many as the worker lists at once (web/worker/asking.js).
+// As many as the worker lists at once (web/station/asking.js).
 const PAGE = 100;
 
-/** @param {Page.Runner} machine @param {Page.State} state */
+/** @param {Page.Runner} machine @param {Machine.State} state */
 function show(machine, state) {
   const { list, active } = state, layer = layerOf(state, active);
   if (!list.isOpen || !layer || list.name !== active) return byId("items").replaceChildren();

@@ -3,12 +3,9 @@
 import { arrangingRows } from "./arranging.js";
 import { button, byId, element, field, redraw } from "./dom.js";
 import { gapParts } from "./gap_panel.js";
-import { lengthIn, lengthText, plural, short, wholeOf, wordsIn } from "./units.js";
-import { joined } from "./items.js";
-import { layerOf } from "./machine/state.js";
-
-// So many letters of an item's words are shown: all of most items, and of a long region what its panel has room for.
-const MOST_WORDS = 600;
+import { joined, lengthIn, lengthText, plural, wholeOf, wordsIn } from "../board/index.js";
+import { layerOf } from "../machine/index.js";
+import { toldParts } from "./told_parts.js";
 
 /** @param {string} value @param {Record<string, unknown>} properties */
 const input = (value, properties = {}) => element("input", { type: "text", value, spellcheck: false, ...properties });
@@ -32,7 +29,7 @@ function form(label, verb, parts, run) {
 
 // The forms about what is picked act on these picks, and on no others that are picked when their turn comes.
 class PickedForms {
-  /** @param {Page.Runner} machine @param {Page.State} state */
+  /** @param {Page.Runner} machine @param {Machine.State} state */
   constructor(machine, state) {
     this.machine = machine;
     this.state = state;
@@ -58,7 +55,7 @@ class PickedForms {
     });
   }
 
-  /** @param {Page.Picked} item */
+  /** @param {Machine.Picked} item */
   entry(item) {
     const layer = layerOf(this.state, item.name), isDrill = layer.kind === "drill";
     const choice = entryChoice(this.state, item.name, Number(item.words.split(" ")[1]));
@@ -71,7 +68,7 @@ class PickedForms {
       button(value, () => this.edit("polarity", { value }))));
   }
 
-  /** @param {Page.Picked} item */
+  /** @param {Machine.Picked} item */
   reorder(item) {
     const to = input(String(item.place), { inputMode: "numeric", "aria-label": "place in the list" });
     return form("place", "move there", [to], () => {
@@ -82,20 +79,20 @@ class PickedForms {
   }
 }
 
-/** @param {Page.State} state @param {string} name @param {number} chosen */
+/** @param {Machine.State} state @param {string} name @param {number} chosen */
 function entryChoice({ entries, unit }, name, chosen) {
   return element("select", { "aria-label": "aperture or tool" }, ...(entries[name] ?? []).map(({ number, words }) =>
     element("option", { value: number, selected: number === chosen }, `${number}: ${wordsIn(words, unit)}`)));
 }
 
-/** @param {Page.Box | null} box @param {string} unit */
+/** @param {Board.Box | null} box @param {string} unit */
 function sizeWords(box, unit) {
   if (!box) return "It paints nothing.";
   const [width, height, left, low] = [box.right - box.left, box.high - box.low, box.left, box.low].map((nm) => lengthText(nm, unit));
   return `${width} by ${height} ${unit}, from ${left}, ${low}`;
 }
 
-/** @param {Page.Runner} machine @param {Page.State} state */
+/** @param {Page.Runner} machine @param {Machine.State} state */
 function showPicked(machine, state) {
   const items = state.picked, panel = byId("picked");
   if (!items.length) return panel.replaceChildren(element("p", { className: "hint" },
@@ -103,8 +100,7 @@ function showPicked(machine, state) {
       + "that it touches."));
   const [first] = items, isOne = items.length === 1, forms = new PickedForms(machine, state);
   /** @type {HTMLElement[]} */
-  const parts = [element("h3", {}, isOne ? `${first.name} ${first.place}` : plural(items.length, "item"))];
-  if (isOne) parts.push(element("code", { className: "words" }, short(first.words, MOST_WORDS)));
+  const parts = isOne ? toldParts(machine, state, first) : [element("h3", {}, plural(items.length, "item"))];
   parts.push(element("p", { className: "hint" }, sizeWords(joined(items.map((item) => item.box)), state.unit)),
     ...gapParts(machine, state), forms.move());
   const kinds = new Set(items.map((item) => item.words.split(" ")[0]));
@@ -117,7 +113,7 @@ function showPicked(machine, state) {
 }
 
 // The active layer: its apertures or tools, for insertions and diameters, and its attributes.
-/** @param {Page.Runner} machine @param {Page.State} state */
+/** @param {Page.Runner} machine @param {Machine.State} state */
 function showActive(machine, state) {
   const layer = layerOf(state, state.active), panel = byId("active");
   if (!layer) return panel.replaceChildren(element("p", { className: "hint" }, "No layer is open."));
@@ -159,7 +155,7 @@ function attributeParts(machine, name, lines) {
 
 /** @param {Page.Runner} machine */
 export function listenToItems(machine) {
-  machine.panel(({ picked, entries, layers, unit, gap }) => [picked, entries[picked[0]?.name], layers.length, unit, gap],
+  machine.panel(({ picked, entries, layers, unit, gap, inWords, lit }) => [picked, entries[picked[0]?.name], layers.length, unit, gap, inWords, lit],
     (state) => showPicked(machine, state));
   machine.panel((state) => {
     const { active, entries, attributes } = state, layer = layerOf(state, active);

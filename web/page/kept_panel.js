@@ -2,12 +2,12 @@
 // now, a station that stopped, and what failed.
 
 import { button, byId, element, redraw } from "./dom.js";
-import { plural } from "./units.js";
+import { plural } from "../board/index.js";
 
 // So many lines are told one by one, so that the notice does not cover the board.
 const LINES = 5;
 
-/** @param {Page.State["spoiled"]} spoiled */
+/** @param {Machine.State["spoiled"]} spoiled */
 function spoiledWords(spoiled) {
   const told = spoiled.slice(0, LINES).map(({ line, reply }) => `${line} (${reply})`).join("; ");
   const verb = spoiled.length === 1 ? "is" : "are", more = spoiled.length > LINES ? "; .." : "";
@@ -26,7 +26,7 @@ const faultWords = (faults) =>
 /** @typedef {[label: string, run: () => void]} Notice a button of one */
 
 // Each notice with its words and its buttons.
-/** @param {Page.State} state @param {Page.Runner} machine @param {() => void} saveScript */
+/** @param {Machine.State} state @param {Page.Runner} machine @param {() => void} saveScript */
 function notices({ kept, spoiled, station, faults, isLeaving }, machine, saveScript) {
   if (isLeaving) return [];
   /** @type {(label: string, kind: "openAgain" | "keepAgain" | "dismiss") => Notice} */
@@ -44,7 +44,7 @@ function notices({ kept, spoiled, station, faults, isLeaving }, machine, saveScr
 }
 
 // What is under way, where it takes long: a group can be stopped.
-/** @param {Page.State} state */
+/** @param {Machine.State} state */
 function showBusy({ work }) {
   const isGroup = work?.isGroup === true && work.stage === "lines";
   byId("busy").hidden = !isGroup;
@@ -53,7 +53,7 @@ function showBusy({ work }) {
 
 /** @param {Page.Runner} machine @param {() => void} saveScript */
 export function listenToKept(machine, saveScript) {
-  /** @param {Page.State} state */
+  /** @param {Machine.State} state */
   const parts = ({ kept, spoiled, station, faults, isLeaving }) =>
     [kept.why, kept.isOpen, spoiled, station.why, faults, isLeaving];
   machine.panel(parts, (state) => {

@@ -1,10 +1,10 @@
 // The list of layers, the topmost first: shown or not, alone, colour, opacity, and which one insertions go to.
 
 import { button, byId, element, redraw } from "./dom.js";
-import { losses } from "./machine/attributes.js";
-import { plural } from "./units.js";
+import { losses } from "../machine/index.js";
+import { plural } from "../board/index.js";
 
-/** @param {Page.Runner} machine @param {Page.Layer} layer @param {string | null} active */
+/** @param {Page.Runner} machine @param {Machine.Layer} layer @param {string | null} active */
 function row(machine, layer, active) {
   const { name, label, items } = layer, isActive = name === active;
   const shown = element("input", { type: "checkbox", checked: layer.isShown, title: "shown", "aria-label": `${label} is shown` });
@@ -19,7 +19,7 @@ function row(machine, layer, active) {
     title: `${name}: ${plural(items, "item")}, ${layer.origin ?? layer.file ?? ""}`, "aria-pressed": String(isActive) });
   choose.append(element("b", {}, label), element("small", {}, ` ${items.toLocaleString("en")}`));
   const only = button("only", () => machine.send({ kind: "only", name }), { className: "only", title: "show this layer alone",
-    "aria-label": `show ${label} alone` });
+    "aria-label": `show only ${label}` });
   return element("li", { className: isActive ? "active" : "", "data-row": name }, element("label", { className: "target" }, shown),
     colour, choose, opacity, only);
 }
@@ -35,15 +35,12 @@ export function activeBy(machine, by) {
 /** @param {Page.Runner} machine */
 export function listenToLayers(machine) {
   // The list is as it is while a colour or an opacity of it is being chosen.
-  /** @param {Page.State} state */
+  /** @param {Machine.State} state */
   const words = ({ layers }) =>
     layers.map(({ name, label, items, isShown }) => `${name} ${items} ${isShown} ${label}`).join("\n");
   machine.panel((state) => [words(state), state.active], ({ layers, active }) => {
     redraw(byId("layers"), ...layers.map((layer) => row(machine, layer, active)).reverse());
     byId("no-layers").hidden = layers.length > 0;
-  });
-  machine.panel(({ layers, opened }) => [layers.length + opened.length], ({ layers, opened }) => {
-    byId("nothing").hidden = layers.length + opened.length > 0;
   });
   // What the station's text of a layer has not of its file, told before it is saved.
   machine.panel((state) => [state.dropped, words(state)], (state) => {

@@ -1,13 +1,12 @@
 // What a person sets of the chosen layer: its name on the page, what it shows, its place in the pile; and that it is closed.
 
 import { button, byId, element, field, redraw } from "./dom.js";
-import { FUNCTIONS } from "./machine/functions.js";
-import { layerOf } from "./machine/state.js";
+import { FUNCTIONS, layerOf } from "../machine/index.js";
 
 // A name stands in a row of the list.
 const MOST_LETTERS = 80;
 
-/** @param {Page.Runner} machine @param {Page.Layer} layer */
+/** @param {Page.Runner} machine @param {Machine.Layer} layer */
 function nameField(machine, layer) {
   const input = element("input", { type: "text", value: layer.label, maxLength: MOST_LETTERS, spellcheck: false, id: "layer-label" });
   input.onchange = () => {
@@ -18,7 +17,7 @@ function nameField(machine, layer) {
   return field("called", input);
 }
 
-/** @param {Page.Runner} machine @param {Page.Layer} layer */
+/** @param {Page.Runner} machine @param {Machine.Layer} layer */
 function functionField(machine, { name, shows }) {
   const isKnown = FUNCTIONS.some((one) => one.name === shows);
   const choice = element("select", { id: "layer-function" }, ...isKnown ? [] : [element("option", { value: "", selected: true }, "not known")],
@@ -31,7 +30,7 @@ function functionField(machine, { name, shows }) {
 /** @param {Page.Runner} machine @param {number} by @param {string} name */
 export const raise = (machine, by, name = machine.state.active) => machine.send({ kind: "raise", name, by });
 
-/** @param {Page.Runner} machine @param {Page.State} state */
+/** @param {Page.Runner} machine @param {Machine.State} state */
 function show(machine, state) {
   const layer = layerOf(state, state.active), at = state.layers.indexOf(layer);
   byId("layer-panel").hidden = layer === null;
@@ -40,13 +39,13 @@ function show(machine, state) {
   redraw(byId("layer-settings"), nameField(machine, layer), functionField(machine, layer), element("p", { className: "buttons" },
     button("up", () => raise(machine, 1, name), { id: "layer-up", disabled: at === last, "aria-label": `${label} up in the pile` }),
     button("down", () => raise(machine, -1, name), { id: "layer-down", disabled: at === 0, "aria-label": `${label} down in the pile` }),
-    button("close layer", () => machine.gesture({ kind: "close", name }), { id: "layer-close", "aria-label": `close ${label}` })));
+    button("close layer", () => machine.gesture({ kind: "close", name }), { id: "layer-close", "aria-label": `close layer ${label}` })));
 }
 
 /** @param {Page.Runner} machine @param {Page.View} view */
 export function listenToLayerSettings(machine, view) {
   // The pictures of layers that are closed.
-  /** @type {Page.Layer[]} */
+  /** @type {Machine.Layer[]} */
   let before = [];
   machine.panel(({ layers }) => [layers], ({ layers }) => {
     for (const { name } of before) if (!layers.some((layer) => layer.name === name)) view.forget(name);

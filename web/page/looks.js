@@ -1,26 +1,35 @@
 // How the page looks: dark or light, the grid, the unit of lengths, and what is kept of it.
 
 import { byId, element } from "./dom.js";
-import { UNITS, lengthIn, lengthText } from "./units.js";
-import { looksOfState } from "./machine/keeping.js";
+import { UNITS, lengthIn, lengthText } from "../board/index.js";
+import { looksOfState } from "../machine/index.js";
+
+const LIGHT = matchMedia("(prefers-color-scheme: light)");
 
 const isLight = () => document.documentElement.dataset.look === "light";
 
 /** @param {string} look @param {Page.View} view */
-export function setLook(look, view) {
+function showLook(look, view) {
   document.documentElement.dataset.look = look;
   view.change();
+}
+
+// A look that a person chose stays, whatever the system's is; of `""` none was chosen.
+/** @param {string} look @param {Page.View} view */
+export function setLook(look, view) {
+  document.documentElement.dataset.chosen = look;
+  showLook(look || (LIGHT.matches ? "light" : "dark"), view);
 }
 
 /** @param {Page.View} view */
 export const changeLook = (view) => setLook(isLight() ? "dark" : "light", view);
 
 // What is kept beside the journal.
-/** @param {Page.State} state @param {Page.View} view @returns {Page.Looks} */
+/** @param {Machine.State} state @param {Page.View} view @returns {Machine.Looks} */
 export function looksNow(state, view) {
   return {
-    look: document.documentElement.dataset.look, ...looksOfState(state),
-    view: { left: view.left, top: view.top, pitch: view.pitch, isMirrored: view.isMirrored, quarters: view.quarters },
+    look: document.documentElement.dataset.chosen, ...looksOfState(state),
+    view: view.seen, bytes: Object.values(state.files).reduce((sum, { bytes }) => sum + bytes.length, 0),
   };
 }
 
@@ -53,7 +62,8 @@ export function changeUnit(machine) {
 
 /** @param {Page.Runner} machine @param {Page.View} view */
 export function listenToLooks(machine, view) {
-  setLook(matchMedia("(prefers-color-scheme: light)").matches ? "light" : "dark", view);
+  setLook("", view);
+  LIGHT.onchange = () => setLook(document.documentElement.dataset.chosen, view);
   byId("grid").onchange = () => {
     const { unit } = machine.state, grid = lengthIn(byId("grid").value, unit);
     if (grid !== null && grid >= 1) machine.send({ kind: "setting", changes: { grid } });

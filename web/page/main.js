@@ -1,29 +1,36 @@
 // The page: what begins, in which order, and what the machine asks of it.
 
 import { Boards } from "./boards.js";
-import { DEPTH, isBlank, isOpening, scriptText, sessionOf } from "./machine/state.js";
+import { BoardsPanel } from "./boards_panel.js";
+import { DEPTH, isOpening, knowRefusals, scriptText, sessionOf } from "../machine/index.js";
 import { compareChosen, listenToPictures } from "./pictures_panel.js";
 import { contentsOf, unpacked } from "./contents.js";
-import { faultWords, Kept } from "./kept.js";
+import { faultWords } from "./store.js";
+import { browserPlatform } from "./platform.js";
+import { plural, snapped, titleOf } from "../board/index.js";
 import { askForScript, handOut, listenToLeaving, saveScript, saved } from "./saving.js";
-import { listenToButtons, listenToKeys } from "./actions.js";
+import { listenToAble, listenToButtons, listenToKeys } from "./actions.js";
+import { listenToBoardView } from "./board_view.js";
 import { listenToLooks, looksNow, setLook } from "./looks.js";
 import { listenToRefused, tryRefused } from "./refused_files.js";
 import { ComparingView } from "./comparing_view.js";
+import { Face } from "./face.js";
 import { Going } from "./going.js";
+import { HeldMove } from "./held_move.js";
 import { giveSvg, giveView } from "./giving.js";
 import { Link } from "./station.js";
 import { Marks } from "./marks.js";
 import { Menu } from "./menu.js";
 import { NetsPanel } from "./nets_panel.js";
+import { Palette } from "./palette.js";
 import { Panels } from "./panels.js";
 import { Pointer, pileOf } from "./pointer.js";
 import { Runner } from "./runner.js";
+import { StartPanel } from "./start_panel.js";
 import { TablesPanel } from "./tables_panel.js";
 import { View } from "./view.js";
 import { byId, tell } from "./dom.js";
-import { knowRefusals } from "./refusals.js";
-import { listenToFiles } from "./files.js";
+import { listenToFiles, unpackedApart } from "./files.js";
 import { listenToGroups } from "./refused_groups.js";
 import { listenToHistory } from "./history_panel.js";
 import { listenToItemList } from "./item_list.js";
@@ -35,9 +42,8 @@ import { listenToQuestions } from "./questions.js";
 import { listenToScript } from "./script_panel.js";
 import { nameActions } from "./commands.js";
 import { printSheet } from "./printing.js";
-import { readPbm } from "../pbm.js";
-import { withUnpacked } from "./unpacking.js";
-import { plural, snapped } from "./units.js";
+import { readPbm } from "../bytes/index.js";
+import { withUnpacked } from "../zip/index.js";
 
 // Tells the machine that the browser has what is handed out, or why it has not.
 /** @param {number} number @param {() => unknown} run */
@@ -70,7 +76,7 @@ const asked = {
   "put picture": ({ name, file, window }) => machine.link.send({ number: 0, kind: "picture", name,
     picture: readPbm(machine.state.files[file].bytes), line: window }),
   start: () => machine.await(openStation().then(() => machine.send({ kind: "restarted" }), stopped)),
-  anew: () => Promise.all([machine.kept.clear(), boards.forgetOthers()]).finally(() => location.reload()),
+  anew: () => boards.forgetAll().finally(() => location.reload()),
   "board closed": () => boards.left(),
 };
 
@@ -82,15 +88,32 @@ const view = new View(byId("board"), machine, (shown) => machine.link?.send({ nu
 const marks = new Marks(byId("marks"), view, machine);
 const going = new Going(machine, view);
 /** @type {Boards} */
-const boards = new Boards(machine, view, { openStation, keepLooks,
-  openJournal: (key) => Kept.open(`${journal}${key && ` ${key}`}`, hear) });
+const boards = new Boards(machine, browserPlatform(), {
+  openStation, keepLooks: () => keepLooks(), contents: () => contents, changed: () => {
+    panel.draw();
+    startPanel.draw();
+  },
+  seen: () => view.seen,
+  show: (seen) => {
+    for (const name of [...view.pictures.keys()]) view.forget(name);
+    if (!seen) return;
+    view.number = 0;
+    view.isWhole = true;
+    view.show(seen);
+  },
+});
+const panel = new BoardsPanel(machine, boards);
+const startPanel = new StartPanel(machine, boards);
+const face = new Face(machine, view, (picture) => keepLooks(picture));
 const nets = new NetsPanel(machine, view, stationModule);
 view.afterDraw = () => {
   nets.light.paint();
   going.paint();
   marks.paint();
+  face.painted();
 };
 const pointer = new Pointer(machine, view, marks);
+const held = new HeldMove(machine, marks);
 pointer.onNet = (place) => nets.lightAt(place);
 new Menu(machine, view, marks.signs);
 new TablesPanel(machine);
@@ -130,8 +153,9 @@ function showDrawing(far) {
 /** @type {Promise<Uint8Array> | null} */
 let module = null;
 
-// The name under which the browser keeps the work of this page, or of the board in it.
-let journal = "";
+// The board that a tool put into the page.
+/** @type {Machine.Contents | null} */
+let contents = null;
 
 // The station's module, unpacked once; again where that failed.
 function stationModule() {
@@ -168,27 +192,30 @@ const TRIAL = new Uint8Array([0, 97, 115, 109, 1, 0, 0, 0, 1, 4, 1, 96, 0, 0, 3,
   253, 12, ...new Array(16).fill(0), 26, 65, 0, 65, 0, 65, 0, 252, 11, 0, 11]);
 const canRun = () => typeof DecompressionStream === "function" && WebAssembly.validate(TRIAL);
 
-function keepLooks() {
-  if (machine.kept) machine.kept.keepLooks(boards.looks(looksNow(machine.state, view))).then(() => machine.settle());
+function keepLooks(picture = machine.kept?.looks?.face ?? null) {
+  if (!machine.kept) return;
+  boards.shown.title = titleOf(machine.state);
+  const looks = { ...looksNow(machine.state, view), face: machine.state.layers.length ? picture : null };
+  machine.kept.keepLooks(looks).then(() => machine.settle());
 }
 
 function listen() {
   listenToLooks(machine, view);
   listenToLayers(machine);
   listenToLayerSettings(machine, view);
+  listenToBoardView(machine, view);
   listenToHistory(machine, view);
   listenToPictures(machine, view);
   listenToItemList(machine);
   listenToItems(machine);
   listenToRefused(machine);
   listenToGroups(machine);
-  listenToFiles(machine, (files) => nets.take(files));
+  listenToFiles(machine, boards, (files) => nets.take(files));
   listenToScript(machine, view);
   listenToQuestions(machine);
   listenToKept(machine, () => askForScript(machine));
   byId("drawing-stop").onclick = () => machine.link?.send({ number: 0, kind: "halt" });
   listenToLeaving(machine, boards);
-  boards.listen();
   machine.panel(({ said }) => [said], ({ said: { text, isFault } }) => tell(text, isFault));
   machine.panel((state) => [state.layers, state.opened, state.comparison, state.station, isOpening(state)], () => view.change());
   machine.draw();
@@ -196,31 +223,22 @@ function listen() {
 
 // What is kept of the looks is written when it changes, and when the page is hidden.
 function listenToChanges() {
-  machine.panel(({ layers, grid, unit, active, polarity, turn, direction }) => [layers, grid, unit, active, polarity, turn, direction],
-    keepLooks);
-  document.addEventListener("visibilitychange", keepLooks);
+  machine.panel(({ layers, grid, unit, active, polarity, turn, direction, job, made }) =>
+    [layers, grid, unit, active, polarity, turn, direction, job, made],
+    () => keepLooks());
+  document.addEventListener("visibilitychange", () => keepLooks());
   window.addEventListener("unhandledrejection", ({ reason }) => machine.send({ kind: "fault", why: faultWords(reason) }));
   window.addEventListener("error", ({ message }) => machine.send({ kind: "fault", why: message || "an error" }));
 }
 
-// What is heard of a journal. A page in which nothing was done yet, and nothing meanwhile, goes on with what another one had,
-// which was closed, with its boards where it has no others itself.
-/** @type {Page.Warn} */
-async function hear({ isFreed = false, ...event }, kept) {
-  if (kept !== machine.kept) return boards.happened((board) => board.kept === kept, event);
-  const found = isFreed && isBlank(machine.state) ? await machine.kept.succeed() : null;
-  if (!found || !isBlank(machine.state)) return machine.send(event);
-  machine.kept.goOn();
-  if (boards.list.length === 1) boards.know(found.looks?.registry);
-  machine.send({ kind: "begin", kept: found, contents: null });
-  await machine.begun();
-  return boards.restore();
-}
-
 async function start() {
-  const panels = new Panels(), page = { machine, view, marks, pointer, panels, going, boards, keepLooks };
+  const panels = new Panels(), palette = new Palette(machine);
+  const page = { machine, view, marks, pointer, panels, going, boards, held, palette, keepLooks: () => keepLooks() };
   nameActions(page);
+  panel.nameAction();
   listenToButtons();
+  listenToAble(machine);
+  held.listen();
   listenToKeys();
   panels.listen(machine);
   if (!canRun()) return tell(TOO_OLD, true);
@@ -230,15 +248,12 @@ async function start() {
   document.body.inert = false;
   new ResizeObserver(resize).observe(byId("stage"));
   resize();
-  const contents = await contentsOf(byId("contents").textContent.trim());
+  contents = await contentsOf(byId("contents").textContent.trim());
   if (contents?.title) document.title = byId("title").textContent = contents.title;
-  journal = contents?.id ?? "";
-  const opened = await Kept.open(journal, hear);
-  Object.assign(machine, { kept: opened });
-  const kept = await opened.read();
-  Object.assign(opened, { looks: kept.looks });
-  boards.know(kept.looks?.registry);
-  machine.send({ kind: "begin", kept, contents });
+  const words = await boards.open(contents?.id ?? "", contents !== null), { shown } = boards;
+  Object.assign(machine, { kept: shown.kept });
+  machine.send({ kind: "begin", kept: await shown.kept.read(), contents: shown.hasContents ? contents : null });
+  boards.tellLost();
   listenToChanges();
   try {
     await openStation();
@@ -247,7 +262,8 @@ async function start() {
     stopped(fault);
   }
   await machine.begun();
-  await boards.restore();
+  boards.begun();
+  if (words) machine.send({ kind: "say", text: words });
   going.listen();
   document.body.dataset.ready = "yes";
 }
@@ -263,15 +279,15 @@ globalThis.camplot = {
   scriptText: () => scriptText(machine.state),
   run: (lines) => machine.gesture({ kind: "lines", lines, window: view.window() }),
   pickAt: (x, y, reach, isAdded = false) =>
-    machine.gesture({ kind: "pickAt", x, y, reach, isAdded, pile: pileOf(machine.state) }),
-  pickIn: (box, isAdded = false) => machine.gesture({ kind: "pickIn", box, isAdded, pile: pileOf(machine.state) }),
+    machine.gesture({ kind: "pickAt", x, y, reach, isAdded, pile: pileOf(machine.state, view.isMirrored) }),
+  pickIn: (box, isAdded = false) => machine.gesture({ kind: "pickIn", box, isAdded, pile: pileOf(machine.state, view.isMirrored) }),
   pick: (places, isAdded = false) => machine.gesture({ kind: "picks", places, isAdded }),
   pickPlace: (name, place) => machine.gesture({ kind: "picks", places: [{ name, place }], isShown: true }),
   compare: (back) => machine.gesture({ kind: "compare", back }),
   compareChosen: (names) => compareChosen(machine, names),
   leave: () => machine.send({ kind: "leave" }),
   openFiles: async (given, areNamed = true) => {
-    const { files, faults, isAny } = await withUnpacked(given), rest = nets.take(files);
+    const { files, faults, isAny } = await withUnpacked(given, unpackedApart), rest = nets.take(files);
     return rest.length || faults.length || !files.length ? machine.open(rest, areNamed && !isAny, faults) : { opened: [], refused: [] };
   },
   plot: (layers, pitch, form) => machine.gesture({ kind: "plot", names: layers.map(({ name }) => name), pitch, form }),

@@ -3,10 +3,10 @@
 
 import { LINE, Outlines, shapeOf, stroke } from "./outlines.js";
 import { Signs } from "./signs.js";
-import { lengthText } from "./units.js";
+import { lengthText } from "../board/index.js";
 import { rulers } from "./rulers.js";
 
-/** @param {Page.Point} from @param {Page.Point} to @param {string} unit */
+/** @param {Board.Point} from @param {Board.Point} to @param {string} unit */
 export function distanceWords(from, to, unit = "mm") {
   const dx = to.x - from.x, dy = to.y - from.y;
   const sign = (value) => (value < 0 ? "" : "+") + lengthText(value, unit);
@@ -28,13 +28,13 @@ export class Marks {
     this.signs = new Signs(view, machine);
     // The pointer in device pixels; what is dragged over: [from, to] in nm; how far what is picked is dragged; what is
     // measured; the words of an item that is being drawn.
-    /** @type {Page.Point | null} */
+    /** @type {Board.Point | null} */
     this.pointer = null;
-    /** @type {[from: Page.Point, to: Page.Point] | null} */
+    /** @type {[from: Board.Point, to: Board.Point] | null} */
     this.dragged = null;
-    /** @type {Page.Point | null} */
+    /** @type {Board.Point | null} */
     this.shift = null;
-    /** @type {[from: Page.Point, to: Page.Point] | null} */
+    /** @type {[from: Board.Point, to: Board.Point] | null} */
     this.measured = null;
     /** @type {string | null} */
     this.drawn = null;
@@ -63,7 +63,7 @@ export class Marks {
     rulers(view, this.machine.state, this.pointer, this.colour);
   }
 
-  /** @param {Page.Point} from @param {Page.Point} to */
+  /** @param {Board.Point} from @param {Board.Point} to */
   box(from, to) {
     const { context, view } = this;
     const a = view.placeOf(from.x, from.y), b = view.placeOf(to.x, to.y);
@@ -75,7 +75,7 @@ export class Marks {
     context.setLineDash([]);
   }
 
-  /** @param {Page.Point} from @param {Page.Point} to */
+  /** @param {Board.Point} from @param {Board.Point} to */
   line(from, to) {
     const { context, view } = this;
     const a = view.placeOf(from.x, from.y), b = view.placeOf(to.x, to.y);

@@ -1,19 +1,19 @@
 // The menu of what lies at a point: all items there, the topmost first. The mouse, the keys or a finger choose one.
 
 import { button, byId, element } from "./dom.js";
-import { lengthText, plural } from "./units.js";
-import { boxOf, itemOf } from "./items.js";
-import { layerOf } from "./machine/state.js";
+import { boxOf, itemOf, lengthText, plural } from "../board/index.js";
+import { layerOf } from "../machine/index.js";
 
 // An item in a few words: what it is, and how large.
-/** @param {Page.Listed} item @param {string} unit */
+/** @param {Machine.Listed} item @param {string} unit */
 function itemWords({ words, box }, unit) {
   const item = itemOf(words), [kind] = words.split(" ", 1);
   const ofEntry = item?.number ? ` of ${/hit|rout/.test(kind) ? "tool" : "aperture"} ${item.number}` : "";
-  const of = kind === "region" ? ` of ${plural(item.segments.length, "side")}` : ofEntry;
+  const of = item?.kind === "region" ? ` of ${plural(item.segments.length, "side")}` : ofEntry;
   const sides = boxOf(box);
   const size = sides ? `, ${lengthText(sides.right - sides.left, unit)} by ${lengthText(sides.high - sides.low, unit)} ${unit}` : "";
-  return `${kind}${of}${size}${item?.polarity === "clear" ? ", clear" : ""}`;
+  const isClear = item && "polarity" in item && item.polarity === "clear";
+  return `${kind}${of}${size}${isClear ? ", clear" : ""}`;
 }
 
 export class Menu {
@@ -23,7 +23,7 @@ export class Menu {
     this.view = view;
     this.signs = signs;
     this.list = byId("lying");
-    /** @type {Page.Menu | null} the one that is shown */
+    /** @type {Machine.Menu | null} the one that is shown */
     this.menu = null;
     this.list.onkeydown = (event) => this.key(event);
     // (a press elsewhere, and another view, close it)
@@ -38,14 +38,14 @@ export class Menu {
     if (this.machine.state.menu) this.machine.send({ kind: "setting", changes: { menu: null } });
   }
 
-  /** @param {Page.Menu} menu @param {Page.Listed} item @param {boolean} isAdded */
+  /** @param {Machine.Menu} menu @param {Machine.Listed} item @param {boolean} isAdded */
   choose(menu, item, isAdded) {
     const { name, place } = item;
     this.machine.gesture({ kind: "pickListed", menu, item: { name, place }, isAdded });
     byId("marks").focus({ preventScroll: true });
   }
 
-  /** @param {Page.State} state @param {Page.Menu} menu @param {Page.Listed} item */
+  /** @param {Machine.State} state @param {Machine.Menu} menu @param {Machine.Listed} item */
   row(state, menu, item) {
     const layer = layerOf(state, item.name), light = (listed) => () => this.light(listed);
     const mark = element("i", {});
@@ -56,13 +56,13 @@ export class Menu {
     return row;
   }
 
-  /** @param {Page.Listed | null} listed */
+  /** @param {Machine.Listed | null} listed */
   light(listed) {
     this.signs.listed = listed && { ...listed, box: boxOf(listed.box) };
     this.view.paint();
   }
 
-  /** @param {Page.State} state */
+  /** @param {Machine.State} state */
   show(state) {
     const { menu } = state, { list } = this, isShown = menu !== null && menu.told === state.told;
     const hadFocus = list.contains(document.activeElement), wasShown = !list.hidden && this.menu === menu;
@@ -81,7 +81,7 @@ export class Menu {
   }
 
   // Beside its point, and within the board.
-  /** @param {Page.Point} at */
+  /** @param {Board.Point} at */
   place({ x, y }) {
     const { view, list } = this, at = view.placeOf(x, y), { clientWidth, clientHeight } = byId("stage");
     const within = (value, most) => `${Math.max(0, Math.min(value, most))}px`;

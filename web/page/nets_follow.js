@@ -1,9 +1,12 @@
 // The worker of the nets: it is started when the nets are switched on, gets every line that the station accepted, and tells
 // what each joined and cut.
 
-import { DEPTH, isOpening } from "./machine/state.js";
-import { firstWord } from "./steps.js";
+import { DEPTH, firstWord, isOpening, layerOf, wordsOf } from "../machine/index.js";
+import { asShown, chosenFunctions } from "./net_stack.js";
 import { Link } from "./station.js";
+
+// A worker that ends within so many ms once more is not started again.
+const AGAIN_MS = 30000;
 
 const RETURNS = new Set(["undo", "redo", "abort"]);
 
@@ -13,7 +16,7 @@ export class NetsFollow {
    * @param {Page.Runner} machine
    * @param {string} source
    * @param {() => Promise<Uint8Array>} module
-   * @param {(answer: Page.NetsHeard, step: Page.Way, isMade: boolean) => unknown} heard
+   * @param {(answer: Page.NetsHeard, step: Machine.Way, isMade: boolean) => unknown} heard
    */
   constructor(machine, source, module, heard) {
     this.machine = machine;
@@ -24,46 +27,63 @@ export class NetsFollow {
     this.link = null;
     this.pitch = 0;
     this.sent = 0;
-    /** @type {Page.Told | null} */
+    // When the worker began, and how often one ended soon after that by itself.
+    this.begun = 0;
+    this.ends = 0;
+    /** @type {Machine.Told | null} */
     this.last = null;
     /** @type {Promise<object> | null} */
     this.opened = null;
-    machine.panel((state) => [state.told, state.nets.isOn, state.nets.pitch, isOpening(state)], (state) => this.follow(state));
+    // What was chosen for the layers when it began.
+    this.chosen = "";
+    machine.panel((state) => [state.told, state.nets.isOn, state.nets.pitch, isOpening(state), chosenFunctions(state)],
+      (state) => this.follow(state));
   }
 
-  /** @param {Partial<Page.Nets>} changes */
+  /** @param {Partial<Machine.Nets>} changes */
   set(changes) {
     this.machine.send({ kind: "setting", changes: { nets: { ...this.machine.state.nets, ...changes } } });
   }
 
-  /** @param {Page.State} state */
+  /** @param {Machine.State} state */
   follow(state) {
     const { told, nets, steps, files } = state;
     if (!nets.isOn) return this.end();
     if (isOpening(state)) return undefined;
-    // Another document, or another pitch: it is followed from its first line.
-    if (this.link && (this.pitch !== nets.pitch || (this.sent > 0 && told[this.sent - 1] !== this.last))) this.end();
+    // Another document, another pitch, or layers that show something else: it is followed from its first line.
+    const chosen = chosenFunctions(state);
+    if (this.link && (this.pitch !== nets.pitch || this.chosen !== chosen || (this.sent > 0 && told[this.sent - 1] !== this.last))) this.end();
+    this.chosen = chosen;
     if (!this.link) this.start(nets.pitch);
     const given = told.slice(this.sent).filter(({ reply }) => reply.startsWith("ok"));
     this.sent = told.length;
     this.last = told[told.length - 1] ?? null;
-    if (given.length) this.send(given, files, steps.at);
+    if (given.length) this.send(given, files, steps.at, state);
     return undefined;
   }
 
   /** @param {number} pitch */
   start(pitch) {
-    const link = new Link(this.source, () => {}, (why) => {
-      if (this.link === link) {
-        this.link = null;
-        this.set({ isOn: false, why: `The nets stopped: ${why}` });
-      }
-    });
+    /** @type {Link} */
+    const link = new Link(this.source, () => {}, (why) => this.link === link && this.stopped(why));
+    if (this.begun && performance.now() - this.begun > AGAIN_MS) this.ends = 0;
+    this.begun = performance.now();
     this.link = link;
     this.pitch = pitch;
     this.sent = 0;
     this.opened = this.module().then((module) => link.call("open", { module, depth: DEPTH, pitch }));
     this.machine.await(this.opened.catch(() => {}));
+  }
+
+  // The worker ended by itself: it is told, and another one follows the script from its first line; but not for ever.
+  /** @param {string} why */
+  stopped(why) {
+    this.link = null;
+    this.ends++;
+    if (this.ends > 1) return this.set({ isOn: false, why: `The nets stopped: ${why}` });
+    this.machine.send({ kind: "say", text: `What finds the nets stopped (${why}), and begins again.`, isFault: true });
+    this.set({ about: null, lit: null, near: null, change: null, findings: null });
+    return this.follow(this.machine.state);
   }
 
   end() {
@@ -73,10 +93,10 @@ export class NetsFollow {
     link?.end("switched off");
   }
 
-  /** @param {Page.Told[]} given @param {Page.State["files"]} files @param {Page.Way} step */
-  send(given, files, step) {
+  /** @param {Machine.Told[]} given @param {Machine.State["files"]} files @param {Machine.Way} step @param {Machine.State} state */
+  send(given, files, step, state) {
     const lines = given.map(({ line, file }) => (file === undefined ? { line } : { line, name: files[file].name,
-      bytes: files[file].bytes }));
+      bytes: asShown(layerOf(state, wordsOf(line)[1]), state.layers, files[file].bytes) }));
     const isMade = !RETURNS.has(firstWord(given[given.length - 1].line));
     this.call("lines", { lines }).then((answer) => answer && this.heard(answer, step, isMade));
   }

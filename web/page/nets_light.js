@@ -1,7 +1,7 @@
 // The net that is lit: all copper that hangs together in its layers' colours, over a board that is dimmed; and a ring where
 // an edit joined or cut.
 
-import { layerOf } from "./machine/state.js";
+import { layerOf, pileSeen } from "../machine/index.js";
 
 // The radius of a ring in pixels of the page: wider than a pad at most zooms, so that it stands around it.
 const RING = 14;
@@ -26,7 +26,7 @@ export class NetsLight {
     for (const { place } of nets.change?.places ?? []) this.ring(place);
   }
 
-  /** @param {Page.LitNet} lit @param {Page.About} about */
+  /** @param {Machine.LitNet} lit @param {Machine.About} about */
   drawLit({ runs }, { window, shown }) {
     const { context, canvas } = this, style = getComputedStyle(canvas);
     context.globalAlpha = 0.82;
@@ -34,8 +34,9 @@ export class NetsLight {
     context.fillRect(0, 0, canvas.width, canvas.height);
     context.globalAlpha = 1;
     this.view.fromAbove();
-    // The bottom first, so that the top lies over it, and holes over all.
-    const order = [...shown.keys()].sort((one, other) => this.height(shown[one]) - this.height(shown[other]));
+    // The farthest first, so that the nearest lies over it, and holes over all.
+    const pile = pileSeen(this.machine.state.layers, this.view.isMirrored).map(({ name }) => name);
+    const order = [...shown.keys()].sort((one, other) => pile.indexOf(shown[one]) - pile.indexOf(shown[other]));
     for (const at of order) {
       const layer = layerOf(this.machine.state, shown[at]);
       context.fillStyle = layer?.colour ?? "#ffffff";
@@ -44,13 +45,8 @@ export class NetsLight {
     context.setTransform(1, 0, 0, 1, 0, 0);
   }
 
-  /** @param {string} name */
-  height(name) {
-    return layerOf(this.machine.state, name)?.height ?? 0;
-  }
-
   // Each run as a bar of whole pixels, so that none is lost between two rows of the canvas.
-  /** @param {Uint32Array} runs @param {Page.About["window"]} window */
+  /** @param {Uint32Array} runs @param {Machine.About["window"]} window */
   fill(runs, { x, y, pitch, height }) {
     const { context, view } = this, { left, top } = view, size = view.pitch;
     for (let at = 0; at < runs.length; at += 3) {
@@ -62,7 +58,7 @@ export class NetsLight {
     }
   }
 
-  /** @param {Page.NetPlace | null} place */
+  /** @param {Machine.NetPlace | null} place */
   ring(place) {
     if (!place) return;
     const { context, view } = this, { x, y } = view.placeOf(place.x, place.y);

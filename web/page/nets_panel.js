@@ -3,26 +3,32 @@
 
 import { NetsFollow } from "./nets_follow.js";
 import { NetsLight } from "./nets_light.js";
-import { Report, pointNames } from "../nets/report.js";
+import { Report, isNetlist, limitWords, limitsOf, pointNames } from "../nets/index.js";
 import { button, byId, element, redraw } from "./dom.js";
-import { layerOf, shownLayers } from "./machine/state.js";
-import { areaText, lengthIn, lengthText, plural, point } from "./units.js";
-import { isNetlist } from "../nets/ipc.js";
-import { limitWords } from "../nets/grid.js";
+import { layerOf, pileSeen, shownLayers } from "../machine/index.js";
+import { areaText, lengthIn, lengthText, plural, point } from "../board/index.js";
+import { stackWords } from "./net_stack.js";
 
 // How far around a place the board is shown, in nm: some pads beside it. So many findings are listed, more than are looked at
 // one by one.
 const AROUND = 1_000_000, MOST = 200;
 
 // What is said of a board without copper.
-/** @type {Page.About} */
+/** @type {Machine.About} */
 const NO_COPPER = { count: null, shown: [], copper: 0, missing: [], points: 0, isNetlist: false, shift: { x: 0, y: 0 }, pitch: 0, window: null };
 
+/** @param {number} pitch */
+const micrometres = (pitch) => `${Number((pitch / 1000).toFixed(1))} µm`;
+
+// The limit of what is found at a pitch, for the line that tells it.
+/** @param {number} pitch */
+const atPitch = (pitch) => `at ${micrometres(pitch)}: gaps under ${micrometres(limitsOf(pitch).gap)} look closed`;
+
 // What is not known before the nets are found.
-/** @type {Partial<Page.Nets>} */
+/** @type {Partial<Machine.Nets>} */
 const NOTHING = { about: null, lit: null, near: null, change: null, findings: null, netlist: null };
 
-/** @param {Page.Point[]} places */
+/** @param {Board.Point[]} places */
 const boxAround = (...places) => ({ left: Math.min(...places.map(({ x }) => x)) - AROUND, low: Math.min(...places.map(({ y }) => y)) - AROUND,
   right: Math.max(...places.map(({ x }) => x)) + AROUND, high: Math.max(...places.map(({ y }) => y)) + AROUND });
 
@@ -30,7 +36,7 @@ const boxAround = (...places) => ({ left: Math.min(...places.map(({ x }) => x)) 
 const named = (names) => (names.length ? names.join(", ") : "copper");
 
 // What changed in words, short for the history, and whole with its places.
-/** @param {Page.NetChanges} changes @returns {Page.NetChange | null} */
+/** @param {Page.NetChanges} changes @returns {Machine.NetChange | null} */
 export function changeOf({ joins, cuts, before, after }) {
   const words = [...joins.map(({ names, nets }) => `joins ${names.length > 1 ? names.join(" and ") : `${nets.length} parts of ${named(names)}`}`),
     ...cuts.map(({ names, nets }) => `cuts ${named(names)} in ${nets.length}`)];
@@ -48,13 +54,13 @@ export class NetsPanel {
     this.asked = 0;
     this.follow = new NetsFollow(machine, byId("nets-worker").textContent, module, (answer, step, isMade) => this.heard(answer, step, isMade));
     this.listen();
-    machine.panel(({ nets, unit }) => [nets, unit], (state) => {
+    machine.panel(({ nets, unit, layers }) => [nets, unit, nets.isOn && layers], (state) => {
       this.show(state);
       this.light.draw();
     });
   }
 
-  /** @param {Partial<Page.Nets>} changes */
+  /** @param {Partial<Machine.Nets>} changes */
   set(changes) {
     this.follow.set(changes);
   }
@@ -85,7 +91,7 @@ export class NetsPanel {
   }
 
   // What the worker found after lines: the mark of a step stays with it, whatever is undone later.
-  /** @param {Page.NetsHeard} answer @param {Page.Way} step @param {boolean} isMade */
+  /** @param {Page.NetsHeard} answer @param {Machine.Way} step @param {boolean} isMade */
   async heard({ changes, ms, ...about }, step, isMade) {
     const change = changes && changeOf(changes), { marks, lit } = this.nets;
     this.set({ about, change: change && { ...change, ms }, findings: null,
@@ -94,11 +100,11 @@ export class NetsPanel {
   }
 
   // A click of the tool: lights what hangs together with a place.
-  /** @param {Page.Point} at */
+  /** @param {Board.Point} at */
   async lightAt(at) {
     if (!this.nets.isOn) this.switchTo(true);
-    const number = ++this.asked, names = shownLayers(this.machine.state).map(({ name }) => name).reverse();
-    /** @type {(Partial<Page.About> & { net: Page.LitNet | null }) | null} */
+    const number = ++this.asked, names = pileSeen(shownLayers(this.machine.state), this.light.view.isMirrored).map(({ name }) => name).reverse();
+    /** @type {(Partial<Machine.About> & { net: Machine.LitNet | null }) | null} */
     const answer = await this.follow.call("net", { ...at, names });
     if (!answer || number !== this.asked) return;
     const { net, ...about } = answer;
@@ -111,14 +117,14 @@ export class NetsPanel {
     const gap = lengthIn(byId("nets-gap").value, this.unit), { lit } = this.nets;
     if (!lit) return this.machine.send({ kind: "say", text: "No net is lit: choose the tool net, and click on copper.", isFault: true });
     if (!gap || gap < 0) return this.machine.send({ kind: "say", text: "The gap is no length.", isFault: true });
-    /** @type {Pick<Page.Nets, "near"> | null} */
+    /** @type {Pick<Machine.Nets, "near"> | null} */
     const answer = await this.follow.call("near", { net: lit.net, gap });
     if (answer) this.set({ near: answer.near });
     return undefined;
   }
 
   // Takes a netlist out of files that are opened; the others are given back.
-  /** @param {Page.File[]} files */
+  /** @param {Machine.File[]} files */
   take(files) {
     const netlists = files.filter(({ bytes }) => isNetlist(bytes));
     for (const { name, bytes } of netlists) this.compareWith({ name, bytes });
@@ -129,7 +135,7 @@ export class NetsPanel {
   async compareWith({ name, bytes }) {
     if (!this.nets.isOn) this.switchTo(true);
     this.set({ findings: null, netlist: null });
-    /** @type {(Page.About & { refusals: Page.Nets["netlist"]["refusals"] }) | null} */
+    /** @type {(Machine.About & { refusals: Machine.Nets["netlist"]["refusals"] }) | null} */
     const answer = await this.follow.call("netlist", { bytes });
     if (!answer) return;
     const { refusals, ...about } = answer;
@@ -139,14 +145,14 @@ export class NetsPanel {
 
   async check() {
     if (!this.nets.isOn) this.switchTo(true);
-    /** @type {Page.Findings | null} */
+    /** @type {Machine.Findings | null} */
     const answer = await this.follow.call("check");
     if (answer) this.set({ findings: answer });
   }
 
   // Drawing.
 
-  /** @param {Page.State} state */
+  /** @param {Machine.State} state */
   show({ nets }) {
     const { isOn, about, pitch } = nets;
     byId("nets-on").checked = isOn;
@@ -154,6 +160,8 @@ export class NetsPanel {
     byId("nets-body").hidden = !isOn;
     byId("nets-count").textContent = isOn && about?.count ? plural(about.count, "net") : "";
     byId("nets-said").textContent = this.saidOf(nets);
+    byId("nets-stack").textContent = isOn ? stackWords(this.machine.state) : "";
+    byId("nets-used").textContent = isOn && about?.pitch && about.pitch !== pitch ? `${micrometres(about.pitch)} used` : "";
     byId("nets-forget").hidden = !nets.netlist;
     byId("nets-dark").hidden = !nets.lit;
     this.showChange(nets.change);
@@ -161,7 +169,7 @@ export class NetsPanel {
     this.showFindings(nets);
   }
 
-  /** @param {Page.Nets} nets */
+  /** @param {Machine.Nets} nets */
   saidOf({ isOn, why, about, netlist }) {
     if (why) return why;
     if (!isOn) return "";
@@ -171,25 +179,26 @@ export class NetsPanel {
     const missing = about.missing.length ? `Copper ${about.missing.join(", ")} is not open: what it joins is not seen. ` : "";
     const source = netlist ? `Compared with ${netlist.name}` : "Compared with what the files say themselves";
     const shifted = about.isNetlist && (about.shift.x || about.shift.y) ? `, shifted by ${point(about.shift.x, about.shift.y, this.unit)}` : "";
-    const truth = about.points ? `${source}: ${plural(about.points, "point")}${shifted}. ` : "";
+    const { misfit } = /** @type {Machine.About & { misfit?: string | null }} */ (about);
+    const truth = misfit ? `${netlist?.name ?? "The netlist"}: ${misfit}. ` : about.points ? `${source}: ${plural(about.points, "point")}${shifted}. ` : "";
     return `${missing}${truth}${limit[0].toUpperCase()}${limit.slice(1)}.`;
   }
 
-  /** @param {string} name @param {Page.Point[]} places */
+  /** @param {string} name @param {Board.Point[]} places */
   lead(name, ...places) {
     this.machine.send({ kind: "lead", name, box: boxAround(...places) });
   }
 
-  /** @param {Page.NetChange | null} change */
+  /** @param {Machine.NetChange | null} change */
   showChange(change) {
     const box = byId("nets-change");
     if (!change) return box.replaceChildren();
     const { shown } = this.nets.about;
     const places = change.places.map(({ place }) => button("show where", () => this.lead(shown[place.layer], place), { className: "only" }));
-    return redraw(box, element("b", {}, `The last edit ${change.words}. `), ...places);
+    return redraw(box, element("b", {}, `The last edit ${change.words}, ${atPitch(this.nets.about.pitch)}. `), ...places);
   }
 
-  /** @param {Page.Nets} nets */
+  /** @param {Machine.Nets} nets */
   showLit({ lit, near, about }) {
     const rows = [];
     if (lit) {
@@ -197,7 +206,7 @@ export class NetsPanel {
       const parts = copper.flatMap((name, at) => (lit.areas[at] ? [`${this.label(name)} ${areaText(lit.areas[at], this.unit)}`] : []));
       rows.push(element("h3", {}, lit.names.length ? lit.names.join(" and ") : "A net without a name"),
         element("p", {}, `${areaText(all, this.unit)} of copper (${parts.join(", ")}), ${plural(lit.holes, "hole")}`));
-      if (lit.pins.length) rows.push(element("p", { className: "words" }, pointNames(/** @type {import("../nets/points.js").NetPoint[]} */ (lit.pins.map((name) => ({ name }))))));
+      if (lit.pins.length) rows.push(element("p", { className: "words" }, pointNames(/** @type {import("../nets/index.js").NetPoint[]} */ (lit.pins.map((name) => ({ name }))))));
     }
     byId("nets-lit").replaceChildren(...rows);
     redraw(byId("nets-near"), ...(near ?? []).slice(0, MOST).map(({ names, distance, place }) => element("li", {},
@@ -210,7 +219,7 @@ export class NetsPanel {
     return layerOf(this.machine.state, name)?.label ?? name;
   }
 
-  /** @param {Page.Nets} nets */
+  /** @param {Machine.Nets} nets */
   showFindings({ findings, netlist, about }) {
     const list = byId("nets-findings");
     if (netlist?.refusals.length) {
@@ -218,23 +227,29 @@ export class NetsPanel {
         ...netlist.refusals.slice(0, MOST).map(({ line, what }) => element("li", {}, `line ${line}: ${what}`)));
     }
     if (!findings) return list.replaceChildren();
+    const { misfit } = /** @type {Machine.About & { misfit?: string | null }} */ (about);
+    if (misfit) return list.replaceChildren(element("li", { className: "fault" }, misfit));
     if (!findings.points) return list.replaceChildren(element("li", { className: "hint" }, "Nothing to compare with: drop a netlist (IPC-D-356) on the page."));
     const report = new Report(about.shown.slice(0, about.copper).map((name) => this.label(name)), about.pitch);
-    const rows = findingsOf(findings, report);
+    const rows = findingsOf(findings, report, about.pitch);
     const { opens, shorts, bare, loose } = findings;
     const summary = `${plural(opens.length, "open")}, ${plural(shorts.length, "short")}, ${plural(bare.length, "point")} without copper, `
-      + `${plural(loose.length, "piece")} of copper without a point`;
+      + `${plural(loose.length, "piece")} of copper without a point, ${atPitch(about.pitch)}`;
     return redraw(list, element("li", {}, element("b", {}, summary)), ...rows.slice(0, MOST).map(({ lines, places }) =>
       element("li", {}, button(lines.join("\n"), () => this.lead(about.shown[places[0].layer], ...places)))));
   }
 }
 
+// A short may be a gap that is too narrow for the pitch.
+/** @param {string[]} lines @param {number} pitch */
+const limited = ([first, ...rest], pitch) => [`${first}, ${atPitch(pitch)}`, ...rest];
+
 // Each finding in lines, with the places that a click shows.
-/** @param {Page.Findings} findings @param {Report} report */
-function findingsOf({ opens, shorts, bare, loose }, report) {
+/** @param {Machine.Findings} findings @param {Report} report @param {number} pitch */
+function findingsOf({ opens, shorts, bare, loose }, report, pitch) {
   return [
     ...opens.map((open) => ({ lines: report.open(open), places: open.gaps.flatMap(({ from, to }) => [from, to]) })),
-    ...shorts.map((short) => ({ lines: report.short(short), places: short.touching.map(({ place }) => place) })),
+    ...shorts.map((short) => ({ lines: limited(report.short(short), pitch), places: short.touching.map(({ place }) => place) })),
     ...bare.map((found) => ({ lines: report.bare(found), places: [{ ...found.point, layer: found.point.layers[0] }] })),
     ...loose.map((found) => ({ lines: report.loose(found), places: [found.place] })),
   ].filter(({ places }) => places.length > 0);

@@ -1,7 +1,7 @@
 // The outlines of what is picked. Each is made once into a path; where they are long, they are drawn once into a picture, which
 // moves with the view and is drawn anew when the view rests.
 
-import { itemOf, outlineOf } from "./items.js";
+import { itemOf, outlineOf } from "../board/index.js";
 
 // Of many items so many are outlined, which are enough to see.
 const MOST = 2000;
@@ -18,16 +18,16 @@ const THIN = 1;
 const NOWHERE = { x: 0, y: 0 };
 
 // The path of an item in nm and the width that it strokes, by the apertures or tools of its layer.
-/** @param {string | undefined} words @param {Page.Box | null} box @param {Page.Entry[] | undefined} entries */
+/** @param {string | undefined} words @param {Board.Box | null} box @param {Board.Entry[] | undefined} entries */
 export const shapeOf = (words, box, entries) =>
   outlineOf(itemOf(words ?? ""), box, (wanted) => entries?.find(({ number }) => number === wanted) ?? null);
 
 // Strokes a shape that is shifted by some nm, in a frame as it is seen from above: { left, top, pitch }, by a line of so many pixels.
 /**
- * @param {Page.Context | OffscreenCanvasRenderingContext2D} context
+ * @param {Board.Context | OffscreenCanvasRenderingContext2D} context
  * @param {{ left: number, top: number, pitch: number }} frame
- * @param {Page.Outline} shape
- * @param {Page.Point} shift
+ * @param {Board.Outline} shape
+ * @param {Board.Point} shift
  * @param {string} ink
  * @param {number} line
  */
@@ -54,7 +54,7 @@ export class Outlines {
     this.view = view;
     this.machine = machine;
     // The shape of each item that is picked, with the entries that it was made by; and the picture of long ones.
-    /** @type {WeakMap<Page.Picked, Page.Outline & { entries?: Page.Entry[] }>} */
+    /** @type {WeakMap<Machine.Picked, Board.Outline & { entries?: Board.Entry[] }>} */
     this.shapes = new WeakMap();
     /** @type {Page.OutlineSheet | null} */
     this.sheet = null;
@@ -66,7 +66,7 @@ export class Outlines {
     return this.machine.state.entries[name];
   }
 
-  /** @param {Page.Picked} item */
+  /** @param {Machine.Picked} item */
   shapeOf(item) {
     const entries = this.entriesOf(item.name), known = this.shapes.get(item);
     if (known?.entries === entries && known) return known;
@@ -75,7 +75,7 @@ export class Outlines {
     return shape;
   }
 
-  /** @param {Page.Point | null} shift @param {Page.Ink} colour */
+  /** @param {Board.Point | null} shift @param {Page.Ink} colour */
   paint(shift, colour) {
     const { view } = this, items = this.machine.state.picked.slice(0, MOST);
     if (!items.length) {
@@ -83,7 +83,7 @@ export class Outlines {
       return;
     }
     const isLong = items.reduce((sum, { words }) => sum + words.length, 0) > LONG;
-    /** @type {(at: Page.Point, ink: string, alpha: number) => void} */
+    /** @type {(at: Board.Point, ink: string, alpha: number) => void} */
     const draw = isLong ? (at, ink, alpha) => this.drawSheet(items, at, colour(ink), alpha)
       : (at, ink) => this.strokeAll(view.context, view, items, at, colour(ink));
     if (shift) draw(NOWHERE, "--ink-faint", 0.5);
@@ -91,10 +91,10 @@ export class Outlines {
   }
 
   /**
-   * @param {Page.Context} context
+   * @param {Board.Context} context
    * @param {Page.View} frame
-   * @param {Page.Picked[]} items
-   * @param {Page.Point} shift
+   * @param {Machine.Picked[]} items
+   * @param {Board.Point} shift
    * @param {string} ink
    */
   strokeAll(context, frame, items, shift, ink) {
@@ -102,7 +102,7 @@ export class Outlines {
   }
 
   // Draws the picture of long outlines, in one ink and fainter.
-  /** @param {Page.Picked[]} items @param {Page.Point} shift @param {string} ink @param {number} alpha */
+  /** @param {Machine.Picked[]} items @param {Board.Point} shift @param {string} ink @param {number} alpha */
   drawSheet(items, shift, ink, alpha) {
     const { view } = this, { context } = view;
     this.renew(items, alpha === 1 ? ink : this.sheet?.ink ?? ink);
@@ -115,7 +115,7 @@ export class Outlines {
   }
 
   // Draws the picture anew for what is picked now, and for another view once that rests.
-  /** @param {Page.Picked[]} items @param {string} ink */
+  /** @param {Machine.Picked[]} items @param {string} ink */
   renew(items, ink) {
     const { sheet, view } = this, { left, top, pitch, width, height } = view;
     const isSame = sheet && sheet.ink === ink && sheet.items.length === items.length

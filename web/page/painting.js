@@ -1,21 +1,24 @@
 // What lies on the board, painted into a frame of it: the pictures of the layers, or those of a comparison, and which part of the
 // board is not drawn yet.
 
-import { drawnLayers, shownLayers } from "./machine/state.js";
+import { isMadeShown, shownLayers } from "../machine/index.js";
+import { SIDE } from "./board_view.js";
 
 /**
  * Paints what lies on the board now.
- * @param {Page.State} state
+ * @param {Machine.State} state
+ * @param {readonly Machine.Shown[]} pile the layers, the nearest one last
  * @param {Map<string, Page.Layered>} pictures those of the layers by their names
  * @param {Page.Colours} colours
  * @returns {Page.Painter}
  */
-export function painterOf(state, pictures, { board, undrawn }) {
+export function painterOf(state, pile, pictures, { board, undrawn }) {
   const { comparison } = state, drawn = boxDrawn(state, pictures);
   const parts = comparison?.sheets
     ? comparison.sheets.flatMap(({ bitmaps }) => bitmaps.map((bitmap) =>
       ({ ...comparison.place, bitmap, opacity: comparison.kind === "two" ? 1 : 0.9 })))
-    : drawnLayers(state).map(({ name, opacity }) => ({ ...pictures.get(name), opacity })).filter(({ bitmap }) => bitmap);
+    : (isMadeShown(state) ? [{ name: SIDE, opacity: 1 }] : pile).map(({ name, opacity }) => ({ ...pictures.get(name), opacity }))
+      .filter(({ bitmap }) => bitmap);
   return (context, frame) => {
     const { left, top, pitch, width, height } = frame;
     context.globalAlpha = 1;
@@ -35,13 +38,15 @@ export function painterOf(state, pictures, { board, undrawn }) {
 
 // The box in nm that all shown layers have pictures of, or "all"; null where a layer has none yet.
 /**
- * @param {Page.State} state
+ * @param {Machine.State} state
  * @param {Map<string, Page.Layered>} pictures
  * @returns {"all" | { left: number, top: number, right: number, low: number } | null}
  */
-function boxDrawn({ comparison, layers }, pictures) {
+function boxDrawn(state, pictures) {
+  const { comparison, layers } = state;
   if (comparison?.sheets) return boxOfWindow(comparison.window);
-  const shown = (comparison?.layers ? [] : shownLayers({ layers })).map((layer) => pictures.get(layer.name));
+  const names = isMadeShown(state) ? [SIDE] : shownLayers({ layers }).map(({ name }) => name);
+  const shown = (comparison?.layers ? [] : names).map((name) => pictures.get(name));
   if (shown.some((picture) => !picture)) return null;
   const boxes = shown.filter(({ bitmap }) => bitmap).map(({ left, top, pitch, bitmap: { width, height } }) =>
     ({ left, top, right: left + width * pitch, low: top - height * pitch }));
@@ -59,7 +64,7 @@ function boxOfWindow(window) {
 }
 
 // Draws a picture where it lies in a frame.
-/** @param {Page.Context} context @param {Page.Frame} frame @param {Page.Layered} picture */
+/** @param {Board.Context} context @param {Page.Frame} frame @param {Page.Layered} picture */
 function place(context, frame, { bitmap, left, top, pitch }) {
   const scale = pitch / frame.pitch, x = (left - frame.left) / frame.pitch, y = (frame.top - top) / frame.pitch;
   context.imageSmoothingEnabled = scale < 1;

@@ -80,7 +80,19 @@ export class Panels {
     return document.querySelector(`[aria-controls=${name}]`);
   }
 
+  // The strips at the edges of the board are in the drawer of the commands where these are one.
+  placeStrips() {
+    const isDrawer = this.isDrawer("commands");
+    for (const [id, where] of /** @type {const} */ ([["tools", "beforebegin"], ["views", "afterend"]])) {
+      const strip = byId(id);
+      if (isDrawer === byId("commands").contains(strip)) continue;
+      if (isDrawer) byId("commands").append(strip);
+      else byId("stage").insertAdjacentElement(where, strip);
+    }
+  }
+
   show() {
+    this.placeStrips();
     for (const name of names) {
       const isOpen = this.isOpen(name);
       document.body.dataset[name] = !isOpen ? "folded" : this.isDrawer(name) ? "drawer" : "open";

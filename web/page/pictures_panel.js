@@ -2,13 +2,13 @@
 // compared.
 
 import { button, byId, element, redraw } from "./dom.js";
-import { choices } from "./machine/showing.js";
+import { choices } from "../machine/index.js";
 
 // What a person chose to be compared.
 /** @type {Record<string, string | null>} */
 const chosen = { first: null, second: null };
 
-/** @param {Page.Runner} machine @param {Page.Picture} picture */
+/** @param {Page.Runner} machine @param {Machine.Picture} picture */
 function row(machine, picture) {
   const { name, label } = picture;
   const shown = element("input", { type: "checkbox", checked: picture.isShown, "aria-label": `${label} is shown` });
@@ -19,7 +19,7 @@ function row(machine, picture) {
     button("close", () => machine.send({ kind: "close", name }), { className: "only", "aria-label": `close ${label}` }));
 }
 
-/** @param {Page.State} state */
+/** @param {Machine.State} state */
 function listChoices(state) {
   const found = choices(state), [picture] = state.opened;
   const first = picture?.of ?? state.active ?? found[0]?.name;
@@ -37,14 +37,14 @@ export const compareChosen = (machine, names = [byId("first").value, byId("secon
 
 /** @param {Page.Runner} machine @param {Page.View} view */
 export function listenToPictures(machine, view) {
-  /** @param {Page.State} state */
+  /** @param {Machine.State} state */
   const words = ({ opened }) => opened.map(({ name, isShown }) => `${name} ${isShown}`).join("\n");
-  /** @param {Page.State} state */
+  /** @param {Machine.State} state */
   const labels = ({ layers }) => layers.map(({ name, label }) => `${name} ${label}`).join("\n");
   machine.panel((state) => [words(state)],
     ({ opened }) => redraw(byId("opened"), ...opened.map((each) => row(machine, each))));
   machine.panel((state) => [words(state), labels(state), state.active], listChoices);
-  /** @type {Page.Picture[]} */
+  /** @type {Machine.Picture[]} */
   let before = [];
   machine.panel(({ opened }) => [opened], ({ opened }) => {
     for (const { name } of before) if (!opened.some((picture) => picture.name === name)) view.forget(name);

@@ -3,13 +3,11 @@
 
 import { Fingers } from "./fingers.js";
 import { byId, tell } from "./dom.js";
-import { point } from "./units.js";
+import { point } from "../board/index.js";
 import { Grip } from "./grips.js";
 import { Snaps, takesPoints } from "./snaps.js";
 import { distanceWords } from "./marks.js";
-import { drawingTools } from "./drawing_tools.js";
-import { makingOf } from "./machine/immediate.js";
-import { shownLayers } from "./machine/state.js";
+import { drawingTools, makingOf, pileSeen, shownLayers } from "../machine/index.js";
 
 // How far the pointer may go in a click, and a finger in a tap, in pixels of the page: a hand is not still, and a finger is broader
 // than a pointer.
@@ -17,12 +15,14 @@ const STILL = 4, STILL_FINGER = 10;
 // How long it rests before the page looks what lies there, which reads a pixel of each picture: some frames.
 const REST_MS = 60;
 
-/** @param {Page.Point} at */
+const toolButtons = () => /** @type {NodeListOf<HTMLElement>} */ (document.querySelectorAll("[data-tool-button]"));
+
+/** @param {Board.Point} at */
 const whole = ({ x, y }) => ({ x: Math.round(x), y: Math.round(y) });
 
-// The shown layers, the topmost first: where a click looks.
-/** @param {Page.State} state */
-export const pileOf = (state) => shownLayers(state).map(({ name }) => name).reverse();
+// The shown layers, the nearest first: where a click looks.
+/** @param {Machine.State} state @param {boolean} isBelow whether they are seen from below */
+export const pileOf = (state, isBelow) => pileSeen(shownLayers(state), isBelow).map(({ name }) => name).reverse();
 
 export class Pointer {
   /** @param {Page.Runner} machine @param {Page.View} view @param {Page.Marks} marks */
@@ -31,7 +31,7 @@ export class Pointer {
     this.view = view;
     this.marks = marks;
     // Where it is, in pixels of the canvas; and what is dragged.
-    /** @type {Page.Point | null} */
+    /** @type {Board.Point | null} */
     this.last = null;
     /** @type {Page.Drag | null} */
     this.drag = null;
@@ -39,7 +39,7 @@ export class Pointer {
     this.snaps = new Snaps(machine, view);
     this.snaps.onFound = () => this.look();
     this.resting = 0;
-    /** @type {(place: Page.Point) => void} */
+    /** @type {(place: Board.Point) => void} */
     this.onNet = () => {};
     this.listen(byId("marks"));
     machine.panel(({ picked, making, tool, entry }) => [picked, making, tool, entry], () => this.show());
@@ -54,13 +54,13 @@ export class Pointer {
     return { x: (event.clientX - box.left) * density, y: (event.clientY - box.top) * density };
   }
 
-  /** @param {Page.Point} at */
+  /** @param {Board.Point} at */
   under({ x, y }) {
     return whole(this.view.pointAt(x, y));
   }
 
   // The point that a tool takes: what it snaps to, or else the one under the pointer.
-  /** @param {Page.Point} at @returns {Page.Tapped} */
+  /** @param {Board.Point} at @returns {Machine.Tapped} */
   taken(at) {
     const plain = this.under(at), snap = takesPoints(this.machine.state.tool) ? this.snaps.at(plain) : null;
     this.marks.signs.snap = snap;
@@ -78,7 +78,7 @@ export class Pointer {
   }
 
   // Whether a point lies in the box of something picked: a drag from there moves it.
-  /** @param {Page.Point} at @param {number} still */
+  /** @param {Board.Point} at @param {number} still */
   isOnPicked({ x, y }, still = 3) {
     const reach = still * this.view.density * this.view.pitch;
     return this.machine.state.picked.some(({ box }) => box && x >= box.left - reach && x <= box.right + reach
@@ -101,13 +101,13 @@ export class Pointer {
   }
 
   // What is dragged from a place: a handle of what is picked, or all that is; null where nothing of it lies there.
-  /** @param {Page.Point} at @param {Page.Point} from @param {number} still */
+  /** @param {Board.Point} at @param {Board.Point} from @param {number} still */
   gripAt(at, from, still = 3) {
     const { machine, marks, view } = this, handle = marks.signs.handleAt(at, 2 * still * view.density);
     return handle === null && !this.isOnPicked(from, still) ? null : new Grip(machine.state, handle, from, this.snaps);
   }
 
-  /** @param {Page.Point} at */
+  /** @param {Board.Point} at */
   dragOn(at) {
     const { drag, marks, view } = this, to = this.under(at), { unit } = this.machine.state;
     drag.hasMoved ||= Math.hypot(at.x - drag.start.x, at.y - drag.start.y) > drag.still * view.density;
@@ -129,7 +129,7 @@ export class Pointer {
   }
 
   // What is gripped goes with the pointer: by the grid, or to what it snaps to.
-  /** @param {Grip} grip @param {Page.Point} to */
+  /** @param {Grip} grip @param {Board.Point} to */
   dragGrip(grip, to) {
     const { marks, machine: { state: { unit } } } = this;
     grip.dragTo(to);
@@ -156,27 +156,27 @@ export class Pointer {
       navigator.vibrate?.(15);
     };
     if (this.gripAt(drag.start, drag.from, drag.still)) take();
-    else machine.gesture({ kind: "pickAt", ...drag.from, reach: 0, isAdded: false, pile: pileOf(machine.state) }).then(take);
+    else machine.gesture({ kind: "pickAt", ...drag.from, reach: 0, isAdded: false, pile: pileOf(machine.state, this.view.isMirrored) }).then(take);
   }
 
   // A click or a tap, by the tool.
-  /** @param {Page.Point} at @param {Page.Drag} drag @param {boolean} isCentre */
+  /** @param {Board.Point} at @param {Page.Drag} drag @param {boolean} isCentre */
   press(at, { isAdded, still }, isCentre) {
     const { machine, view } = this, { tool } = machine.state, to = this.under(at);
     if (tool === "net") this.onNet(to);
     else if (tool === "origin") this.setOrigin(this.taken(at));
     else if (drawingTools[tool]) machine.send({ kind: "point", ...this.taken(at), isCentre });
-    else machine.gesture({ kind: "pickAt", ...to, reach: still * 2 * view.density * view.pitch, isAdded, pile: pileOf(machine.state) });
+    else machine.gesture({ kind: "pickAt", ...to, reach: still * 2 * view.density * view.pitch, isAdded, pile: pileOf(machine.state, this.view.isMirrored) });
   }
 
   // The menu of all that lies at a place.
-  /** @param {Page.Point} at */
+  /** @param {Board.Point} at */
   list(at) {
-    this.machine.gesture({ kind: "pile", ...this.under(at), pile: pileOf(this.machine.state) });
+    this.machine.gesture({ kind: "pile", ...this.under(at), pile: pileOf(this.machine.state, this.view.isMirrored) });
   }
 
   // Lengths are shown from a point then, and another tool is not wanted any more.
-  /** @param {Page.Point} at */
+  /** @param {Board.Point} at */
   setOrigin({ x, y }) {
     const { machine } = this;
     machine.send({ kind: "setting", changes: { origin: { x, y } } });
@@ -192,7 +192,7 @@ export class Pointer {
     if (kind === "pan" && drag.isMenu && !hasMoved) return this.list(at);
     if (kind === "pan" || kind === "measure" || kind === "tap" && hasMoved) return;
     if (kind === "net" || kind === "draw" || kind === "tap") return this.press(at, drag, event.shiftKey);
-    const pile = pileOf(machine.state), letGo = () => this.letGo();
+    const pile = pileOf(machine.state, this.view.isMirrored), letGo = () => this.letGo();
     marks.dragged = marks.signs.snap = null;
     if (!hasMoved) {
       letGo();
@@ -234,14 +234,12 @@ export class Pointer {
     if (tool !== "measure") this.marks.measured = null;
     if (!takesPoints(tool)) this.marks.signs.snap = null;
     byId("marks").dataset.tool = tool;
-    for (const other of /** @type {NodeListOf<HTMLElement>} */ (document.querySelectorAll("[data-tool-button]"))) {
-      other.setAttribute("aria-pressed", String(other.dataset.toolButton === tool));
-    }
+    for (const other of toolButtons()) other.setAttribute("aria-pressed", String(other.dataset.toolButton === tool));
     this.marks.draw();
   }
 
   // Asks what lies near the pointer where its point snaps to it.
-  /** @param {Page.Point} at */
+  /** @param {Board.Point} at */
   lookAt(at) {
     const { drag } = this, { tool } = this.machine.state;
     if (drag?.kind === "grip") this.snaps.look(drag.grip.lookAt(this.under(at)));
@@ -267,7 +265,7 @@ export class Pointer {
   }
 
   // The point under the pointer and, once it rests, what is black there.
-  /** @param {Page.Point} at */
+  /** @param {Board.Point} at */
   showPlace(at) {
     const { x, y } = this.under(at), { unit, origin } = this.machine.state;
     const fromOrigin = origin ? `   from the origin ${point(x - origin.x, y - origin.y, unit)}` : "";

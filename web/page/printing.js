@@ -2,10 +2,9 @@
 // station's picture of each layer.
 
 import { byId, element } from "./dom.js";
-import { placeSeen } from "./quarters.js";
-import { readPbm } from "../pbm.js";
-import { seen } from "./units.js";
-import { shownLayers } from "./machine/state.js";
+import { placeSeen, seen } from "../board/index.js";
+import { readPbm } from "../bytes/index.js";
+import { pileSeen, shownLayers } from "../machine/index.js";
 
 const PAPER = "#ffffff";
 
@@ -28,7 +27,7 @@ function clearPaper() {
 }
 
 // The picture of a layer in its colour, on a canvas.
-/** @param {import("../pbm.js").Picture} picture @param {string} colour */
+/** @param {import("../bytes/index.js").Picture} picture @param {string} colour */
 function inked({ width, height, bits }, colour) {
   const canvas = new OffscreenCanvas(width, height), context = canvas.getContext("2d");
   const image = context.createImageData(width, height);
@@ -46,7 +45,7 @@ function inked({ width, height, bits }, colour) {
 /**
  * Puts the shown layers on the sheet and asks the browser to print it.
  * @param {Page.View} view
- * @param {Page.Pictures} given
+ * @param {Machine.Pictures} given
  */
 export async function printSheet(view, { layers: names, window: { width, height, pitch }, pictures }) {
   const isTurned = view.quarters % 2 === 1, [across, down] = isTurned ? [height, width] : [width, height];
@@ -54,7 +53,7 @@ export async function printSheet(view, { layers: names, window: { width, height,
   context.fillStyle = PAPER;
   context.fillRect(0, 0, across, down);
   placeSeen(context, { width, height }, view);
-  for (const layer of shownLayers(view.state)) {
+  for (const layer of pileSeen(shownLayers(view.state), view.isMirrored)) {
     const bytes = pictures[names.indexOf(layer.name)];
     if (!bytes) continue;
     context.globalAlpha = layer.opacity;

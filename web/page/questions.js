@@ -2,15 +2,15 @@
 
 import { arrayQuestion } from "./arranging.js";
 import { button, byId, element, field } from "./dom.js";
-import { lengthIn, lengthText, plural } from "./units.js";
+import { lengthIn, lengthText, plural } from "../board/index.js";
 import { convertQuestion } from "./refused_files.js";
 import { convertAllQuestion } from "./refused_groups.js";
 import { giveQuestion } from "./giving.js";
 import { goQuestion } from "./going.js";
-import { shownLayers } from "./machine/state.js";
+import { shownLayers } from "../machine/index.js";
 
 // Where a picture lies that is of no window the page knows of.
-/** @param {Page.State} state @param {Page.QuestionOf<"place">} question @returns {Page.Dialogue} */
+/** @param {Machine.State} state @param {Machine.QuestionOf<"place">} question @returns {Page.Dialogue} */
 function placeQuestion(state, { label, width, height, box }) {
   const { unit } = state, pitch = Math.max(1, Math.ceil(Math.max((box.right - box.left) / width, (box.high - box.low) / height)));
   const inputs = [box.left, box.low, pitch].map((value) => element("input", { type: "text", value: lengthText(Math.round(value), unit) }));
@@ -29,7 +29,7 @@ function placeQuestion(state, { label, width, height, box }) {
   };
 }
 
-/** @param {Page.State} state @param {Page.QuestionOf<"history">} question @returns {Page.Dialogue} */
+/** @param {Machine.State} state @param {Machine.QuestionOf<"history">} question @returns {Page.Dialogue} */
 const historyQuestion = (state, { steps }) => ({
   title: "Open files, and forget what can be undone?",
   parts: [element("p", {}, `Opening a file empties the list of what can be undone and redone: ${plural(steps, "step")}. `
@@ -37,7 +37,7 @@ const historyQuestion = (state, { steps }) => ({
   choices: [["Leave the files closed", "no"], ["Open them", "yes"]],
 });
 
-/** @param {Page.State} state @returns {Page.Dialogue} */
+/** @param {Machine.State} state @returns {Page.Dialogue} */
 function plotQuestion(state) {
   const { active, layers, unit: length } = state;
   const which = element("select", {}, element("option", { value: "active" }, `the layer ${active}`),
@@ -69,14 +69,14 @@ const anewQuestion = () => ({
 
 const LOST = "What was done to it is in no file yet, and cannot be undone then.";
 
-/** @param {Page.State} state @param {Page.QuestionOf<"close">} question @returns {Page.Dialogue} */
+/** @param {Machine.State} state @param {Machine.QuestionOf<"close">} question @returns {Page.Dialogue} */
 const closeQuestion = (state, { label, unsaved }) => ({
   title: `Close ${label}?`,
   parts: [element("p", {}, `It has ${plural(unsaved, "change")} that ${unsaved === 1 ? "is" : "are"} not saved. ${LOST}`)],
   choices: [["Leave it open", "no"], ["Close it", "yes"]],
 });
 
-/** @param {Page.State} state @param {Page.QuestionOf<"closeAll">} question @returns {Page.Dialogue} */
+/** @param {Machine.State} state @param {Machine.QuestionOf<"closeAll">} question @returns {Page.Dialogue} */
 const closeAllQuestion = (state, { unsaved, count }) => ({
   title: "Close the board?",
   parts: [element("p", {}, `It has ${plural(count, "layer")}, and ${plural(unsaved, "change")} that ${
@@ -84,7 +84,7 @@ const closeAllQuestion = (state, { unsaved, count }) => ({
   choices: [["Leave it open", "no"], ["Close it", "yes"]],
 });
 
-/** @type {{ [K in keyof Page.Questions]: (state: Page.State, question: Page.QuestionOf<K>, allow: Page.Allow) => Page.Dialogue }} */
+/** @type {{ [K in keyof Machine.Questions]: (state: Machine.State, question: Machine.QuestionOf<K>, allow: Page.Allow) => Page.Dialogue }} */
 const kinds = { place: placeQuestion, history: historyQuestion, plot: plotQuestion, anew: anewQuestion, array: arrayQuestion,
   convert: convertQuestion, convertAll: convertAllQuestion, close: closeQuestion, closeAll: closeAllQuestion, go: goQuestion,
   give: giveQuestion };
@@ -115,7 +115,7 @@ export function listenToQuestions(machine) {
     show(machine.state);
   };
 
-  /** @param {Page.State} state */
+  /** @param {Machine.State} state */
   function show(state) {
     const [question] = state.questions;
     if (shown === (question?.id ?? null)) return;
@@ -128,7 +128,7 @@ export function listenToQuestions(machine) {
     shown = question.id;
     const choices = byId("question-choices");
     let isAllowed = true;
-    const make = /** @type {(state: Page.State, question: Page.Question, allow: Page.Allow) => Page.Dialogue} */ (kinds[question.kind]);
+    const make = /** @type {(state: Machine.State, question: Machine.Question, allow: Page.Allow) => Page.Dialogue} */ (kinds[question.kind]);
     made = make(state, question, (allowed) => {
       isAllowed = allowed;
       if (shown === question.id && dialogue.open) allow(choices, isAllowed);

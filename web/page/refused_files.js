@@ -2,13 +2,13 @@
 // which is shown before it is made.
 
 import { button, byId, element, field, redraw } from "./dom.js";
-import { CHOICES } from "../convert/choices.js";
+import { CHOICES } from "../convert/index.js";
 import { Converter } from "./converter.js";
-import { refusalWords } from "./refusals.js";
+import { refusalWords } from "../machine/index.js";
 
 /**
  * A choice with its input; a way to read a file; and what a file is converted to first, by which choices.
- * @typedef {import("../convert/choices.js").Choice & { input: HTMLInputElement | HTMLSelectElement }} Field
+ * @typedef {import("../convert/index.js").Choice & { input: HTMLInputElement | HTMLSelectElement }} Field
  * @typedef {{ choices: Page.Choices, words: string[] }} Way
  * @typedef {{ choices: Page.Choices, converted: Page.Converted }} First
  */
@@ -20,7 +20,7 @@ const SHOWN = 12;
 // several times for a question.
 const FEW_BYTES = 2e6;
 
-/** @type {Record<import("../convert/choices.js").Choice["form"], (choice: import("../convert/choices.js").Choice) => HTMLInputElement | HTMLSelectElement>} */
+/** @type {Record<import("../convert/index.js").Choice["form"], (choice: import("../convert/index.js").Choice) => HTMLInputElement | HTMLSelectElement>} */
 const INPUTS = {
   switch: () => element("input", { type: "checkbox" }),
   one: ({ values }) => element("select", {}, ...[["", "as in the file"], ...values].map(([value, label]) =>
@@ -30,7 +30,7 @@ const INPUTS = {
 };
 
 // The choices for a kind of file, each with its input.
-/** @param {Page.LayerKind} kind */
+/** @param {Board.LayerKind} kind */
 export const fieldsOf = (kind) => CHOICES[kind].map((choice) => ({ ...choice, input: INPUTS[choice.form](choice) }));
 
 /** @param {Field[]} fields @param {Page.Choices} choices */
@@ -115,7 +115,7 @@ export const stoppedWords = (fault) => `the conversion ended: ${fault.message}`;
 
 // The part of a question that converts: what comes of the choices in its fields, told in `seen`.
 class Conversion {
-  /** @param {Page.LayerKind} kind @param {Uint8Array} bytes @param {Field[]} fields @param {Page.Allow} allow */
+  /** @param {Board.LayerKind} kind @param {Uint8Array} bytes @param {Field[]} fields @param {Page.Allow} allow */
   constructor(kind, bytes, fields, allow) {
     this.kind = kind;
     this.bytes = bytes;
@@ -154,7 +154,7 @@ class Conversion {
 }
 
 // The question how a refused file is to be converted; its answer has the bytes that come of it. It can be left at any time.
-/** @param {Page.State} state @param {Page.QuestionOf<"convert">} question @param {Page.Allow} allow @returns {Page.Dialogue} */
+/** @param {Machine.State} state @param {Machine.QuestionOf<"convert">} question @param {Page.Allow} allow @returns {Page.Dialogue} */
 export function convertQuestion({ refused, files }, question, allow) {
   const { layer, file, reply } = refused.find(({ id }) => id === question.refused);
   const { bytes } = files[file], { kind } = layer, fields = fieldsOf(kind), offered = element("div", {});
@@ -193,7 +193,7 @@ export function tryRefused(machine, id) {
   }, (fault) => told(false, stoppedWords(fault))));
 }
 
-/** @param {Page.Runner} machine @param {Page.State} state @param {Page.Refused} entry */
+/** @param {Page.Runner} machine @param {Machine.State} state @param {Machine.Refused} entry */
 function row(machine, { files }, { id, layer, file, reply, isTried, offer, note }) {
   const words = refusalWords(reply, files[file].bytes, layer.kind), { fileName } = layer;
   const convert = () => button("convert ..", () => machine.send({ kind: "offer", refused: id }),

@@ -1,10 +1,10 @@
 // Refused files that ask for the same: one form for all of them, with what comes of its choices for each.
 
 import { button, byId, element, field, redraw } from "./dom.js";
-import { CHOICES } from "../convert/choices.js";
-import { askingAlike } from "./machine/asking.js";
+import { CHOICES } from "../convert/index.js";
+import { askingAlike } from "../machine/index.js";
 import { asking, choicesOf, fieldsOf, fill, firstOf, forgetFirst, stoppedWords, waysFor, waysOffered } from "./refused_files.js";
-import { plural } from "./units.js";
+import { plural } from "../board/index.js";
 
 // So many changes or refusals of each file are told one by one.
 const SHOWN = 12;
@@ -27,7 +27,7 @@ function outcome(name, found) {
 // The part of the question that converts: each file by the choices in the form, one after another.
 class Conversions {
   /**
-   * @param {Page.LayerKind} kind
+   * @param {Board.LayerKind} kind
    * @param {{ id: number, name: string, bytes: Uint8Array }[]} files
    * @param {import("./refused_files.js").Field[]} fields
    * @param {Page.Allow} allow
@@ -76,7 +76,7 @@ class Conversions {
 }
 
 // The question how several refused files are to be converted: by the same choices. Its answer has the bytes of each.
-/** @param {Page.State} state @param {Page.QuestionOf<"convertAll">} question @param {Page.Allow} allow @returns {Page.Dialogue} */
+/** @param {Machine.State} state @param {Machine.QuestionOf<"convertAll">} question @param {Page.Allow} allow @returns {Page.Dialogue} */
 export function convertAllQuestion({ refused, files: given }, question, allow) {
   const entries = refused.filter(({ id }) => question.refused.includes(id)), [{ layer: { kind }, offer }] = entries;
   const files = entries.map(({ id, layer, file }) => ({ id, name: layer.fileName, bytes: given[file].bytes }));
@@ -114,6 +114,6 @@ export function listenToGroups(machine) {
     redraw(byId("refused-groups"), ...askingAlike(state).map(({ key, kind, asks, entries }) => element("p", { "data-row": key },
       `${plural(entries.length, kind === "drill" ? "drill file" : "Gerber file")} ask for the same: ${labelsOf(kind, asks)}. `,
       button("answer for all ..", () => machine.send({ kind: "offerAll", refused: entries.map(({ id }) => id) }),
-        { "aria-label": `answer for ${plural(entries.length, "file")}: ${labelsOf(kind, asks)}` }))));
+        { "aria-label": `answer for all of ${plural(entries.length, "file")}: ${labelsOf(kind, asks)}` }))));
   });
 }

@@ -1,6 +1,6 @@
 // Rulers along the upper and the left edge of the board, with the unit in their corner. They count from the origin of lengths.
 
-import { UNITS } from "./units.js";
+import { UNITS } from "../board/index.js";
 
 // How wide a ruler is, in pixels of the page: a line of its letters, and the marks.
 const EDGE = 20;
@@ -28,22 +28,22 @@ export function ticks(from, to, least, unit) {
 // The marks of an edge of the canvas, from its ends as points of the board: { place, words }, in pixels along it.
 /**
  * @param {Page.View} view
- * @param {Page.Point} from
- * @param {Page.Point} to
+ * @param {Board.Point} from
+ * @param {Board.Point} to
  * @param {"x" | "y"} axis
  * @param {number} least
  * @param {string} unit
- * @param {Page.Point | null} origin
+ * @param {Board.Point | null} origin
  */
 function marksOf(view, from, to, axis, least, unit, origin) {
   const zero = origin?.[axis] ?? 0, [low, high] = [from[axis], to[axis]].sort((one, other) => one - other);
   return ticks(low - zero, high - zero, least, unit).map(({ at, words }) => ({ at: view.placeOf(...pointOn(axis, at + zero)), words }));
 }
 
-/** @param {"x" | "y"} axis @param {number} value @returns {Page.Pair} */
+/** @param {"x" | "y"} axis @param {number} value @returns {Board.Pair} */
 const pointOn = (axis, value) => axis === "x" ? [value, 0] : [0, value];
 
-/** @param {Page.View} view @param {Page.State} state @param {Page.Point | null} pointer @param {Page.Ink} colour */
+/** @param {Page.View} view @param {Machine.State} state @param {Board.Point | null} pointer @param {Page.Ink} colour */
 export function rulers(view, { unit, origin }, pointer, colour) {
   const { context, canvas, density, pitch } = view;
   const edge = EDGE * density, least = APART * density * pitch, [across, down] = /** @type {("x" | "y")[]} */ (view.isTurned ? ["y", "x"] : ["x", "y"]);
@@ -74,7 +74,7 @@ export function rulers(view, { unit, origin }, pointer, colour) {
   if (pointer) pointerMarks(view, pointer, edge, colour);
 }
 
-/** @param {Page.Context} context @param {string} words @param {number} x @param {number} y */
+/** @param {Board.Context} context @param {string} words @param {number} x @param {number} y */
 function upwards(context, words, x, y) {
   context.save();
   context.translate(x, y);
@@ -91,7 +91,7 @@ function corner({ context, density }, unit, edge, colour) {
   context.fillText(unit, 1 * density, edge * 0.65);
 }
 
-/** @param {Page.View} view @param {Page.Point} pointer @param {number} edge @param {Page.Ink} colour */
+/** @param {Page.View} view @param {Board.Point} pointer @param {number} edge @param {Page.Ink} colour */
 function pointerMarks({ context }, { x, y }, edge, colour) {
   context.strokeStyle = colour("--ink-picked");
   context.beginPath();

@@ -1,9 +1,8 @@
 // Runs the machine: gives it one event after another, and sends what it makes of them to the worker, to the journal and to
 // the page. Then the panels draw what the state says.
 
-import { firstState, isIdle } from "./machine/state.js";
-import { faultWords } from "./kept.js";
-import { step } from "./machine/step.js";
+import { firstState, isIdle, step } from "../machine/index.js";
+import { faultWords } from "./store.js";
 
 export class Runner {
   // `page` does what the machine asks of the page, by the kinds of its messages.
@@ -15,34 +14,34 @@ export class Runner {
     this.link = null;
     /** @type {Page.Kept | null} */
     this.kept = null;
-    /** @type {Page.Event[]} */
+    /** @type {Machine.Event[]} */
     this.inbox = [];
     // What is done while the page still reads its journal comes behind all that it has kept.
     this.hasBegun = false;
-    /** @type {Page.Event[]} */
+    /** @type {Machine.Event[]} */
     this.early = [];
     this.isGoing = false;
-    /** @type {{ pick: (state: Page.State) => unknown[], draw: (state: Page.State) => unknown, last: unknown[] | null }[]} */
+    /** @type {{ pick: (state: Machine.State) => unknown[], draw: (state: Machine.State) => unknown, last: unknown[] | null }[]} */
     this.panels = [];
     // Who waits: for gestures by their ids, for openings, and for the machine to be idle.
-    /** @type {Map<number | string, (result: Page.Result | null) => void>} */
+    /** @type {Map<number | string, (result: Machine.Result | null) => void>} */
     this.gestures = new Map();
-    /** @type {Map<number | string, (result: Page.ToPage["opened"]["result"]) => void>} */
+    /** @type {Map<number | string, (result: Machine.ToPage["opened"]["result"]) => void>} */
     this.openings = new Map();
-    /** @type {(() => void)[]} */
-    this.idlers = [];
+    /** @type {{ isSo: () => boolean, done: () => void }[]} */
+    this.waiting = [];
     // What is being read or written.
     this.awaited = 0;
     this.number = 0;
   }
 
   // A panel that is drawn when one of the parts changes that `pick` takes of the state.
-  /** @param {(state: Page.State) => unknown[]} pick @param {(state: Page.State) => unknown} draw */
+  /** @param {(state: Machine.State) => unknown[]} pick @param {(state: Machine.State) => unknown} draw */
   panel(pick, draw) {
     this.panels.push({ pick, draw, last: null });
   }
 
-  /** @param {Page.Event} event */
+  /** @param {Machine.Event} event */
   send(event) {
     if (!this.hasBegun && event.kind !== "begin") {
       this.early.push(event);
@@ -59,7 +58,7 @@ export class Runner {
     else this.settle();
   }
 
-  /** @param {Page.Event} event */
+  /** @param {Machine.Event} event */
   take(event) {
     try {
       const { state, lines, messages } = step(this.state, event);
@@ -73,7 +72,7 @@ export class Runner {
     }
   }
 
-  /** @param {Page.Message} message */
+  /** @param {Machine.Message} message */
   deliver(message) {
     if (message.to === "worker") this.link?.send(message);
     else if (message.to === "kept") this.keep(message);
@@ -81,12 +80,12 @@ export class Runner {
     else if (message.kind === "opened") this.finished(this.openings, message.opening, message.result);
     else if (message.kind === "named") this.named(message);
     else {
-      const task = /** @type {(message: Page.Message) => unknown} */ (this.page[message.kind]);
+      const task = /** @type {(message: Machine.Message) => unknown} */ (this.page[message.kind]);
       task(message);
     }
   }
 
-  /** @param {Page.ToKept} message */
+  /** @param {Machine.ToKept} message */
   keep({ kind, number, ...what }) {
     this.await((kind === "anew" ? this.kept.writeAnew(what) : this.kept.write(what))
       .then((answer) => this.send({ kind: "kept", number, ...answer })));
@@ -107,7 +106,7 @@ export class Runner {
     waiting.delete(id);
   }
 
-  /** @param {Page.ToPage["named"]} message */
+  /** @param {Machine.ToPage["named"]} message */
   named({ token, opening }) {
     const done = this.openings.get(token);
     this.openings.delete(token);
@@ -115,7 +114,7 @@ export class Runner {
   }
 
   // A gesture; done when it is, with what came of it.
-  /** @param {Page.Gesture} gesture @returns {Promise<Page.Result | null>} */
+  /** @param {Machine.Gesture} gesture @returns {Promise<Machine.Result | null>} */
   gesture(gesture) {
     const id = `gesture ${++this.number}`;
     return new Promise((done) => {
@@ -126,10 +125,10 @@ export class Runner {
 
   // Files; done when nothing of them is open any more.
   /**
-   * @param {Page.File[]} files
+   * @param {Machine.File[]} files
    * @param {boolean} areNamed
    * @param {string[]} faults
-   * @returns {Promise<Page.ToPage["opened"]["result"]>}
+   * @returns {Promise<Machine.ToPage["opened"]["result"]>}
    */
   open(files, areNamed = true, faults = []) {
     const token = `opening ${++this.number}`;
@@ -157,25 +156,38 @@ export class Runner {
     return isIdle(this.state) && this.inbox.length === 0 && this.awaited === 0 && !this.kept?.isBusy;
   }
 
+  // Done when that is so.
+  /** @param {() => boolean} isSo @returns {Promise<void>} */
+  when(isSo) {
+    return new Promise((done) => {
+      this.waiting.push({ isSo, done });
+      this.settle();
+    });
+  }
+
   settle() {
-    if (!this.idlers.length || !this.isIdle) return;
-    for (const done of this.idlers.splice(0)) done();
+    const over = this.waiting.filter(({ isSo }) => isSo());
+    if (!over.length) return;
+    this.waiting = this.waiting.filter((waits) => !over.includes(waits));
+    for (const { done } of over) done();
   }
 
   // Done when the page has begun: what it was left with is opened, but for what it asks.
   begun() {
-    return new Promise((done) => {
-      const look = () => isIdle(this.state) || this.state.work?.stage === "asking" ? done() : setTimeout(look, 5);
-      look();
+    return this.when(() => isIdle(this.state) || this.state.work?.stage === "asking");
+  }
+
+  // Done when nothing is under way in the board that is shown, no refused file of it is tried, and its station does not just begin:
+  // what is answered then would be taken for an answer to another board.
+  atRest() {
+    return this.when(() => {
+      const { station } = this.state;
+      return isIdle(this.state) && (station.isOpen || station.why !== null) && this.inbox.length === 0;
     });
   }
 
   // Done when nothing is under way, nothing waits, and all is written.
-  /** @returns {Promise<void>} */
   idle() {
-    return new Promise((done) => {
-      this.idlers.push(done);
-      this.settle();
-    });
+    return this.when(() => this.isIdle);
   }
 }

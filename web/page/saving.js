@@ -1,10 +1,9 @@
 // Saving: what the machine hands out as files, and the script with the files that it loads.
 
 import { byId, element } from "./dom.js";
-import { pngOf, zipOf } from "./packing.js";
-import { SCRIPT_SAVED } from "./machine/showing.js";
-import { scriptText, sessionOf } from "./machine/state.js";
-import { plural } from "./units.js";
+import { pngOf, zipOf } from "../zip/index.js";
+import { SCRIPT_SAVED, scriptText, sessionOf } from "../machine/index.js";
+import { plural } from "../board/index.js";
 
 const text = new TextEncoder();
 
@@ -22,7 +21,7 @@ export function download(name, parts, type = "application/octet-stream") {
 }
 
 // Hands out files, [{ name, bytes }], one alone or in a ZIP of a name; plots in their form.
-/** @param {Omit<Page.ToPage["download"], "number">} files */
+/** @param {Omit<Machine.ToPage["download"], "number">} files */
 export async function handOut({ files, zip, form = null, pitch }) {
   const made = await Promise.all(files.map(async ({ name, bytes }) =>
     ({ name, parts: form === "png" ? await pngOf(bytes, pitch) : [bytes] })));

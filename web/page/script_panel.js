@@ -1,17 +1,17 @@
 // The script at the foot: its lines with their replies, and the line that a person types.
 
 import { byId, element } from "./dom.js";
-import { short } from "./units.js";
+import { short } from "../board/index.js";
 
 // So many lines are kept on the page, and letters of each: the whole script is saved, and this is its end.
 const SHOWN = 400, MOST_LETTERS = 2000;
 
-/** @param {Page.Told} entry */
+/** @param {Machine.Told} entry */
 const row = ({ line, reply }) => element("li", { className: reply.startsWith("refused") ? "refused" : "" },
   element("code", {}, short(line, MOST_LETTERS)), element("span", {}, reply));
 
 // The lines that are shown already stay as they are.
-/** @param {HTMLElement} list @param {Page.Told[]} before @param {Page.Told[]} told */
+/** @param {HTMLElement} list @param {Machine.Told[]} before @param {Machine.Told[]} told */
 function show(list, before, told) {
   const isLonger = before.length <= told.length && before.length > 0 && before[before.length - 1] === told[before.length - 1];
   const fresh = (isLonger ? told.slice(before.length) : told).slice(-SHOWN).map(row);
@@ -23,7 +23,7 @@ function show(list, before, told) {
 
 /** @param {Page.Runner} machine @param {Page.View} view */
 export function listenToScript(machine, view) {
-  /** @type {Page.Told[]} */
+  /** @type {Machine.Told[]} */
   let before = [];
   machine.panel(({ told }) => [told], ({ told }) => {
     show(byId("script"), before, told);

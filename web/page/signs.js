@@ -3,7 +3,7 @@
 
 import { LINE, shapeOf, stroke } from "./outlines.js";
 import { gapLine } from "./gap_panel.js";
-import { handlesOf } from "./handles.js";
+import { handlesOf } from "../machine/index.js";
 
 const NOWHERE = { x: 0, y: 0 };
 // Pixels of the page: signs are told apart by their shapes, and a handle is gripped as easily as a corner of a window.
@@ -22,15 +22,15 @@ export class Signs {
     // one of the menu that has the focus, { words, name, box }; and the gap, { from, to }, as points.
     /** @type {Page.Snap | null} */
     this.snap = null;
-    /** @type {Page.Pair[]} */
+    /** @type {Board.Pair[]} */
     this.handles = [];
     /** @type {Page.Previewed | null} */
     this.reshaped = null;
     /** @type {Page.Previewed | null} */
     this.listed = null;
-    /** @type {Page.Gap | null} */
+    /** @type {Board.Gap | null} */
     this.gap = null;
-    /** @type {{ items: Page.Lit["items"], shapes: Page.Outline[] } | null} */
+    /** @type {{ items: Machine.Lit["items"], shapes: Board.Outline[] } | null} */
     this.paths = null;
     machine.panel(({ picked, tool }) => [picked, tool], ({ picked, tool }) => {
       this.handles = tool === "pick" && picked.length === 1 ? handlesOf(picked[0].words) : [];
@@ -39,7 +39,7 @@ export class Signs {
       this.gap = gapLine(state);
       view.paint();
     });
-    machine.panel(({ tables, origin }) => [tables, origin], () => view.paint());
+    machine.panel(({ tables, lit, origin }) => [tables, lit, origin], () => view.paint());
   }
 
   // The handles that are seen, { number, x, y } in pixels of the canvas; none where they are too many.
@@ -54,7 +54,7 @@ export class Signs {
   }
 
   // The number of the handle at a place of the canvas, within so many pixels; null where none is.
-  /** @param {Page.Point} at @param {number} reach */
+  /** @param {Board.Point} at @param {number} reach */
   handleAt({ x, y }, reach) {
     const near = this.seenHandles().map((handle) => ({ ...handle, distance: Math.hypot(handle.x - x, handle.y - y) }));
     return near.filter(({ distance }) => distance <= reach).sort((one, other) => one.distance - other.distance)[0]?.number ?? null;
@@ -63,15 +63,15 @@ export class Signs {
   // Below the outlines of what is picked.
   /** @param {Page.Ink} colour */
   paintBelow(colour) {
-    const { lit } = this.machine.state.tables, { context, view } = this;
-    if (lit?.items) {
+    const { context, view } = this, lit = this.lit();
+    if (lit) {
       context.setTransform(1, 0, 0, 1, 0, 0);
       context.globalAlpha = DIMMED;
       context.fillStyle = getComputedStyle(view.canvas).getPropertyValue("--board");
       context.fillRect(0, 0, view.canvas.width, view.canvas.height);
       context.globalAlpha = 1;
       view.fromAbove();
-      for (const shape of this.pathsOf(lit)) stroke(context, view, shape, NOWHERE, colour("--ink-new"), LINE * view.density);
+      for (const shape of this.pathsOf(lit.items, lit.entries)) stroke(context, view, shape, NOWHERE, colour("--ink-new"), LINE * view.density);
     }
     for (const item of [this.listed, this.reshaped]) {
       if (!item) continue;
@@ -80,13 +80,21 @@ export class Signs {
     }
   }
 
+  // What is lit, with the apertures or tools of its layers: what items share, or what a table lights; null where nothing is.
+  lit() {
+    const { entries, lit, tables } = this.machine.state;
+    if (lit || !tables.lit?.items) return lit;
+    const { name, items } = tables.lit;
+    return { items, entries: { [name]: tables.found[name]?.entries ?? entries[name] } };
+  }
+
   // The outlines of all lit items as one path for each width, made once.
-  /** @param {Page.Lit} lit */
-  pathsOf({ name, items }) {
+  /** @param {Machine.Found["items"]} items @param {Record<string, Board.Entry[]>} entries */
+  pathsOf(items, entries) {
     if (this.paths?.items === items) return this.paths.shapes;
-    const { entries, tables } = this.machine.state, known = tables.found[name]?.entries ?? entries[name], shapes = new Map();
-    for (const { words, box } of items) {
-      const { path, width } = shapeOf(words, box, known);
+    const shapes = new Map();
+    for (const { name, words, box } of items) {
+      const { path, width } = shapeOf(words, box, entries[name]);
       if (!shapes.has(width)) shapes.set(width, { path: new Path2D(), width });
       shapes.get(width).path.addPath(path);
     }
@@ -109,7 +117,7 @@ export class Signs {
     if (this.snap) this.snapSign(marks);
   }
 
-  /** @param {[from: Page.Point, to: Page.Point][]} pairs */
+  /** @param {[from: Board.Point, to: Board.Point][]} pairs */
   lines(pairs) {
     const { context } = this;
     context.beginPath();
@@ -120,25 +128,25 @@ export class Signs {
     context.stroke();
   }
 
-  /** @param {Page.Point} at @param {number} size */
+  /** @param {Board.Point} at @param {number} size */
   cross({ x, y }, size) {
     this.lines([[{ x: x - size, y }, { x: x + size, y }], [{ x, y: y - size }, { x, y: y + size }]]);
     this.ring({ x, y }, size / 2);
   }
 
-  /** @param {Page.Point} at @param {number} size */
+  /** @param {Board.Point} at @param {number} size */
   ring({ x, y }, size) {
     this.context.beginPath();
     this.context.arc(x, y, size, 0, 2 * Math.PI);
     this.context.stroke();
   }
 
-  /** @param {Page.Point} at @param {number} size */
+  /** @param {Board.Point} at @param {number} size */
   square({ x, y }, size) {
     this.context.strokeRect(x - size, y - size, 2 * size, 2 * size);
   }
 
-  /** @param {Page.Marks} marks @param {Page.Point} at @param {number} size */
+  /** @param {Page.Marks} marks @param {Board.Point} at @param {number} size */
   handle(marks, at, size) {
     const { context } = this;
     context.fillStyle = marks.colour("--panel");

@@ -1,11 +1,8 @@
 // Points snap to items: to centres, ends and corners, else to edges. The station tells which items are near the pointer, and what is
 // shown then is what a press takes: a point snaps where the sign stands.
 
-import { edgeOf, pointsOf, shapeOf } from "./shapes.js";
-import { drawingTools } from "./drawing_tools.js";
-import { entriesFrom } from "./items.js";
-import { far } from "./sides.js";
-import { isOpening, shownLayers } from "./machine/state.js";
+import { edgeOf, entriesFrom, far, pointsOf, shapeOf } from "../board/index.js";
+import { drawingTools, isOpening, shownLayers } from "../machine/index.js";
 
 // Pixels of the page within which a point snaps: near enough to be meant, and twice as far as a click may go.
 const REACH = 8;
@@ -14,7 +11,7 @@ const REACH = 8;
 /** @param {string} tool */
 export const takesPoints = (tool) => Boolean(drawingTools[tool]) || tool === "measure" || tool === "origin";
 
-/** @param {Page.Pair} point */
+/** @param {Board.Pair} point */
 const whole = ([x, y]) => ({ x: Math.round(x), y: Math.round(y) });
 
 export class Snaps {
@@ -30,11 +27,11 @@ export class Snaps {
   }
 
   forget() {
-    /** @type {(Page.Place & { points: { kind: string, at: Page.Pair }[], shape: Page.Shape | null })[]} */
+    /** @type {(Machine.Place & { points: { kind: string, at: Board.Pair }[], shape: Board.Shape | null })[]} */
     this.items = [];
-    /** @type {Map<string, Page.Entry[]>} */
+    /** @type {Map<string, Board.Entry[]>} */
     this.entries = new Map();
-    /** @type {Page.Point | null} */
+    /** @type {Board.Point | null} */
     this.asked = this.wanted = null;
     this.isUnderWay = false;
   }
@@ -48,7 +45,7 @@ export class Snaps {
   }
 
   // Asks which items are near a point, one question at a time.
-  /** @param {Page.Point} at */
+  /** @param {Board.Point} at */
   look(at) {
     const { machine } = this, { state } = machine;
     if (!this.isOn || !machine.link || !state.station.isOpen || isOpening(state)) return;
@@ -63,7 +60,7 @@ export class Snaps {
     this.asked = this.wanted;
     try {
       // (twice as far, so that a small move has its items)
-      /** @type {{ items: Page.Listed[], entries: Record<string, string[]> }} */
+      /** @type {{ items: Machine.Listed[], entries: Record<string, string[]> }} */
       const found = await machine.link.call("near", { names, unknown, x, y, reach: 2 * this.reach });
       if (entries !== this.entries) return;
       for (const [name, lines] of Object.entries(found.entries)) entries.set(name, entriesFrom(lines));
@@ -77,20 +74,20 @@ export class Snaps {
     if (this.wanted !== this.asked) this.ask();
   }
 
-  /** @param {Page.Listed} item */
+  /** @param {Machine.Listed} item */
   described({ name, place, words }) {
     const entries = this.entries.get(name);
     return { name, place, points: pointsOf(words, entries), shape: shapeOf(words, entries) };
   }
 
   // What a point snaps to: { x, y, kind, name, place }, null where nothing is near. `isLeftOut` says of which items that is not.
-  /** @param {Page.Point} point @param {(item: Page.Place) => boolean} isLeftOut @returns {Page.Snap | null} */
+  /** @param {Board.Point} point @param {(item: Machine.Place) => boolean} isLeftOut @returns {Page.Snap | null} */
   at({ x, y }, isLeftOut = () => false) {
     if (!this.isOn) return null;
     const items = this.items.filter((item) => !isLeftOut(item)), { reach } = this;
     /** @type {Page.Snap | null} */
     let best = null;
-    /** @param {Page.Pair | null} at @param {string} kind @param {Page.Place} item */
+    /** @param {Board.Pair | null} at @param {string} kind @param {Machine.Place} item */
     const take = (at, kind, { name, place }) => {
       const distance = at ? far(at, [x, y]) : Infinity;
       if (distance <= reach && (!best || distance < best.distance)) best = { ...whole(at), kind, name, place, distance };

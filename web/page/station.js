@@ -1,10 +1,20 @@
-// The worker with the station. What it answers, and that it stopped, is told to `heard`.
+// A worker, as that with the station. What it answers, and that it stopped, is told to `heard`.
+
+// A worker holds a lock as long as it lives: the page, which waits for that lock, gets it when the worker ended, however that was.
+const ALIVE = `if (self.navigator.locks) {
+  const lock = "camplot worker " + [...crypto.getRandomValues(new Uint32Array(4))].join(" ");
+  navigator.locks.request(lock, () => {
+    self.postMessage({ kind: "alive", lock });
+    return new Promise(() => {});
+  }).catch(() => {});
+}
+`;
 
 export class Link {
   // Starts a worker of this source; { number, answer } and news go to `heard`, and that it stopped to `stopped`.
   /** @param {string} source @param {(message: Page.News) => void} heard @param {(why: string) => void} stopped */
   constructor(source, heard, stopped) {
-    this.url = URL.createObjectURL(new Blob([source], { type: "text/javascript" }));
+    this.url = URL.createObjectURL(new Blob([ALIVE, source], { type: "text/javascript" }));
     this.worker = new Worker(this.url);
     this.isOver = false;
     this.stopped = stopped;
@@ -22,7 +32,6 @@ export class Link {
     this.worker.onmessageerror = () => this.end("a message could not be read");
   }
 
-  // The worker holds a lock as long as it lives.
   /** @param {string} lock */
   watch(lock) {
     navigator.locks?.request(lock, () => this.end("it ended")).catch(() => {});
@@ -53,13 +62,13 @@ export class Link {
   }
 
   // A message with an answer of its own, past the machine: to open the station. A worker that ended answers nothing any more.
-  /** @template T @param {string} kind @param {object} message @returns {Promise<T>} */
-  call(kind, message = {}) {
+  /** @template T @param {string} kind @param {object} message @param {Transferable[]} over @returns {Promise<T>} */
+  call(kind, message = {}, over = []) {
     if (this.isOver) return Promise.reject(new Error("it ended"));
     const call = ++this.number;
     return new Promise((done, fail) => {
       this.waiting.set(call, { done, fail });
-      this.send({ call, kind, ...message });
+      this.send({ call, kind, ...message }, over);
     });
   }
 }

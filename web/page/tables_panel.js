@@ -2,11 +2,8 @@
 // all of them.
 
 import { button, byId, element, redraw } from "./dom.js";
-import { filesOf } from "./machine/attributes.js";
-import { isOpening, layerOf } from "./machine/state.js";
-import { lengthText, seen, wordsIn } from "./units.js";
-import { platingOf } from "./plating.js";
-import { tabled } from "./machine/tables.js";
+import { filesOf, isOpening, layerOf, platingOf, tabled } from "../machine/index.js";
+import { lengthText, seen, wordsIn } from "../board/index.js";
 
 // Pixels of a shape's picture along a side.
 const SIDE = 36;
@@ -27,7 +24,7 @@ const cells = (...contents) => contents.map((content) => element("td", {}, conte
 const heads = (...words) => element("thead", {}, element("tr", {}, ...words.map((word) => element("th", { scope: "col" }, word))));
 
 // The bytes of a layer's file.
-/** @param {Page.State} state @param {string | undefined} name */
+/** @param {Machine.State} state @param {string | undefined} name */
 const fileOf = (state, name) => state.files[filesOf(state).get(name)]?.bytes;
 
 // The shape of an aperture as the station paints it.
@@ -55,13 +52,13 @@ export class TablesPanel {
     machine.panel(({ tables, unit, active, layers }) => [tables, unit, active, layers], (state) => this.show(state));
   }
 
-  /** @param {Partial<Page.Tables>} changes */
+  /** @param {Partial<Machine.Tables>} changes */
   ask(changes = {}) {
     this.machine.gesture({ kind: "tally", changes });
   }
 
   // What the tables show is counted anew where the board changed.
-  /** @param {Page.State} state */
+  /** @param {Machine.State} state */
   renew(state) {
     const { tables, told, work, queue } = state;
     const isAsked = work?.gesture.kind === "tally" || queue.some(({ kind }) => kind === "tally");
@@ -74,11 +71,12 @@ export class TablesPanel {
   light(name, number) {
     const { lit } = this.machine.state.tables, isLit = lit?.name === name && lit.number === number;
     this.ask({ lit: isLit ? null : { name, number, items: null } });
+    if (this.machine.state.lit) this.machine.gesture({ kind: "light", of: null });
   }
 
   // The buttons of a row: its number lights its items, the other one picks them.
   /**
-   * @param {Page.State} state
+   * @param {Machine.State} state
    * @param {string} name
    * @param {number} number
    * @param {string} words
@@ -94,7 +92,7 @@ export class TablesPanel {
   }
 
   // Whether a table shows something else than before: its rows stay where they are the same.
-  /** @param {HTMLElement} panel @param {Page.State} state @param {unknown[]} more */
+  /** @param {HTMLElement} panel @param {Machine.State} state @param {unknown[]} more */
   isNew(panel, state, ...more) {
     const { lit, found } = state.tables, names = tabled(state), shown = panel.id === "drills" ? "drill" : "gerber";
     const of = names.filter((name) => layerOf(state, name).kind === shown).map((name) => [name, layerOf(state, name).label, found[name]]);
@@ -103,7 +101,7 @@ export class TablesPanel {
     return isNew;
   }
 
-  /** @param {Page.State} state */
+  /** @param {Machine.State} state */
   show(state) {
     const { isDrill, isApertures } = state.tables, names = tabled(state);
     const isDrillLayer = (name) => layerOf(state, name).kind === "drill";
@@ -111,14 +109,14 @@ export class TablesPanel {
     if (isApertures) this.showApertures(state, names.find((name) => !isDrillLayer(name)));
   }
 
-  /** @param {Page.State} state @param {string[]} names */
+  /** @param {Machine.State} state @param {string[]} names */
   showDrills(state, names) {
     if (!this.isNew(byId("drills"), state)) return;
     const parts = names.flatMap((name) => this.drillParts(state, name));
     redraw(byId("drills"), ...parts.length ? parts : [element("p", { className: "hint" }, "No drill layer is open.")]);
   }
 
-  /** @param {Page.State} state @param {string} name */
+  /** @param {Machine.State} state @param {string} name */
   drillParts(state, name) {
     const found = state.tables.found[name];
     if (!found) return [];
@@ -133,7 +131,7 @@ export class TablesPanel {
       heads("tool", state.unit, "hits", "routs", "plated", ""), element("tbody", {}, ...rows))];
   }
 
-  /** @param {Page.State} state @param {string | undefined} name */
+  /** @param {Machine.State} state @param {string | undefined} name */
   showApertures(state, name) {
     const panel = byId("apertures"), found = state.tables.found[name], bytes = fileOf(state, name), shapes = this.shapes.get(bytes);
     if (!this.isNew(panel, state, filesOf(state).get(name), shapes?.size)) return undefined;
@@ -151,7 +149,7 @@ export class TablesPanel {
   }
 
   // Asks for the shapes of a layer once: nothing changes a definition.
-  /** @param {Page.State} state @param {string} name @param {Uint8Array | undefined} bytes */
+  /** @param {Machine.State} state @param {string} name @param {Uint8Array | undefined} bytes */
   draw(state, name, bytes) {
     const { machine } = this;
     if (!bytes || this.shapes.has(bytes) || !state.station.isOpen) return;

@@ -2,11 +2,11 @@
 // a window of the station, which the worker draws; while a new one is not there yet, the one before is shown where it
 // belongs, and what no picture covers is marked as not drawn.
 
-import { BOARD, seen } from "./units.js";
+import { BOARD, placeSeen, seen } from "../board/index.js";
 import { Composed } from "./composed.js";
-import { drawnLayers, isOpening } from "./machine/state.js";
+import { drawnLayers, isMadeShown, isOpening, pileSeen } from "../machine/index.js";
+import { sideWanted } from "./board_view.js";
 import { painterOf } from "./painting.js";
-import { placeSeen } from "./quarters.js";
 
 // Pixels of a picture beyond each edge of the canvas, so that a small move has its pixels.
 const MARGIN = 64;
@@ -18,6 +18,8 @@ const GREATEST_PITCH = 4e6;
 // The page asks for another window at most so often while the one before is drawn: often enough that a view that is moved fills up,
 // and seldom enough that something is drawn before it is asked anew.
 const PATIENCE_MS = 200;
+// The part of the view that stays free at each side of a board that is shown whole.
+const ROOM = 0.05;
 // The rulers are about so many pixels of the page wide.
 const EDGE = 20;
 // The view moves for so long after it was moved. Of each frame so many ms go to the composed picture, while it moves and else.
@@ -32,7 +34,7 @@ export class View {
     this.machine = machine;
     this.ask = ask;
     this.canvas = canvas;
-    /** @type {Page.Context} */
+    /** @type {Board.Context} */
     this.context = canvas.getContext("2d", { alpha: false });
     // Device pixels a pixel of the page.
     this.density = 1;
@@ -53,6 +55,9 @@ export class View {
     /** @type {(ImageBitmap | undefined)[]} */
     this.replaced = [];
     this.anchor = { left: 0, top: 0, pitch: 0 };
+    // The box that is shown as large as it fits, also when the sides of the view change; null once a person moved the view.
+    /** @type {Board.Box | null} */
+    this.fitted = null;
     this.moved = 0;
     this.isWanted = false;
     this.isWhole = true;
@@ -63,6 +68,8 @@ export class View {
     this.afterDraw = () => {};
     this.onMirror = () => {};
     this.onDrawn = () => {};
+    /** @type {(made: Page.MadeSide) => void} */
+    this.onMade = () => {};
   }
 
   get state() {
@@ -81,7 +88,8 @@ export class View {
     if (this.canvas.width === width && this.canvas.height === height) return;
     this.canvas.width = width;
     this.canvas.height = height;
-    this.renew();
+    if (this.fitted) this.fit(this.fitted);
+    else this.renew();
   }
 
   // Whether left and right of the board are up and down on the canvas.
@@ -104,7 +112,7 @@ export class View {
     return { x: this.left + at.x * this.pitch, y: this.top - at.y * this.pitch };
   }
 
-  /** @param {number} x @param {number} y @returns {Page.Point} */
+  /** @param {number} x @param {number} y @returns {Board.Point} */
   placeOf(x, y) {
     const column = (x - this.left) / this.pitch, row = (this.top - y) / this.pitch;
     const across = this.isMirrored ? this.width - column : column;
@@ -131,7 +139,7 @@ export class View {
   }
 
   // What is painted next lies where the picture from above and upright has it.
-  /** @param {Page.Context} context */
+  /** @param {Board.Context} context */
   fromAbove(context = this.context) {
     placeSeen(context, this, this);
   }
@@ -139,31 +147,41 @@ export class View {
   // What lies in the middle stays there.
   /** @param {boolean} isMirrored */
   mirror(isMirrored) {
+    const isOver = isMirrored !== this.isMirrored;
     this.isMirrored = isMirrored;
     this.onMirror();
-    this.paint();
+    if (isOver) this.change();
+    else this.paint();
+  }
+
+  // What lies on the board, the nearest layer last.
+  get pile() {
+    return pileSeen(drawnLayers(this.state), this.isMirrored);
   }
 
   // Turns what is seen so many quarters counterclockwise from upright; what lies in the middle stays there.
   /** @param {number} quarters */
   turnTo(quarters) {
-    const { x, y } = this.pointAt(this.canvas.width / 2, this.canvas.height / 2);
+    const { fitted } = this, { x, y } = this.pointAt(this.canvas.width / 2, this.canvas.height / 2);
     this.quarters = (quarters % 4 + 4) % 4;
     this.onMirror();
-    this.centre(x, y);
+    if (fitted) this.fit(fitted);
+    else this.centre(x, y);
   }
 
-  // Shows a box as large as it fits, with some room around it.
-  /** @param {Page.Box} box @param {number} room */
-  fit(box, room = 0.06) {
-    const width = Math.max(1000, box.right - box.left), height = Math.max(1000, box.high - box.low);
-    const pitch = Math.max(width / this.width, height / this.height) / (1 - 2 * room);
-    this.pitch = this.allowed(pitch, Math.ceil);
-    this.centre((box.left + box.right) / 2, (box.low + box.high) / 2);
+  // Shows a box as large as it fits, with some room around it; a whole board next to the rulers, until a person moves it.
+  /** @param {Board.Box} box @param {number} room */
+  fit(box, room = ROOM) {
+    const isWhole = room === ROOM, edge = isWhole ? EDGE * this.density : 0, { width, height } = this.canvas;
+    const sides = [Math.max(1000, box.right - box.left), Math.max(1000, box.high - box.low)];
+    const [across, down] = this.isTurned ? sides.reverse() : sides;
+    const pitch = Math.max(across / Math.max(1, width - edge), down / Math.max(1, height - edge)) / (1 - 2 * room);
+    this.hold({ x: (box.left + box.right) / 2, y: (box.low + box.high) / 2 }, (width + edge) / 2, (height + edge) / 2, pitch, Math.ceil);
+    this.fitted = isWhole ? box : null;
   }
 
   // Whether a part of one of these boxes is in the view, and not under its rulers or at its edge.
-  /** @param {Page.Box[]} boxes */
+  /** @param {Board.Box[]} boxes */
   sees(boxes) {
     const { width, height } = this.canvas, edge = EDGE * this.density * this.pitch;
     const left = this.left + edge, right = this.left + width * this.pitch - edge;
@@ -172,11 +190,19 @@ export class View {
   }
 
   // The view that the page had when it was left.
-  /** @param {Page.Seen} seen */
-  show({ left, top, pitch, isMirrored = false, quarters = 0 }) {
-    Object.assign(this, { left, top, pitch, quarters });
+  /** @param {Machine.Seen} seen */
+  show({ left, top, pitch, isMirrored = false, quarters = 0, fitted = null }) {
+    Object.assign(this, { left, top, pitch, quarters, fitted });
     this.mirror(isMirrored);
-    this.renew();
+    if (fitted) this.fit(fitted);
+    else this.renew();
+  }
+
+  // The same of it as it is now.
+  /** @returns {Machine.Seen} */
+  get seen() {
+    const { left, top, pitch, isMirrored, quarters, fitted } = this;
+    return { left, top, pitch, isMirrored, quarters, fitted };
   }
 
   /** @param {number} x @param {number} y */
@@ -198,7 +224,7 @@ export class View {
   }
 
   // Shows a point of the board at a place of the canvas, at a pitch.
-  /** @param {Page.Point} point @param {number} x @param {number} y @param {number} pitch @param {(value: number) => number} round */
+  /** @param {Board.Point} point @param {number} x @param {number} y @param {number} pitch @param {(value: number) => number} round */
   hold(point, x, y, pitch, round = Math.round) {
     this.pitch = this.allowed(pitch, round);
     const at = this.uprightOf(x, y);
@@ -217,6 +243,7 @@ export class View {
 
   // Another part of the board is seen.
   move() {
+    this.fitted = null;
     this.moved = performance.now();
     this.renew();
   }
@@ -260,15 +287,17 @@ export class View {
     this.number++;
     // The topmost layers first, since they are seen most.
     const isLight = document.documentElement.dataset.look === "light";
-    const layers = drawnLayers(this.state).slice().reverse()
+    const made = isMadeShown(this.state) ? sideWanted(this.state, this.isMirrored) : null;
+    const layers = made ? made.layers.map(({ name }) => ({ name, colour: "made" })) : this.pile.slice().reverse()
       .map(({ name, colour, isOpened }) => ({ name, colour: seen(colour, isLight), isOpened }));
-    this.ask({ number: this.number, window: this.window(), samples: SAMPLES, layers });
+    this.ask({ number: this.number, window: this.window(), samples: SAMPLES, layers, made });
   }
 
   // A picture came from the worker.
   /** @param {Page.Came} message */
-  put({ name, bitmap, window, samples, place }) {
+  put({ name, bitmap, window, samples, place, side, lacks }) {
     this.forget(name);
+    if (side) this.onMade({ side, lacks });
     if (place) {
       this.pictures.set(name, { bitmap, ...place });
       return this.paint();
@@ -320,12 +349,12 @@ export class View {
   }
 
   // The composed picture, and nothing over it.
-  /** @param {Page.Context} context @param {Page.Colours} colours */
+  /** @param {Board.Context} context @param {Page.Colours} colours */
   paintInto(context, colours = this.colours()) {
     const { composed } = this;
     this.fromAbove(context);
     context.globalAlpha = 1;
-    context.fillStyle = drawnLayers(this.state).length ? colours.undrawn : colours.board;
+    context.fillStyle = this.pile.length || isMadeShown(this.state) ? colours.undrawn : colours.board;
     for (const box of composed.beside(this)) context.fillRect(...box);
     composed.draw(context, this);
     context.setTransform(1, 0, 0, 1, 0, 0);
@@ -377,7 +406,7 @@ export class View {
   // Paints what lies on the board now into a frame of it.
   /** @param {Page.Colours} colours */
   painter(colours) {
-    return painterOf(this.state, this.pictures, colours);
+    return painterOf(this.state, this.pile, this.pictures, colours);
   }
 
   // The names of what is black at a point of the canvas, the topmost first.
@@ -385,7 +414,8 @@ export class View {
   blackAt(x, y) {
     const at = this.pointAt(x, y);
     this.probe ??= new OffscreenCanvas(1, 1).getContext("2d", { willReadFrequently: true });
-    return drawnLayers(this.state).filter(({ name }) => {
+    if (isMadeShown(this.state)) return [];
+    return this.pile.filter(({ name }) => {
       const { bitmap, left, top, pitch } = this.pictures.get(name) ?? {};
       if (!bitmap) return false;
       this.probe.clearRect(0, 0, 1, 1);

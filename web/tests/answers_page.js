@@ -1,7 +1,7 @@
 // A page for tests: what the module's station answers of Gerber files.
 
-import { Station } from "../worker/station.js";
-import { asked } from "../worker/asking.js";
+import { Station } from "../station/station.js";
+import { asked } from "../station/asking.js";
 import { unpacked } from "../page/contents.js";
 
 const decoded = (text) => Uint8Array.from(atob(text), (letter) => letter.charCodeAt(0));

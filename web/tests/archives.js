@@ -1,7 +1,7 @@
 // ZIP files for tests, as a packer writes them or spoiled in a place. What the page itself packs is none of these.
 
 import { deflateRawSync } from "node:zlib";
-import { crc32 } from "../page/packing.js";
+import { crc32 } from "../zip/packing.js";
 
 const littles = (...fields) => Buffer.concat(fields.map(([value, bytes]) => {
   const made = Buffer.alloc(bytes);

@@ -2,7 +2,7 @@
 // at times of their own, and so do the tries of refused files and how the page looks.
 
 import assert from "node:assert/strict";
-import { looksOfState } from "../page/machine/keeping.js";
+import { looksOfState } from "../machine/keeping.js";
 import { World, bytesOf, gerber } from "./world.js";
 
 // A board that a tool put into the page.
@@ -13,7 +13,7 @@ export const boardInside = () => ({
   pictures: [{ name: "inside.pbm", layer: "top-copper", window: "window 0 0 1000 8 2", bytes: new Uint8Array([...bytesOf("P4\n8 2\n"), 170, 85]) }],
 });
 
-/** @param {Page.Told} entry */
+/** @param {Machine.Told} entry */
 const isLoaded = ({ file, reply }) => file !== undefined && reply.startsWith("ok");
 
 const OPENING = ["load", "picture"];

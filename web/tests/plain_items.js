@@ -1,7 +1,7 @@
 // A plain model of canonical texts, beside the station: the items that stand in them, in the words of `insert`, as
 // docs/formats.md has both ("Canonical Gerber files", "Canonical drill files", "Scripts"). It checks nothing of a text.
 
-import { latin1 } from "../bytes.js";
+import { latin1 } from "../bytes/text.js";
 
 /** @typedef {{words: string, objects: Item[]}} Item a repeat's words say what it is, and it alone has objects */
 

@@ -5,7 +5,7 @@ import { dirname, join } from "node:path";
 import { spawnSync } from "node:child_process";
 import { inflateRawSync } from "node:zlib";
 import { program, room } from "./support.js";
-import { savedPaths } from "../page/machine/saved_names.js";
+import { savedPaths } from "../machine/saved_names.js";
 
 // The files of a ZIP: a Map of their bytes by their names.
 export function unzipped(bytes) {

@@ -1,6 +1,6 @@
 // Scripts over files in memory, served by a module's station: what differs from what the program said and wrote.
 
-import { Station } from "../worker/station.js";
+import { Station } from "../station/station.js";
 
 const LONGEST_LINE_WORD = /[ \t]+/;
 

@@ -1,6 +1,6 @@
 // A page for tests: stations of modules without a worker, which serve whole scripts over files in memory.
 
-import { Station } from "../worker/station.js";
+import { Station } from "../station/station.js";
 import { differencesOf } from "./scripts.js";
 import { unpacked } from "../page/contents.js";
 

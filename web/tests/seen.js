@@ -44,7 +44,7 @@ export async function rest(tab, seconds = 120) {
 // The same of a page that is opened again: it may have to wait until the browser has closed the one before.
 export async function restAgain(tab, seconds = 120) {
   await rest(tab, seconds);
-  await tab.wait("!/Another page/.test(document.getElementById('kept').textContent)", seconds);
+  await tab.wait("!globalThis.camplot?.boards.others.some(({ isHeld }) => isHeld)", seconds);
   await rest(tab, seconds);
 }
 
@@ -59,7 +59,9 @@ const SEEN = `JSON.stringify((() => {
       return { name, items: Number(items?.replaceAll(",", "")), isActive: button.getAttribute("aria-pressed") === "true",
         label: button.querySelector("b")?.textContent ?? "", isShown: row.querySelector("input[type=checkbox]").checked };
     }).reverse(),
-    picked: { head: document.querySelector("#picked h3")?.textContent ?? "",
+    // (of one item its layer's name and its place, above the station's own line)
+    picked: { head: (document.querySelector("#picked [data-row=line] summary") ?? document.querySelector("#picked h3"))?.textContent
+      .replace(", as the station has it", "") ?? "",
       words: document.querySelector("#picked code")?.textContent ?? "" },
     told: words("told"), kept: words("kept"), unsaved: words("unsaved"), history: words("history-count"),
     steps: all("#history li:not(.undone)", (row) => (row.querySelector("span") ?? row).textContent),

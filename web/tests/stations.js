@@ -3,7 +3,7 @@
 import { readFileSync, readdirSync, statSync, writeFileSync } from "node:fs";
 import { join } from "node:path";
 import { REPOSITORY, program, room, runProgram } from "./support.js";
-import { latin1Bytes } from "../bytes.js";
+import { latin1Bytes } from "../bytes/text.js";
 import { plainItems } from "./plain_items.js";
 
 // How many layers a station has at most.

@@ -1,7 +1,7 @@
 // Questions of the page to the station, and what is read of the answers.
 
 import assert from "node:assert/strict";
-import { asked, headOf, itemsOf } from "../worker/asking.js";
+import { asked, headOf, itemsOf } from "../station/asking.js";
 import { padsOf, saidItems } from "../nets/said.js";
 import { suite, test } from "../../tools/tests/harness.js";
 
@@ -50,7 +50,7 @@ suite("items", () => {
       "entries top": "aperture 10\n%ADD10C,0.000005*%\naperture 11\n%ADD11R,0.000040X0.000020X0.000004*%\naperture 12\n"
         + "%AMM12*\n1,1,0.000020,0.000000,0.000000*\n%\n%ADD12M12*%\ntool 1\nT1C0.000008\n" });
     const said = saidItems(station, "top");
-    assert.deepEqual(said, items.map((words, at) => ({ words, reach: [3, 10, 11, 0, 4][at] })));
-    assert.deepEqual(padsOf(said), [{ x: 1, y: 2 }, { x: 3, y: 4 }, { x: 5, y: 6 }]);
+    assert.deepEqual(said.items.map(({ words, reach }) => ({ words, reach })), items.map((words, at) => ({ words, reach: [3, 10, 11, 0, 4][at] })));
+    assert.deepEqual(padsOf(said), [{ x: 1, y: 2 }, { x: 3, y: 4 }, { x: 0.5, y: 0.5 }, { x: 5, y: 6 }]);
   });
 });

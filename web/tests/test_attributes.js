@@ -8,8 +8,8 @@ import { afterwards, part, skip, suite, test } from "../../tools/tests/harness.j
 import { Browser, chromium } from "./browser.js";
 import { EXAMPLES, MODULE, REPOSITORY, room } from "./support.js";
 import { canonicalTexts, filesUnder, itemLines } from "./stations.js";
-import { kindOf } from "../file_kinds.js";
-import { latin1Bytes } from "../bytes.js";
+import { kindOf } from "../board/file_kinds.js";
+import { latin1Bytes } from "../bytes/text.js";
 import { inlined } from "../building/inline.js";
 import { NotJoined, checkJoined, named, plainText, readAttributes } from "../attributes/read.js";
 

@@ -6,7 +6,7 @@ import { join } from "node:path";
 import { part, suite, test } from "../../tools/tests/harness.js";
 import { plainItems } from "./plain_items.js";
 import { ran } from "./stations.js";
-import { latin1Bytes } from "../bytes.js";
+import { latin1Bytes } from "../bytes/text.js";
 import { List } from "../attributes/list.js";
 import { NotCarried, begun, carried, saidOf } from "../attributes/carry.js";
 import { named, readAttributes } from "../attributes/read.js";

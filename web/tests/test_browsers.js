@@ -162,7 +162,7 @@ for (const Driver of [Firefox, WebKit]) {
 
     test("pixels, drags, boxes, and what is drawn by the pointer", async () => {
       const browser = await withPads(Driver), at = (x, y) => onPage(browser, x, y);
-      await browser.ask("(camplot.view.pitch = 10000, camplot.view.centre(2650000, 0))");
+      await browser.ask("(camplot.view.pitch = 12000, camplot.view.centre(2650000, 0))");
       await settle(browser);
       const dark = [];
       for (const [x, y] of [[0, 0], [485000, 5000], [515000, 5000], [1000000, 0]]) dark.push(await darkness(browser, "top", x, y));
@@ -179,7 +179,7 @@ for (const Driver of [Firefox, WebKit]) {
       assert.deepEqual(last(await told(browser), 5).map(({ line }) => line.replace(/ -?\d+ -?\d+$/, "")),
         ["begin", "move top 0", "move top 1", "move top 3", "end"]);
       await browser.key("1");
-      await clickAt(browser, 3000000, 1000000);
+      await clickAt(browser, 3050000, 1050000);
       await rest(browser);
       assert.match((await lastLine(browser)).line, /^insert top 4 flash 10 3\d{6} 1\d{6} r0 dark$/);
       assert.deepEqual(await browser.complaints(), []);
@@ -191,10 +191,10 @@ for (const Driver of [Firefox, WebKit]) {
       assert.equal(await text(browser, "refused"), "");
       await pressed(browser, "a", CTRL);
       await pressed(browser, "Delete");
-      await browser.key("b");
+      await browser.key("C", SHIFT);
       await browser.wait("!document.getElementById('compared').hidden");
       assert.match(await text(browser, "compared-counts"), /top copper/);
-      await browser.key("b");
+      await browser.key("C", SHIFT);
       await rest(browser);
       assert.equal(await pressed(browser, "z", CTRL), "");
       assert.deepEqual((await seen(browser)).layers.map(({ name, items }) => [name, items]), [["top", 2]]);

@@ -7,7 +7,7 @@ import { layerTexts, ran, saving, unzipped } from "./saving.js";
 import { linesNow, rest, scriptNow, seen } from "./seen.js";
 import { suite, test } from "../../tools/tests/harness.js";
 import { tabs } from "./tab.js";
-import { without } from "../page/machine/closing.js";
+import { without } from "../machine/closing.js";
 
 const open = tabs();
 const pads = (count) => gerber(...Array.from({ length: count }, (_, at) => `X${at * 2000000}Y0D03*`));

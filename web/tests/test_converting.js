@@ -5,7 +5,7 @@ import { readFileSync } from "node:fs";
 import { join } from "node:path";
 import { suite, test } from "../../tools/tests/harness.js";
 import { REPOSITORY } from "./support.js";
-import { convertedOf, waysOf } from "../page/converting.js";
+import { convertedOf, waysOf } from "../worker/converting.js";
 
 const CASES = join(REPOSITORY, "tools", "cases", "to_gerber");
 const file = (name) => readFileSync(join(CASES, name, "file.gbr"));

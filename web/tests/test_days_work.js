@@ -98,11 +98,11 @@ suite("a day's work", () => {
     assert.equal((await deleted()).filter((line) => line.startsWith("delete top-silk ")).length, text.length);
 
     // Compared whole with before the last step, and back.
-    await key(tab, "b");
+    await key(tab, "C", SHIFT);
     await tab.wait("camplot.state.comparison !== null && !document.getElementById('compared').hidden", 60);
     await rest(tab);
     assert.match((await seen(tab)).compared, /differs in: top silk/i);
-    await key(tab, "b");
+    await key(tab, "C", SHIFT);
     assert.equal(await tab.ask("camplot.state.comparison"), null);
 
     // Saved: the names that came, with what the program makes of the script.

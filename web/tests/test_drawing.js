@@ -168,7 +168,7 @@ suite("a region of 100,000 sides", () => {
     await idle(browser);
     assert.ok(await browser.ask("camplot.state.picked[0].words.length") > 1e6);
     for (const id of ["picked", "told", "script"]) assert.ok((await text(browser, id)).length < 3000, id);
-    assert.match(await text(browser, "picked"), /^top 0region dark 0 0 l .* \.\. \([\d,]+ letters\)/);
+    assert.match(await text(browser, "picked"), /^region with 100,001 corners, .*top 0, as the station has itregion dark 0 0 l .* \.\. \([\d,]+ letters\)/);
     await settle(browser);
     // How often the long path itself is stroked.
     const { frames, strokes, spent } = await browser.ask(`(async () => {

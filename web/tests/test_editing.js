@@ -4,7 +4,7 @@
 import assert from "node:assert/strict";
 import { CTRL, SHIFT, clickAt, gerber, give, lines, onPage, picked, program, run, settle, text, written } from "./support.js";
 import { answer, middleOf, press } from "./hands.js";
-import { middleFor, then, turned } from "../page/turned.js";
+import { middleFor, then, turned } from "../board/turned.js";
 import { ran, saving, unzipped } from "./saving.js";
 import { suite, test } from "../../tools/tests/harness.js";
 import { tabs } from "./tab.js";

@@ -55,8 +55,8 @@ suite("history", () => {
 });
 
 suite("two pages", () => {
-  test("the second says that it keeps nothing", async () => {
-    const browser = await openPage();
+  test("the second says that the first has a board", async () => {
+    const browser = await withPads();
     const { targetId } = await browser.call("Target.createTarget", { url: browser.url }, null);
     const { sessionId } = await browser.call("Target.attachToTarget", { targetId, flatten: true }, null);
     const told = async () => (await browser.call("Runtime.evaluate", { returnByValue: true,
@@ -66,7 +66,7 @@ suite("two pages", () => {
       words = await told();
       await new Promise((done) => setTimeout(done, 50));
     }
-    assert.match(words, /Another page has the same work open/);
+    assert.match(words, /^1 board is open in another window: see 'boards'\./);
   });
 });
 

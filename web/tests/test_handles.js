@@ -3,7 +3,7 @@
 import assert from "node:assert/strict";
 import { CTRL, clickAt, gerber, give, lines, onPage, openPage, picked, run, settle, text } from "./support.js";
 import { dragNear } from "./snapping.js";
-import { handlesOf, reshaped } from "../page/handles.js";
+import { handlesOf, reshaped } from "../machine/handles.js";
 import { idle } from "./looking.js";
 import { suite, test } from "../../tools/tests/harness.js";
 

@@ -2,9 +2,9 @@
 
 import assert from "node:assert/strict";
 import { CTRL, gerber } from "./support.js";
-import { NO_DATABASE, WRITES, armWrite, lateLocks } from "./faults.js";
-import { answer, onDisk, openFiles, press, toBoard, typeLine } from "./hands.js";
-import { linesNow, rest, restAgain, scriptNow, seen } from "./seen.js";
+import { NO_DATABASE, WRITES, armWrite } from "./faults.js";
+import { answer, onDisk, openFiles, toBoard, typeLine } from "./hands.js";
+import { linesNow, rest, scriptNow, seen } from "./seen.js";
 import { suite, test } from "../../tools/tests/harness.js";
 import { tabs } from "./tab.js";
 
@@ -98,78 +98,5 @@ suite("a warning stays", () => {
   test("where there is no database", async () => {
     const tab = await withPads({ first: [NO_DATABASE] });
     await warns(tab);
-  });
-
-  test("in a second page of the same work, and not in the first", async () => {
-    const first = await withPads();
-    const second = await open({ context: first.context });
-    await rest(second);
-    assert.match((await seen(second)).kept, /\w+ \w+ \w+/);
-    await openFiles(second, onDisk({ "pads.gtl": PADS }));
-    await second.wait("camplot.state.layers.length >= 1");
-    await rest(second);
-    if ((await seen(second)).layers.length === 1) await warns(second);
-    await type(first, "move top 0 0 1000");
-    assert.equal((await seen(first)).kept, "");
-    await second.close();
-    const script = await scriptNow(first);
-    await first.reload();
-    await rest(first);
-    assert.equal(await scriptNow(first), script);
-  });
-
-  test("in a second page, which goes on with the work of the first once that is closed", async () => {
-    const first = await withPads();
-    await type(first, "move top 0 0 1000");
-    const script = await scriptNow(first), second = await open({ context: first.context });
-    await rest(second);
-    assert.match((await seen(second)).kept, /Another page has the same work open/);
-    assert.equal((await seen(second)).layers.length, 0);
-    await first.close();
-    await restAgain(second);
-    assert.deepEqual([(await seen(second)).kept, await scriptNow(second)], ["", script]);
-    await type(second, "move top 0 0 1000");
-    const more = await scriptNow(second);
-    await second.reload();
-    await rest(second);
-    assert.deepEqual([(await seen(second)).kept, await scriptNow(second)], ["", more]);
-  });
-
-  test("in a second page, where something is done just as the first is closed: neither is lost", async () => {
-    const first = await withPads();
-    await type(first, "move top 0 0 1000");
-    const script = await scriptNow(first), second = await open({ context: first.context, first: [lateLocks(1200)] });
-    await rest(second);
-    await first.close();
-    await second.wait("/was closed/.test(camplot.machine.kept.why)");
-    await openFiles(second, onDisk({ "more.gbl": PADS }));
-    await second.wait("/was closed/.test(document.getElementById('kept').textContent)");
-    await rest(second);
-    assert.equal(await scriptNow(second), "load bottom gerber files/more.gbl\n");
-    await warns(second);
-    await second.close();
-    const third = await open({ context: first.context });
-    await restAgain(third);
-    assert.equal(await scriptNow(third), script);
-  });
-
-  test("in a second page, until it is kept in place of the first, which was closed", async () => {
-    const first = await withPads();
-    const second = await open({ context: first.context });
-    await rest(second);
-    await openFiles(second, onDisk({ "pads.gtl": PADS, "more.gbl": PADS }));
-    await second.wait("camplot.state.layers.length === 2");
-    assert.match((await seen(second)).kept, /Another page has the same work open/);
-    await first.close();
-    await second.wait("/was closed/.test(document.getElementById('kept').textContent)");
-    await warns(second);
-    const script = await scriptNow(second);
-    await press(second, "#kept button", 1);
-    await rest(second);
-    assert.equal((await seen(second)).kept, "");
-    await second.reload();
-    await rest(second);
-    assert.equal(await scriptNow(second), script);
-    assert.equal((await seen(second)).kept, "");
   });
 });

@@ -20,16 +20,16 @@ async function twice(act) {
   await first.kill();
   const again = await Browser.open(page, { profile });
   afterwards(() => again.close());
-  // A browser that was killed may hold its lock for a moment; then the page goes on with its work.
-  await again.wait("document.body.dataset.ready === 'yes' && !/Another page/.test(document.getElementById('kept').textContent)", 60);
+  // A browser that was killed may hold its locks for a moment; then the page goes on with its work.
+  await again.wait("document.body.dataset.ready === 'yes' && !camplot.boards.others.some(({ isHeld }) => isHeld)", 60);
   return { again, kept };
 }
 
 const OLD = "%FSLAX36Y36*MOMM*%\n%ADD10C,1.0*%\nG54D10*\nX0Y0D03*\nM00*\n";
 
-// Changes the journal behind the page's back: `act` has the stores.
+// Changes the journal behind the page's back: `act` has the stores, and the name of the board.
 const inJournal = (browser, act) => browser.ask(`new Promise((done, fail) => {
-  const request = indexedDB.open("camplot ");
+  const request = indexedDB.open("camplot boards"), { key } = camplot.boards.shown;
   request.onerror = () => fail(request.error);
   request.onsuccess = () => {
     const base = request.result, transaction = base.transaction(["lines", "files", "looks"], "readwrite");
@@ -98,7 +98,7 @@ suite("opening again", () => {
     await give(first, [{ name: "a.gtl", bytes: gerber("X0Y0D03*", "X2000000Y0D03*") }]);
     for (const line of ["move top 0 7 0", "move top 1 7 0", "undo", "undo", "redo"]) await run(first, line);
     await give(first, []);
-    await inJournal(first, "lines.put({ entries: [{ line: 'mov top 0 7 0', reply: 'ok' }] }, 2)");
+    await inJournal(first, "lines.put({ entries: [{ line: 'mov top 0 7 0', reply: 'ok' }] }, [key, 2])");
     await first.kill();
     const second = await open();
     assert.match(await notes(second), /3 lines of what the browser kept are refused now and left out: mov top 0 7 0 \(refused 80\)/);
@@ -178,7 +178,7 @@ suite("notes that stay", () => {
   test("data that is deleted while the page is open", async () => {
     const browser = await withPads();
     await run(browser, "move top 0 1 0");
-    await browser.ask("new Promise((done) => { indexedDB.deleteDatabase('camplot ').onsuccess = () => done(); })");
+    await browser.ask("new Promise((done) => { indexedDB.deleteDatabase('camplot boards').onsuccess = () => done(); })");
     await run(browser, "move top 0 2 0");
     assert.match(await notes(browser), /What the browser kept of this page was deleted/);
     assert.match(await browser.ask("camplot.scriptText()"), /move top 0 2 0\n$/);

@@ -5,8 +5,8 @@
 import assert from "node:assert/strict";
 import { suite, test } from "../../tools/tests/harness.js";
 import { chances } from "../../tools/tests/pictures.js";
-import { firstState, isIdle } from "../page/machine/state.js";
-import { step } from "../page/machine/step.js";
+import { firstState, isIdle } from "../machine/state.js";
+import { step } from "../machine/step.js";
 import { LeftWorld, boardInside } from "./left_world.js";
 import { REFUSED, bytesOf, gerber, randomEvent } from "./world.js";
 

@@ -4,7 +4,7 @@ import assert from "node:assert/strict";
 import { PAD, builtPage, clickAt, give, kicad, lines, onPage, openPage, room, settle, text, withBoard,
   withPads } from "./support.js";
 import { Tab, openBrowser } from "./tab.js";
-import { UNITS, areaText, lengthIn, lengthText, pointIn, wordsIn } from "../page/units.js";
+import { UNITS, areaText, lengthIn, lengthText, pointIn, wordsIn } from "../board/units.js";
 import { assertCentre, idle, lastLine, reload, write } from "./looking.js";
 import { linkOf, placeIn } from "../page/going.js";
 import { readFileSync, writeFileSync } from "node:fs";

@@ -168,6 +168,8 @@ suite("from below", () => {
   test("the view is mirrored, and the pointer, the picks and what is moved are right under it", async () => {
     const browser = await withBoard();
     await browser.ask(DECODE);
+    // (one layer of a side alone, since the pile is turned over: test_board_view.js has that)
+    await browser.ask("for (const name of ['bottom', 'top-silk']) camplot.machine.send({ kind: 'show', name, isShown: false })");
     await settle(browser);
     const above = await saveView(browser);
     await clickAt(browser, ...PAD);

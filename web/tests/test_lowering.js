@@ -5,7 +5,7 @@ import assert from "node:assert/strict";
 import { existsSync, readFileSync, writeFileSync } from "node:fs";
 import { join } from "node:path";
 import { spawnSync } from "node:child_process";
-import { MODULE, room } from "./support.js";
+import { MODULE, REPOSITORY, room } from "./support.js";
 import { Reader, Unknown, signed, unsigned } from "../module/lower/binary.js";
 import { lowered } from "../module/lower/sections.js";
 import { skip, suite, test } from "../../tools/tests/harness.js";
@@ -30,9 +30,18 @@ function validate(bytes) {
   assert.equal(told.status, 0, told.stderr);
 }
 
+// What was rewritten is what was there, as web/module/compare.py finds too.
+function compare(wide, narrow) {
+  const folder = room(), paths = ["wide.wasm", "narrow.wasm"].map((name) => join(folder, name));
+  [wide, narrow].forEach((bytes, at) => writeFileSync(paths[at], bytes));
+  const told = spawnSync("python3", [join(REPOSITORY, "web", "module", "compare.py"), ...paths], { encoding: "utf8" });
+  assert.equal(told.status, 0, told.stderr);
+}
+
 const started = (text) => {
-  const { bytes } = lowered(assembled(text));
+  const wide = assembled(text), { bytes } = lowered(wide);
   validate(bytes);
+  compare(wide, bytes);
   return new WebAssembly.Instance(new WebAssembly.Module(bytes)).exports;
 };
 
@@ -133,9 +142,11 @@ suite("instructions", () => {
   test("a table of 64 bits, and its elements", () => {
     // (i64.const 1) call_indirect 0 0, by a table of two entries, of which the second is the function 0: it drops nothing
     const call = [0x42, 1, 0x11, 0, 0];
-    const { bytes } = lowered(sections([1, 1, 0x60, 0, 0], [3, 2, 0, 0], [4, 1, 0x70, 4, 2], MEMORY,
-      [7, 1, 2, 0x67, 0x6f, 0, 1], [9, 1, 0, 0x42, 1, 0x0b, 1, 0], [10, 2, 2, 0, 0x0b, call.length + 2, 0, ...call, 0x0b]));
+    const wide = sections([1, 1, 0x60, 0, 0], [3, 2, 0, 0], [4, 1, 0x70, 4, 2], MEMORY,
+      [7, 1, 2, 0x67, 0x6f, 0, 1], [9, 1, 0, 0x42, 1, 0x0b, 1, 0], [10, 2, 2, 0, 0x0b, call.length + 2, 0, ...call, 0x0b]);
+    const { bytes } = lowered(wide);
     validate(bytes);
+    compare(wide, bytes);
     new WebAssembly.Instance(new WebAssembly.Module(bytes)).exports.go();
   });
 });

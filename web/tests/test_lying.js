@@ -76,7 +76,7 @@ suite("the menu of what lies at a point", () => {
     await clickAt(browser, 0, -3500000);
     await idle(browser);
     assert.equal(await isOpen(browser), false);
-    await rightClick(browser, 5900000, 5900000);
+    await rightClick(browser, -5500000, 5500000);
     assert.equal(await text(browser, "told"), "Nothing lies there.");
     assert.equal((await lines(browser)).length, 2);
     assert.deepEqual(browser.complaints(), []);

@@ -4,9 +4,9 @@
 import assert from "node:assert/strict";
 import { suite, test } from "../../tools/tests/harness.js";
 import { chances } from "../../tools/tests/pictures.js";
-import { firstState, isIdle } from "../page/machine/state.js";
-import { looksOfState } from "../page/machine/keeping.js";
-import { step } from "../page/machine/step.js";
+import { firstState, isIdle } from "../machine/state.js";
+import { looksOfState } from "../machine/keeping.js";
+import { step } from "../machine/step.js";
 import { NAMES, REFUSED, World, gerber, randomEvent } from "./world.js";
 
 const EVENTS = Number(process.env.EVENTS ?? 4000);

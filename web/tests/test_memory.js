@@ -3,7 +3,7 @@
 import assert from "node:assert/strict";
 import { existsSync, readFileSync } from "node:fs";
 import { MODULE, gerber } from "./support.js";
-import { Station } from "../station/index.js";
+import { Station } from "../package/index.js";
 import { skip, suite, test } from "../../tools/tests/harness.js";
 import { unsigned } from "../module/lower/binary.js";
 

@@ -121,4 +121,51 @@ suite("nets", () => {
     assert.match(await text(browser, "nets-findings"), /broken.d356 is refusedline 2: the line has \d+ characters/);
     assert.deepEqual(browser.complaints(), []);
   });
+
+  test("take for copper and for plated holes what the layers show, by their files or by a hand", async () => {
+    const browser = await withNets(), show = (name, shows) => browser.ask(`camplot.machine.send({ kind: "function", name: "${name}", shows: "${shows}" })`);
+    const [before, stack] = [await browser.ask("camplot.state.nets.about.count"), () => text(browser, "nets-stack")];
+    assert.match(await stack(), /^Copper from the top: top copper, inner copper 1, inner copper 2, bottom copper\. Plated holes: plated holes, top copper to bottom copper/);
+    await show("plated", "nonplated");
+    await browser.wait(`camplot.state.nets.about?.count > ${before}`);
+    assert.match(await stack(), /Plated holes: plated holes \(thermometer-front-in1\.drl\), top copper to inner copper 1 \(copper 1 to 2, by its attribute\)\.$/);
+    await show("bottom", "drawing");
+    await browser.wait("camplot.state.nets.about?.copper === 3");
+    assert.match(await stack(), /^Copper from the top: top copper, inner copper 1, inner copper 2\. /);
+    await browser.key("z", CTRL);
+    await browser.wait("camplot.state.nets.about?.copper === 4");
+    await show("plated", "plated");
+    await browser.wait(`camplot.state.nets.about?.count === ${before}`);
+    assert.deepEqual(browser.complaints(), []);
+  });
+
+  test("are found in layers that a hand made copper, where no file says it", async () => {
+    const browser = await openPage();
+    await give(browser, ["one", "two"].map((name) => ({ name: `${name}.txt`, bytes: Buffer.from(`%FSLAX46Y46*%\n%MOMM*%\n%ADD10C,1*%\nD10*\nX0Y0D03*\nM02*\n`) })), true);
+    for (const [at, shows] of ["top", "bottom"].entries()) {
+      await browser.ask(`camplot.machine.send({ kind: "function", name: camplot.state.layers.find(({ file }) => file === "${["one", "two"][at]}.txt").name, shows: "${shows}" })`);
+    }
+    await browser.ask("camplot.idle()");
+    await browser.ask("document.getElementById('nets-on').click()");
+    await browser.wait("camplot.state.nets.about !== null");
+    assert.deepEqual([await browser.ask("camplot.state.nets.about.copper"), await browser.ask("camplot.state.nets.about.count")], [2, 2]);
+    assert.match(await text(browser, "nets-stack"), /^Copper from the top: top copper, bottom copper\. No plated holes\.$/);
+  });
+
+  test("tell the pitch that they use where it is not the one chosen, and the limit with what they found", async () => {
+    const browser = await withNets();
+    await browser.ask("(() => { const choice = document.getElementById('nets-pitch'); choice.value = '10000'; choice.onchange(); })()");
+    await browser.wait("camplot.state.nets.about?.pitch > 0 && camplot.state.nets.pitch === 10000");
+    const used = await browser.ask("camplot.state.nets.about.pitch");
+    assert.equal(await text(browser, "nets-used"), used === 10000 ? "" : `${Number((used / 1000).toFixed(1))} µm used`);
+    await browser.ask("(() => { const choice = document.getElementById('nets-pitch'); choice.value = '25400'; choice.onchange(); })()");
+    await browser.wait("camplot.state.nets.about?.pitch === 25400");
+    await run(browser, SHORT);
+    await browser.wait("camplot.state.nets.change?.kind === 'joins'");
+    assert.match(await words(browser), /, at 25\.4 µm: gaps under 25\.4 µm look closed\. /);
+    await browser.ask("document.getElementById('nets-check').click()");
+    await browser.wait("camplot.state.nets.findings !== null");
+    const rows = await browser.ask("[...document.querySelectorAll('#nets-findings button')].map(({ textContent }) => textContent.split('\\n')[0])");
+    assert.ok(rows.some((row) => /^short.*, at 25\.4 µm: gaps under 25\.4 µm look closed$/.test(row)), rows.join("\n"));
+  });
 });

@@ -5,7 +5,7 @@ import { copyFileSync, existsSync, readFileSync, readdirSync, writeFileSync } fr
 import { join } from "node:path";
 import { spawnSync } from "node:child_process";
 import { MODULE, REPOSITORY, program, room, runProgram } from "./support.js";
-import { Refused, Station } from "../station/index.js";
+import { Refused, Station } from "../package/index.js";
 import { skip, suite, test } from "../../tools/tests/harness.js";
 
 const WEB = join(REPOSITORY, "web");
@@ -34,8 +34,8 @@ suite("the package", () => {
     writeFileSync(join(folder, "package.json"), '{ "private": true, "type": "module" }');
     ran(folder, ["npm", "install", "--offline", "--no-audit", "--no-fund", packed[0]]);
     const installed = join(folder, "node_modules", "camplot");
-    assert.deepEqual(readdirSync(installed).sort(), ["out", "package.json", "station", "worker"]);
-    copyFileSync(join(installed, "station", "example.js"), join(folder, "example.js"));
+    assert.deepEqual(readdirSync(installed).sort(), ["out", "package", "package.json", "station"]);
+    copyFileSync(join(installed, "package", "example.js"), join(folder, "example.js"));
     const said = ran(folder, ["node", "example.js", LAYER]).trim().split("\n");
     assert.equal(said.length, 6);
     // what it undoes is what was there before

@@ -6,13 +6,13 @@ import { mkdtempSync, rmSync, writeFileSync } from "node:fs";
 import { join } from "node:path";
 import { spawnSync } from "node:child_process";
 import { tmpdir } from "node:os";
-import { Steps, stepWords } from "../page/steps.js";
+import { Steps, stepWords } from "../machine/steps.js";
 import { afterwards, skip, suite, test } from "../../tools/tests/harness.js";
 import { compared, paint, pictureOf, putTile } from "../worker/pictures.js";
-import { crc32, pngOf, zipOf } from "../page/packing.js";
-import { entriesFrom, itemOf, shifted } from "../page/items.js";
-import { lengthOf, mm } from "../page/units.js";
-import { knowRefusals, refusalWords } from "../page/refusals.js";
+import { crc32, pngOf, zipOf } from "../zip/packing.js";
+import { entriesFrom, itemOf, shifted } from "../board/items.js";
+import { lengthOf, mm } from "../board/units.js";
+import { knowRefusals, refusalWords } from "../machine/refusal_words.js";
 import { inlined } from "../building/inline.js";
 
 const bytesOf = (text) => new TextEncoder().encode(text);
@@ -168,14 +168,32 @@ suite("modules in one text", () => {
     writeFileSync(join(folder, "b.js"), 'export const ONE = "1";\n');
     assert.throws(() => inlined(join(folder, "a.js")), /does not export TWO/);
   });
-  test("comments that give types are left out", () => {
+  test("comments are left out, those that give types too", () => {
     const folder = room();
     writeFileSync(join(folder, "a.js"), "// One more.\n/**\n * @param {number} count of *all*\n */\nfunction more(count) {\n  /** @type {number} */\n"
       + "  const one = 1;\n  return count + one;\n}\nglobalThis.told = more(/** @type {number} */ (2));\n");
     const text = inlined(join(folder, "a.js"));
     new Function(text)();
     assert.equal(globalThis.told, 3);
-    assert.match(text, /^\/\/ One more\.\nfunction more\(count\) \{\n {2}const one = 1;$/m);
+    assert.match(text, /^function more\(count\) \{\n {2}const one = 1;$/m);
+    assert.doesNotMatch(text, /One more|@param/);
+  });
+  test("of an index only what is imported comes into the text", () => {
+    const folder = room();
+    writeFileSync(join(folder, "a.js"), 'import { six, two as second } from "./index.js";\nglobalThis.told = `${six} ${second}`;\n');
+    writeFileSync(join(folder, "index.js"), '// A floor.\n\nexport { one, two } from "./b.js";\nexport {\n  three as six,\n} from "./more.js";\n'
+      + 'export { other } from "./other.js";\n\n/** @typedef {import("./b.js").Kind} Kind */\n');
+    writeFileSync(join(folder, "more.js"), 'export { three } from "./c.js";\n');
+    writeFileSync(join(folder, "b.js"), "export const one = 1;\nexport const two = 2;\n");
+    writeFileSync(join(folder, "c.js"), "export const three = 6;\n");
+    writeFileSync(join(folder, "other.js"), 'globalThis.told = "the whole floor";\nexport const other = 4;\n');
+    const text = inlined(join(folder, "a.js"));
+    new Function(text)();
+    assert.equal(globalThis.told, "6 2");
+    assert.doesNotMatch(text, /the whole floor|A floor/);
+    assert.equal(text.match(/^const module\d+ = /gm).length, 3);
+    writeFileSync(join(folder, "a.js"), 'import { seven } from "./index.js";\nglobalThis.told = seven;\n');
+    assert.throws(() => inlined(join(folder, "a.js")), /index\.js does not export seven/);
   });
   test("modules that import one another are refused", () => {
     const folder = room();

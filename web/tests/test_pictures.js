@@ -3,10 +3,10 @@
 import assert from "node:assert/strict";
 import { Opened, difference, windowOf } from "../worker/opened.js";
 import { chances, pbm, square } from "../../tools/tests/pictures.js";
-import { convertedOf, firstChoices } from "../page/converting.js";
-import { isPbm, readPbm } from "../pbm.js";
+import { convertedOf, firstChoices } from "../worker/converting.js";
+import { isPbm, readPbm } from "../bytes/pbm.js";
 import { suite, test } from "../../tools/tests/harness.js";
-import { seen } from "../page/units.js";
+import { seen } from "../board/units.js";
 
 const bytesOf = (text) => new TextEncoder().encode(text);
 
@@ -107,7 +107,7 @@ suite("items in the making", () => {
     const values = { "new-polarity": "dark", "new-direction": "ccw", "new-turn": "r0" };
     globalThis.document = { getElementById: (id) => ({ value: values[id] }) };
     try {
-      const { Making } = await import("../page/drawing_tools.js");
+      const { Making } = await import("../machine/drawing_tools.js");
       const region = new Making("region");
       assert.deepEqual([region.add({ x: 0, y: 0 }), region.add({ x: 4e6, y: 0 }), region.add({ x: 4e6, y: 1e6 }, true)],
         [null, null, null]);

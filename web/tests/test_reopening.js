@@ -90,7 +90,7 @@ suite("closed while it opens its board", () => {
     await tab.arrive();
     await rest(tab);
     assert.deepEqual([await layers(tab), await scriptNow(tab)], before);
-    assert.doesNotMatch(Object.values(await seen(tab)).join(" "), /Another page/);
+    assert.doesNotMatch(Object.values(await seen(tab)).join(" "), /another window/i);
   });
 });
 

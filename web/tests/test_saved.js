@@ -122,7 +122,7 @@ suite("the saved script", () => {
     const tab = await withFiles(onDisk({ "a.gtl": gerber("X0Y0D03*") }));
     await tab.key("a", CTRL);
     await rest(tab);
-    await hold(tab, "ArrowUp", 102);
+    for (let stroke = 0; stroke < 102; stroke++) await tab.key("ArrowUp");
     await rest(tab, 240);
     await hold(tab, "z", 101, { modifiers: CTRL });
     await rest(tab, 240);

@@ -4,7 +4,7 @@ import assert from "node:assert/strict";
 import { gerber, give, kicad, lines, openPage, picked, run, settle, text } from "./support.js";
 import { idle } from "./looking.js";
 import { press } from "./hands.js";
-import { platingOf } from "../page/plating.js";
+import { platingOf } from "../machine/plating.js";
 import { suite, test } from "../../tools/tests/harness.js";
 
 const drill = (...body) => Buffer.from(["M48", "METRIC", ...body, "M30", ""].join("\n"));

@@ -74,8 +74,8 @@ suite("boards while something is under way", () => {
   test("take what is done while another one begins, and keep it", async () => {
     const tab = await withTwo();
     await tab.ask(`{
-      const { boards } = camplot, { openJournal } = boards, may = new Promise((done) => { globalThis.letGo = done; });
-      boards.openJournal = (key) => may.then(() => openJournal(key));
+      const { boards } = camplot, fresh = boards.fresh.bind(boards), may = new Promise((done) => { globalThis.letGo = done; });
+      boards.fresh = () => may.then(() => fresh());
     }`);
     await press(tab, "[data-act=new-board]");
     await typeLine(tab, "move top 0 1000 0");

@@ -2,8 +2,9 @@
 
 import assert from "node:assert/strict";
 import { archive } from "./archives.js";
-import { filesOfArchive, withUnpacked } from "../page/unpacking.js";
-import { zipOf } from "../page/packing.js";
+import { filesOfArchive } from "../zip/unpacking.js";
+import { withUnpacked } from "../zip/archives.js";
+import { zipOf } from "../zip/packing.js";
 import { suite, test } from "../../tools/tests/harness.js";
 
 const text = (words) => Buffer.from(words);
@@ -57,9 +58,9 @@ suite("ZIP files that are whole", () => {
 
   test("files next to them stay as they are", async () => {
     const { files, faults, isAny } = await withUnpacked([{ name: "one", bytes: text("1") },
-      { name: "a.zip", bytes: archive([{ name: "two", bytes: text("2") }]) }, { name: "three", bytes: text("3") }]);
+      { name: "a.zip", bytes: archive([{ name: "two", bytes: text("2") }]) }, { name: "three", bytes: text("3") }], filesOfArchive);
     assert.deepEqual([files.map(({ name }) => name), faults, isAny], [["one", "two", "three"], [], true]);
-    assert.equal((await withUnpacked([{ name: "one", bytes: text("PK") }])).isAny, false);
+    assert.equal((await withUnpacked([{ name: "one", bytes: text("PK") }], filesOfArchive)).isAny, false);
   });
 });
 

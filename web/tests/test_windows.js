@@ -51,8 +51,10 @@ suite("windows", () => {
     await stroke(browser, "s");
     assert.deepEqual(await seen(browser), ["commands", "script"]);
     await stroke(browser, "s");
+    // All of the window but for the tools at its left edge and the view's commands at its right one.
+    const strips = await browser.ask(`["tools", "views"].reduce((sum, id) => sum + document.getElementById(id).offsetWidth, 0)`);
     const [width] = await room(browser);
-    assert.ok(width > 1000);
+    assert.ok(width + strips > 1000 && strips < 80, `${width} ${strips}`);
     assert.deepEqual(await over(browser), [0, 0]);
   });
 

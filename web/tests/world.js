@@ -1,8 +1,8 @@
 // The machine of the page with what stands around it, for its tests: the station, what keeps, and the events of a person at random.
 
 import assert from "node:assert/strict";
-import { firstState, scriptText } from "../page/machine/state.js";
-import { step } from "../page/machine/step.js";
+import { firstState, scriptText } from "../machine/state.js";
+import { step } from "../machine/step.js";
 import { ModelJournal, ModelStation } from "./model.js";
 
 export const bytesOf = (text) => new TextEncoder().encode(text);

@@ -1,9 +1,8 @@
 // Items of the station alone, in a station of their own that has the definitions of their layers: the shapes of apertures, and
 // how far two items are from one another by their pixels.
 
-import { asked, linesOf } from "./asking.js";
+import { Station, asked, linesOf } from "../station/index.js";
 import { inkOf, paint, pictureOf } from "./pictures.js";
-import { Station } from "./station.js";
 
 // So many apertures of a layer are drawn, more than a table is read through, and the picture of a gap has so many pixels along a
 // side at most: two of them are 2 MB.

@@ -1,18 +1,15 @@
 // What saving drops of a layer's attributes, and its text with them: read of the files next to the station, carried
 // through the lines of the script, and checked by a station of its own.
 
-import { begun, carried, saidOf } from "../attributes/carry.js";
-import { dropped, droppedWords } from "../attributes/dropped.js";
-import { checkedWithAttributes } from "../attributes/write.js";
-import { readAttributes } from "../attributes/read.js";
-import { Station } from "./station.js";
+import { begun, carried, checkedWithAttributes, dropped, droppedWords, readAttributes, saidOf } from "../attributes/index.js";
+import { Station } from "../station/index.js";
 
 const text = new TextEncoder();
 
 const PERCENT = 37, BANG = 33, LETTER_T = 84, LETTER_A = 65, LETTER_O = 79;
 
 // Whether an attribute of an aperture or an object may stand in a file. Most large files have none, and are not read twice.
-function mayHaveAttributes(bytes) {
+export function mayHaveAttributes(bytes) {
   for (let at = bytes.indexOf(LETTER_T); at >= 0; at = bytes.indexOf(LETTER_T, at + 1)) {
     if (bytes[at + 1] !== LETTER_A && bytes[at + 1] !== LETTER_O) continue;
     let before = at - 1;

@@ -1,6 +1,6 @@
 // Which items of the station are to be picked: those that a box touches, and those that are like others.
 
-import { asked, headOf, itemsOf, linesOf } from "./asking.js";
+import { asked, headOf, itemsOf, linesOf } from "../station/index.js";
 
 // No coordinate of a question is greater, in nm.
 const FAR = 4e9;

@@ -1,7 +1,7 @@
 // Comparisons: layers whole, by the station's texts and items, and by pixels of pictures.
 
 import { around, difference, windowOf } from "./opened.js";
-import { asked } from "./asking.js";
+import { asked } from "../station/index.js";
 
 // The sides of the pictures by which two layers are compared, at most: 36 million pixels, 4.5 MB for each.
 const SIDE = 6000;

@@ -2,6 +2,7 @@
 // the page asks meanwhile.
 
 import { inkOf, paint, pictureOf, putTile } from "./pictures.js";
+import { BoardSide } from "./board_side.js";
 import { windowOf } from "./opened.js";
 
 // A layer that took longer, or has more items before it was drawn once, is drawn in parts of so many tiles, so that what the page
@@ -20,8 +21,9 @@ const words = new TextDecoder();
 
 export class Drawing {
   // `post` hands a message to the page, with what goes over to it.
-  constructor(station, layers, post) {
+  constructor(station, layers, post, compiled) {
     this.station = station;
+    this.side = new BoardSide(this, compiled);
     // The layers by their names in the order of their loads, each with its kind and how many items it had then.
     this.layers = layers;
     this.post = post;
@@ -108,6 +110,7 @@ export class Drawing {
 
   // All is drawn, which the page is told once.
   end() {
+    if (this.isOwed && this.view.made) this.side.send();
     if (this.isOwed) this.post({ kind: "drawn", number: this.view.number });
     this.isOwed = false;
     return false;
@@ -187,6 +190,11 @@ export class Drawing {
   send(layer, drawn, picture, isPart) {
     const looks = `${layer.colour} ${this.view.samples}`;
     if (drawn === 0 && this.sent.get(layer.name) === looks) return;
+    if (this.view.made) {
+      if (!isPart) this.side.take(layer.name, this.view.window, picture());
+      this.sent.set(layer.name, looks);
+      return;
+    }
     const bitmap = this.bitmapOf(picture(), layer.colour);
     if (!isPart) this.sent.set(layer.name, looks);
     this.post({ kind: "picture", number: this.view.number, window: this.view.window, samples: this.view.samples,

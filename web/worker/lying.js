@@ -1,6 +1,6 @@
 // What lies at a point of the board: all items there, which of them a click picks, and those near it.
 
-import { asked, linesOf } from "./asking.js";
+import { asked, linesOf } from "../station/index.js";
 
 // So many regions of a layer give way to what lies on them, so that a click is answered though thousands of them lie there; so many
 // items are listed, more than a menu is read through; and so many are looked at near a point, whose shapes the page measures.

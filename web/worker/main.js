@@ -1,7 +1,7 @@
 // The worker: the station, and the messages of the page to it. A message is { number, kind, .. }, its answer has the same
 // number; pictures come between them, without one. What the page asks goes before what is still to be drawn.
 
-import { asked, inside, look } from "./asking.js";
+import { Station, asked, inside, look } from "../station/index.js";
 import { gap, shapes } from "./apart.js";
 import { like, touched } from "./choosing.js";
 import { near, pileAt, under } from "./lying.js";
@@ -9,7 +9,7 @@ import { tally } from "./tallies.js";
 import { droppedOf, withAttributes } from "./attributes.js";
 import { Drawing } from "./drawing.js";
 import { Opened } from "./opened.js";
-import { Station } from "./station.js";
+import { Telling } from "./telling.js";
 import { compare, compareTwo, compareTwoView, compareView } from "./comparing.js";
 
 // Lines of a gesture are applied for so long before the worker hears whether it is to be stopped: soon enough for a person who
@@ -19,7 +19,7 @@ const SLICE_MS = 50;
 const text = new TextEncoder();
 const words = new TextDecoder();
 
-let station = null, drawing = null, compiled = null;
+let station = null, drawing = null, compiled = null, telling = null;
 let layers = new Map();
 // Whether lines are being applied, so that nothing is drawn between them; and whether they are to be stopped.
 let isApplying = false, isStopping = false;
@@ -51,18 +51,9 @@ async function open({ module, depth }) {
   compiled = await WebAssembly.compile(module);
   station = new Station(compiled, depth);
   layers = new Map();
-  drawing = new Drawing(station, layers, post);
-  hold();
+  drawing = new Drawing(station, layers, post, compiled);
+  telling = new Telling(station, depth);
   return {};
-}
-
-// A lock that the page waits for: it gets it when the worker ended, however that was.
-function hold() {
-  const lock = `camplot worker ${crypto.randomUUID()}`;
-  self.navigator.locks?.request(lock, () => {
-    post({ kind: "alive", lock });
-    return new Promise(() => {});
-  }).catch(() => {});
 }
 
 const LOOKING = new Set(["plot", "redraw"]);
@@ -78,6 +69,7 @@ function applied({ line, bytes: file }) {
   const reply = words.decode(station.reply).trimEnd();
   const isPut = code === 0 && (command === "plot" || command === "write");
   if (code === 0 && command === "window") drawing.windowed(line);
+  if (code === 0) telling.heard(line, file, Number(reply.split(" ")[1]));
   if (code === 0 && command === "load") layers.set(rest[0], { kind: rest[1], items: Number(reply.split(" ")[1]) });
   return { code, reply, bytes: isPut ? station.file : null };
 }
@@ -109,6 +101,16 @@ async function lines({ lines: given, isGroup }) {
   } finally {
     isApplying = false;
     goOn();
+  }
+}
+
+// What is asked in words. A file that can't be read for that is no fault of the station, which goes on.
+function told(kind, message) {
+  try {
+    return { found: telling[kind](message), why: null };
+  } catch (fault) {
+    if (fault instanceof WebAssembly.RuntimeError) throw fault;
+    return { found: null, why: faultWords(fault) };
   }
 }
 
@@ -169,6 +171,12 @@ const kinds = {
     goOn();
     return { pictures, over: (pictures ?? []).map((bytes) => bytes.buffer) };
   },
+  words: (message) => told("words", message),
+  at: (message) => told("at", message),
+  find: (message) => told("find", message),
+  shared: (message) => told("shared", message),
+  lit: (message) => told("lit", message),
+  about: (message) => told("about", message),
   dropped: droppedOf,
   withAttributes: (message) => withAttributes(compiled, message),
   memory: () => ({ bytes: station.memory }),

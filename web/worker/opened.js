@@ -15,7 +15,7 @@ export function windowOf(line) {
   return { left, low, pitch, width, height };
 }
 
-/** @typedef {import("../pbm.js").Picture} Picture */
+/** @typedef {import("../bytes/index.js").Picture} Picture */
 /** @typedef {{left: number, low: number, right: number, high: number}} Sides of a box, in nm */
 
 // A picture with its window.

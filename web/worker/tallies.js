@@ -1,6 +1,6 @@
 // How many items of each kind an aperture or a tool has, and those that are lit.
 
-import { asked, headOf, itemsOf, linesOf } from "./asking.js";
+import { asked, headOf, itemsOf, linesOf } from "../station/index.js";
 
 // So many are lit at most, each of which is asked for its box and is drawn.
 const LIT = 20000;

@@ -4,7 +4,7 @@
 // before and behind the point, and which zeros are left out. Each is taken from the first of these that tells it: an
 // option; the file; a report; the coordinates. The digits are assumed where nothing tells them, the unit never is.
 
-import { hasByteOrderMark, latin1 } from "../../bytes.js";
+import { hasByteOrderMark, latin1 } from "../../bytes/index.js";
 import { Changes, Failure, Unsaid, toldChanges } from "../report.js";
 import { Form } from "./form.js";
 import { Hints, reportHints } from "./hints.js";

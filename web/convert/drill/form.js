@@ -136,7 +136,7 @@ export class Form {
     this.unit = settled("unit", options.unit, hints.units, "--unit") ?? this.unitOfNothing();
     this.digits = this.zeros = null;
     if (this.numbers.length) {
-      this.digits = settled("number of digits", options.digits, hints.digits, "--digits")
+      this.digits = settled("number of digits", options.digits, hints.digits, "--format")
         ?? { value: DEFAULT_DIGITS[this.unit.value], source: `assumed: what Excellon machines take in ${this.unit.value}` };
       this.zeros = settled("zeros", options.zeros, hints.zeros, "--zeros")
         ?? zerosThatFit(this.numbers, this.digits.value);
@@ -158,7 +158,7 @@ export class Form {
     if (this.numbers.every((number) => fits(number.digits.length, digits, zeros))) return refusals;
     forEachPointless(this.lines, (start, end, line) => {
       if (fits(end - start, digits, zeros)) return;
-      const what = `${this.lines.text.slice(start, end)} does not fit ${digitsText(digits)} digits: give others by --digits`;
+      const what = `${this.lines.text.slice(start, end)} does not fit ${digitsText(digits)} digits: give others by --format, as --format 2.4`;
       refusals.push({ line, what });
     });
     return refusals;

@@ -38,7 +38,7 @@ function partsOf(text, digits, zeros) {
   if (!found) throw new Unsaid(`${text || "nothing"} is no number: write it in digits`);
   let whole = found[1] ?? "", decimals = found[2] || found[3] || "";
   if (!text.includes(".") && /[1-9]/.test(whole)) {
-    if (!digits || !zeros) throw new Unsaid(`${text} has no point: give --digits and --zeros`);
+    if (!digits || !zeros) throw new Unsaid(`${text} has no point: give --format, as --format 2.4, and --zeros leading or --zeros trailing`);
     const body = zeros === LEADING ? whole.padEnd(digits.whole, "0") : whole.padStart(digits.decimals + 1, "0");
     const point = zeros === LEADING ? digits.whole : body.length - digits.decimals;
     whole = body.slice(0, point);

@@ -1,6 +1,6 @@
 // The lines of an Excellon drill file, and what they tell of its form.
 
-import { latin1 } from "../../bytes.js";
+import { latin1 } from "../../bytes/index.js";
 import { Unsaid } from "../report.js";
 import { Hints, commentHints, unitHints } from "./hints.js";
 

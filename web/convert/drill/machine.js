@@ -171,7 +171,7 @@ export class Machine {
     const { unit } = this.drilling, value = this.length(text);
     if (Math.abs(inMm(value, unit)) < BOARD_MM) return value;
     throw new Unsaid(`a coordinate of ${decimalOf(text, this.digits, this.zeros)} ${unit} is 1 m or more from 0: give `
-      + "the unit, the digits or the zeros by --unit, --digits or --zeros");
+      + "the unit, the digits or the zeros by --unit mm or inch, --format 2.4 or --zeros leading or trailing");
   }
 
   needTool() {

@@ -18,7 +18,7 @@
  */
 
 import { Changes, Failure, Unsaid } from "../report.js";
-import { hasByteOrderMark, latin1 } from "../../bytes.js";
+import { hasByteOrderMark, latin1 } from "../../bytes/index.js";
 import { CONTROLS, isComment } from "./cut.js";
 import { settleApertures } from "./definitions.js";
 import { rewriteExtended } from "./extended.js";

@@ -1,6 +1,6 @@
 /** The bytes of an old Gerber file cut into commands. */
 
-import { latin1 } from "../../bytes.js";
+import { latin1 } from "../../bytes/index.js";
 
 /** How many bytes are made text at once, since a call for each command would take longer than all else. */
 const PIECE = 65_536;

@@ -1,6 +1,6 @@
 /** The bytes that are written: what stays is copied, and places are kept whose text is settled at the end. */
 
-import { latin1Bytes } from "../../bytes.js";
+import { latin1Bytes } from "../../bytes/index.js";
 
 /** Below this many bytes a loop is faster than a call that copies. */
 const FEW = 64;

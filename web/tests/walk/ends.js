@@ -166,11 +166,14 @@ const secondPage = (walk) => ({ words: "a second page, with a line in it", isJud
   const before = walk.state(), { context } = walk.tab;
   const second = await Tab.open(walk.browser, { page: walk.page, context });
   await rest(second, PATIENCE);
-  const said = async () => (await seen(second)).kept;
-  walk.check(await said() ? [] : ["a second page says nothing of keeping"]);
+  // (its board is its own, and kept)
+  const told = async () => { const { kept } = await seen(second); walk.check(kept ? [`a second page says '${kept}'`] : []); };
+  await told();
   await typeLine(second, walk.lines.any(walk.model));
   await rest(second, PATIENCE);
-  walk.check(await said() ? [] : ["a second page says nothing of keeping any more"]);
+  await told();
+  await press(second, "[data-act=close-board]");
+  await rest(second, PATIENCE);
   walk.check(second.complaints().map((complaint) => `the second page threw: ${complaint}`));
   await second.close();
   const after = { script: await scriptNow(walk.tab), kept: (await seen(walk.tab)).kept };

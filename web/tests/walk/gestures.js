@@ -81,16 +81,19 @@ const typed = (walk) => {
   } };
 };
 
-// A tool with some clicks, and then back to picking.
+// A tool with some clicks, and then back to picking. A tool that cannot work in the chosen layer is grey, and then the clicks pick.
 const tool = async (walk) => {
   const key = of(walk, ["1", "2", "3", "4", "5", "6"]), points = [];
   for (let turn = count(walk, 1, 5); turn >= 0; turn--) points.push(await aim(walk));
-  return { kind: "insert", words: `tool ${key}, clicks ${points.map(told).join(" ")}, Enter`, act: async () => {
+  const gesture = { kind: "insert", words: `tool ${key}, clicks ${points.map(told).join(" ")}, Enter`, act: async () => {
     await walk.tab.key(key);
+    await walk.tab.ask("camplot.idle()");
+    if (await walk.tab.ask("document.getElementById('marks').dataset.tool") === "pick") gesture.kind = "pick";
     for (const point of points) await walk.tab.click(...point);
     await walk.tab.key("Enter");
     await walk.tab.key("v");
   } };
+  return gesture;
 };
 
 const pressed = (kind, list) => (walk) => {

@@ -57,8 +57,9 @@ function strokes(before, { key, times }, { model, changes }, picked) {
     return left.length ? [`${left.length} of ${picked.length} are there after ${key}`] : [];
   }
   if (/^Arrow/.test(key ?? "")) {
+    // (strokes of one hold are one move)
     const moves = changes.filter(({ verb }) => verb === "move").length;
-    return moves === times * picked.length ? [] : [`${moves} moves of ${picked.length} items by ${times} strokes`];
+    return moves === picked.length ? [] : [`${moves} moves of ${picked.length} items by a hold of ${times} strokes`];
   }
   if (/^[[\]]$/.test(key ?? "") && picked.length === 1) {
     const [{ name, place }] = before.picked, now = model.layers.get(name).indexOf(picked[0]);

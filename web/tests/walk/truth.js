@@ -1,6 +1,6 @@
 // What the program makes of the page's script: its replies, and the text and the items of each layer.
 
-import { latin1 } from "../../bytes.js";
+import { latin1 } from "../../bytes/text.js";
 import { layOut, ran } from "../saving.js";
 import { plainItems } from "../plain_items.js";
 import { linesOf } from "./model.js";

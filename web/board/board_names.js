@@ -1,0 +1,16 @@
+// What a board is called.
+
+// What the names of a board's files have in common, or else the name of its first file.
+/** @param {{ layers: { file?: string, label?: string }[] }} state */
+export function titleOf({ layers }) {
+  const names = layers.flatMap(({ file, label }) => file ?? label ?? []);
+  if (!names.length) return null;
+  const [first] = names;
+  let length = first.length;
+  while (length > 0 && !names.every((name) => name.startsWith(first.slice(0, length)))) length--;
+  const common = first.slice(0, length).replace(/\.[^.]*$/, "").replace(/[-_. ]+$/, "");
+  return common.length > 2 ? common : first;
+}
+
+/** @param {{ title: string | null, number: number }} board */
+export const nameOf = ({ title, number }) => title ?? `board ${number}`;

@@ -1,0 +1,72 @@
+// Pictures in colours to be given away. The station is asked for the layers' pictures, and none of it is a line of the script.
+
+import { boxOf, joined, mm } from "../board/index.js";
+import { drawnLayers, isMadeShown, shownLayers } from "./state.js";
+
+// A side has so many pixels at most, as browsers allow a canvas, and all pictures together so many, 128 MB of bits. What is printed
+// has fewer, of the least pitch that fits, and none below 5 µm, about 5,000 dots an inch.
+const SIDE = 16384, ALL = 2 ** 30, PRINTED = 6000, LEAST_PRINTED = 5000;
+
+// The window around a box, a pixel wider on each side.
+/** @param {Board.Box} box @param {number} pitch @returns {Machine.Area} */
+function windowOf(box, pitch) {
+  const [left, low] = [box.left, box.low].map((edge) => Math.floor(edge / pitch) - 1);
+  const [right, high] = [box.right, box.high].map((edge) => Math.ceil(edge / pitch) + 1);
+  return { left: left * pitch, low: low * pitch, pitch, width: right - left, height: high - low };
+}
+
+// The pitch at which a box is printed.
+/** @param {Board.Box} box */
+const printedPitch = ({ left, low, right, high }) => Math.max(LEAST_PRINTED, Math.ceil(Math.max(right - left, high - low) / PRINTED));
+
+/** @param {Machine.Turn} turn @param {string} form @param {number} given @param {string[]} boxes */
+function askForPictures(turn, form, given, boxes) {
+  const layers = turn.state.work.names, box = joined(boxes.map(boxOf)), pitch = box && form === "print" ? printedPitch(box) : given;
+  const window = box && windowOf(box, pitch);
+  const isSmall = window && Math.max(window.width, window.height) <= SIDE && window.width * window.height * layers.length <= ALL;
+  if (!isSmall) {
+    turn.say(window ? `That is more than ${SIDE.toLocaleString("en")} pixels along a side, or than ${
+      ALL.toLocaleString("en")} of all layers: use fewer dots an inch.` : "The shown layers have nothing to draw.", true);
+    return turn.finish();
+  }
+  turn.work({ area: window });
+  const { left, low, width, height } = window;
+  return turn.ask("pictures", { kind: "pictures", names: layers, line: `window ${left} ${low} ${pitch} ${width} ${height}` });
+}
+
+/** @param {Machine.Turn} turn @param {Machine.HandedOut} message @param {string} words */
+function handOut(turn, message, words) {
+  turn.work({ stage: "handing", words });
+  turn.send({ to: "page", number: turn.state.work.number, ...message });
+}
+
+/** @type {Machine.Kind<"give">} */
+export const give = {
+  begin(turn, { form }) {
+    const shown = shownLayers(turn.state), isAny = form === "png" ? drawnLayers(turn.state).length > 0 || isMadeShown(turn.state) : shown.length > 0;
+    if (!isAny) {
+      turn.say("No layer is shown.", true);
+      return turn.finish();
+    }
+    if (form === "png") return handOut(turn, { kind: "give view" }, "The view is saved as view.png.");
+    turn.work({ names: shown.map(({ name }) => name) });
+    return turn.ask("boxes", { kind: "boxes", names: turn.state.work.names });
+  },
+  answer(turn, { form, pitch }, answer) {
+    const { stage, area: window, words, names } = turn.state.work;
+    if (stage === "boxes") return askForPictures(turn, form, pitch, answer.boxes);
+    if (stage === "pictures" && answer.pictures && form === "print") {
+      const [width, height] = [window.width, window.height].map((pixels) => mm(pixels * window.pitch));
+      return handOut(turn, { kind: "give print", window, pictures: answer.pictures, layers: names },
+        `The shown layers go to the printer, ${width} by ${height} mm, with pixels of ${window.pitch.toLocaleString("en")} nm: `
+          + "print at actual size.");
+    }
+    if (stage === "pictures" && answer.pictures) {
+      return handOut(turn, { kind: "give svg", window, pictures: answer.pictures, layers: names },
+        `The shown layers are saved as board.svg, with pixels of ${pitch.toLocaleString("en")} nm.`);
+    }
+    const why = stage === "pictures" ? "the station draws no such picture." : answer.why;
+    turn.say(why ? `Nothing is saved: ${why}` : words, Boolean(why));
+    return turn.finish();
+  },
+};

@@ -1,0 +1,147 @@
+// The gestures that change the station or ask it, each by how it begins, what it does with each answer, and how it ends
+// once its lines are settled. One is under way at a time.
+
+import { dropped, readLater } from "./attributes.js";
+import { firstWord, isEdit, wordsOf } from "./steps.js";
+import { keep, keepAnew } from "./keeping.js";
+import { layerOf } from "./state.js";
+import { close, closeAll } from "./closing.js";
+import { copiedOf, linesOf } from "./edits.js";
+import { gap, pickListed, pile } from "./lying.js";
+import { give } from "./giving.js";
+import { load, losesSteps, opened, picture } from "./loading.js";
+import { lookOnly, settle } from "./settling.js";
+import { pickAt, pickIn, picks } from "./picking.js";
+import { pickLike } from "./picking_like.js";
+import { compare, compareTwo, compareView, fit, plot, save, script } from "./showing.js";
+import { tally } from "./tables.js";
+import { light, pickShared } from "./telling.js";
+import { replay } from "./replaying.js";
+import { seek } from "./seeking.js";
+import { tellRefused } from "./refused.js";
+
+// The entries of lines with their answers; those without a reply are none.
+/** @param {string[]} lines @param {Machine.Applied[]} answers @param {(at: number) => Partial<Machine.Told>} more */
+export const entriesOf = (lines, answers, more = () => ({})) =>
+  answers.map(({ reply }, at) => ({ line: lines[at], reply, ...more(at) })).filter(({ reply }) => reply);
+
+// What a group's lines are with those around it.
+/** @param {string[]} lines @param {boolean} isRefused */
+const grouped = (lines, isRefused) => ["begin", ...lines, isRefused ? "abort" : "end"];
+
+/** @type {Machine.Kind<"edit">} */
+const edit = {
+  begin(turn, gesture) {
+    const { lines, why, changes, places } = linesOf(turn.state, gesture);
+    if (why) {
+      turn.say(why, true);
+      return turn.finish();
+    }
+    if (!lines.length) return turn.finish();
+    const isGroup = lines.length > 1 && !turn.state.steps.group;
+    turn.work({ lines, isGroup, changes, places });
+    turn.apply(lines.map((line) => ({ line })), isGroup);
+  },
+  answer(turn, gesture, { answers, isStopped }) {
+    const { lines, isGroup, places, changes } = turn.state.work;
+    if (isStopped) {
+      turn.say("Stopped: nothing of it was done.");
+      return turn.finish();
+    }
+    const isRefused = tellRefused(turn, answers);
+    const made = !isGroup ? lines : isRefused ? ["begin", ...lines.slice(0, answers.length - 2), "abort"] : grouped(lines, false);
+    if (!isRefused) {
+      turn.say("");
+      if (changes) turn.set(changes);
+    }
+    const fresh = (place) => ({ id: turn.number(), ...place, words: "", box: null });
+    const then = !isRefused && places ? { picks: places.map(fresh) } : {};
+    turn.work({ result: { isWell: !isRefused, answers } });
+    settle(turn, entriesOf(made, answers), then);
+  },
+};
+
+// Lines as they are: one that was typed, or several of a caller, which are a group where all are edits.
+/** @type {Machine.Kind<"lines">} */
+const lines = {
+  begin(turn, gesture) {
+    const { state } = turn, given = gesture.lines, words = wordsOf(given[0]);
+    if (words[0] === "load" && losesSteps(state) && !gesture.isAllowed) {
+      turn.work({ stage: "asking" });
+      return turn.question({ kind: "history", steps: state.steps.done.length + state.steps.undone.length, gesture: gesture.id });
+    }
+    const isGroup = given.length > 1 && given.every(isEdit) && !state.steps.group;
+    // A plot shows the window of the script; where it has none yet, what is seen becomes it.
+    const isBlind = !state.hasWindow && ["plot", "redraw"].includes(words[0]) && gesture.window;
+    const all = isBlind ? [gesture.window, ...given] : given, file = words[0] === "load" ? state.paths[words[3]] : undefined;
+    turn.work({ lines: all, isGroup, isBlind, file, path: words[3] });
+    turn.apply(all.map((line) => ({ line, bytes: file === undefined ? undefined : state.files[file]?.bytes })), isGroup);
+  },
+  replied(turn, gesture, { value }) {
+    if (value === "yes") return lines.begin(turn, { ...gesture, isAllowed: true });
+    turn.say("The layer was left closed.");
+    return turn.finish({ isWell: false, answers: [] });
+  },
+  answer(turn, gesture, { answers, isStopped }) {
+    const { isGroup, isBlind, file, path } = turn.state.work;
+    if (isStopped) {
+      turn.say("Stopped: nothing of it was done.");
+      return turn.finish({ isWell: false, answers: [] });
+    }
+    const isRefused = tellRefused(turn, answers), all = turn.state.work.lines;
+    const made = !isGroup ? all : isRefused ? ["begin", ...all.slice(0, answers.length - 2), "abort"] : grouped(all, false);
+    if (!isRefused) turn.say("");
+    turn.work({ result: { isWell: !isRefused, answers: isGroup ? answers.slice(1, -1) : answers.slice(isBlind ? 1 : 0) } });
+    const more = (at) => file !== undefined && firstWord(made[at]) === "load" ? { path, file } : {};
+    settle(turn, entriesOf(made, answers, more), { isWaiting: gesture.isGiven });
+  },
+  finished: (turn) => readLater(turn),
+};
+
+// Writes what is to be kept besides lines, once more where that could not be done before.
+/** @type {Machine.Kind<"keep">} */
+const keeping = {
+  begin(turn, { files = [], isAnew = false }) {
+    if (isAnew) {
+      keepAnew(turn);
+      return turn.work({ stage: "kept" });
+    }
+    if (!keep(turn, { files, isWaiting: true })) return turn.finish();
+    return turn.work({ stage: "kept" });
+  },
+};
+
+// The words of what is picked, to be pasted.
+/** @type {Machine.Kind<"copy">} */
+const copy = {
+  begin(turn) {
+    const copied = copiedOf(turn.state);
+    turn.set({ copied });
+    turn.send({ to: "page", kind: "copy", text: copied.join("\n") });
+    turn.say(copied.length ? `${copied.length} copied.` : "Nothing is picked to copy.");
+    turn.finish();
+  },
+};
+
+// Another layer is the one that insertions go to.
+/** @type {Machine.Kind<"choose">} */
+const choose = {
+  begin(turn, { name }) {
+    if (!layerOf(turn.state, name)) return turn.finish();
+    return lookOnly(turn, turn.state.picked, { active: name });
+  },
+};
+
+// Another part of the active layer's items is listed.
+/** @type {Machine.Kind<"list">} */
+const list = {
+  begin(turn, { from = turn.state.list.from, isOpen = turn.state.list.isOpen, by = 0 }) {
+    const layer = layerOf(turn.state, turn.state.active), count = layer?.items ?? 0;
+    const first = Math.max(0, Math.min(from + by, count - 1));
+    return lookOnly(turn, turn.state.picked, { list: { ...turn.state.list, isOpen, from: first - first % 100 } });
+  },
+};
+
+/** @type {Machine.Kinds} */
+export const kinds = { choose, close, closeAll, compare, compareTwo, compareView, copy, dropped, edit, fit, gap, give, keep: keeping, light, lines,
+  list, load, opened, pickAt, pickIn, pickLike, pickListed, pickShared, picks, picture, pile, plot, replay, save, script, seek, tally };

@@ -1,0 +1,187 @@
+// Rules of solder mask, ink and paste on the outer copper: narrow mask, copper that should be covered, ink on bare copper, paste
+// on mask.
+
+import { common, difference, flatRows, runsOfFlat } from "./discs.js";
+import { inverse, websOf } from "./mask_webs.js";
+import { netsOf } from "./nets.js";
+import { meetings, ownersOf, piecesOf } from "./overlaps.js";
+
+/** No overlap counts as deeper than this, in nm. */
+const DEEPEST = 1_000_000;
+const SIGNED = { from: 1 - DEEPEST, to: 1_000_000_000 };
+
+/**
+ * The rules, as those of `rules.js`.
+ * @type {[string, import("./rules.js").Rule][]}
+ */
+export const MASK_RULES = [
+  ["mask-web", { title: "mask web", definition: "the width of solder mask between two openings, and of mask that no disc of this width covers within "
+    + "one, but corners" }],
+  ["mask-bare", { title: "bare copper of another net", ...SIGNED, definition: "the distance of an opening of the mask from copper of a net that has "
+    + "no pad in it; less than 0 where it is bare, by how deep it lies in the opening" }],
+  ["silk-bare", { title: "ink on bare copper", ...SIGNED, definition: "the distance of ink from copper that the mask leaves bare; less than 0 where "
+    + "it lies on it, by how deep" }],
+  ["paste", { title: "paste and mask", ...SIGNED, definition: "the distance of paste from the mask around its opening; less than 0 where paste lies "
+    + "on mask, by how far it is from the nearest opening" }],
+];
+
+/**
+ * What lies on one outer copper layer.
+ * @typedef {object} Side
+ * @property {string} name `top` or `bottom`
+ * @property {number} layer its copper, by its place in the stack
+ * @property {import("./runs.js").Runs | null} openings black where the mask is open; null without such a file
+ * @property {import("./runs.js").Runs | null} ink
+ * @property {import("./runs.js").Runs | null} paste
+ * @property {[number, number][][]} pads places of each pad of it in nm, its centre first
+ */
+
+/** What is checked of the outer layers. */
+export class MaskCheck {
+  /** @param {import("./rules.js").Checked} checked */
+  constructor({ nets, grid, sides = [] }) {
+    this.nets = nets;
+    this.grid = grid;
+    this.sides = sides;
+    this.within = Math.ceil(grid.pitch * Math.SQRT2);
+  }
+
+  /** @returns {(Side & {openings: import("./runs.js").Runs})[]} those with a mask */
+  get masked() {
+    return this.sides.flatMap((side) => (side.openings ? [{ ...side, openings: side.openings }] : []));
+  }
+
+  /**
+   * @param {string} rule
+   * @param {Side} side
+   * @param {{value: number, from: [number, number], to: [number, number] | null, nets?: number[]}} found in pixels
+   * @param {string[]} shown of which layers, without the side's name
+   * @returns {import("./rules.js").Breach}
+   */
+  breach(rule, { name, layer }, { value, from, to, nets = [] }, shown) {
+    const { grid } = this;
+    return { rule, value: Math.max(-DEEPEST, value * grid.pitch), within: this.within, layer, from: grid.placeOf(...from),
+      to: to && grid.placeOf(...to), nets, sources: [], shown: shown.map((what) => `${name}-${what}`) };
+  }
+
+  /** @param {number} limit in nm @returns {import("./rules.js").Breach[]} */
+  web(limit) {
+    const most = limit / this.grid.pitch;
+    return this.masked.flatMap((side) => websOf(side.openings, most)
+      .map(({ width, from, to }) => this.breach("mask-web", side, { value: width, from, to }, ["mask"])));
+  }
+
+  /** @param {number} limit in nm @returns {import("./rules.js").Breach[]} */
+  bare(limit) {
+    const { nets, grid: { pitch } } = this;
+    return this.masked.flatMap((side) => {
+      const openings = netsOf([side.openings]), owners = this.ownersOf(side, openings);
+      return meetings(piecesOf(openings), ownersOf(nets, side.layer), { most: limit / pitch, deepIn: side.openings, deepest: DEEPEST / pitch,
+        isWanted: (opening, net) => !owners[opening]?.has(net) })
+        .map((met) => this.breach("mask-bare", side, { ...fromCopper(met), nets: [met.other] }, ["mask"]));
+    });
+  }
+
+  /**
+   * The nets that each opening is for: those of the pads in it; of one without a pad that of which the most copper lies in it. One
+   * without copper is for none.
+   * @param {Side & {openings: import("./runs.js").Runs}} side
+   * @param {import("./nets.js").Nets} openings
+   * @returns {Set<number>[]}
+   */
+  ownersOf(side, openings) {
+    const { nets, grid } = this;
+    /** @type {Set<number>[]} */
+    const owners = [];
+    for (const places of side.pads) {
+      for (const [x, y] of places) {
+        const column = grid.columnOf(x), row = grid.rowOf(y), opening = openings.pieceAt(0, column, row), net = nets.netAt(side.layer, column, row);
+        if (opening < 0 || net < 0) continue;
+        (owners[opening] ??= new Set()).add(net);
+        break;
+      }
+    }
+    for (const [opening, areas] of this.bareAreas(side, openings, (piece) => owners[piece] === undefined)) {
+      const [[net]] = [...areas].sort(([, one], [, other]) => other - one);
+      owners[opening] = new Set([net]);
+    }
+    return owners;
+  }
+
+  /**
+   * How many pixels of each net lie in each of some openings.
+   * @param {Side & {openings: import("./runs.js").Runs}} side
+   * @param {import("./nets.js").Nets} openings
+   * @param {(opening: number) => boolean} isWanted
+   * @returns {Map<number, Map<number, number>>}
+   */
+  bareAreas({ layer }, openings, isWanted) {
+    const copper = ownersOf(this.nets, layer);
+    /** @type {Map<number, Map<number, number>>} */
+    const areas = new Map();
+    openings.visit(isWanted, (_, row, start, end, opening) => {
+      const number = row >> 6, band = copper.runs.bands[number], last = band.offsets[(row & 63) + 1];
+      for (let at = band.firstEndingAfter(row & 63, start); at < last && band.starts[at] < end; at++) {
+        const net = copper.ownerOf(number, at), own = areas.get(opening) ?? new Map();
+        areas.set(opening, own.set(net, (own.get(net) ?? 0) + Math.min(end, band.ends[at]) - Math.max(start, band.starts[at])));
+      }
+    });
+    return areas;
+  }
+
+  /** @param {number} limit in nm @returns {import("./rules.js").Breach[]} */
+  ink(limit) {
+    const { nets, grid: { pitch } } = this;
+    return this.masked.flatMap((side) => {
+      if (!side.ink) return [];
+      const bare = this.bareCopper(side);
+      return meetings(piecesOf(netsOf([side.ink])), piecesOf(netsOf([bare])), { most: limit / pitch, deepIn: bare, deepest: DEEPEST / pitch })
+        .map((met) => {
+          const found = fromCopper(met);
+          return this.breach("silk-bare", side, { ...found, nets: [nets.netAt(side.layer, ...found.from)] }, ["silk"]);
+        });
+    });
+  }
+
+  /**
+   * The copper that no mask covers and no hole takes away.
+   * @param {Side & {openings: import("./runs.js").Runs}} side
+   */
+  bareCopper({ layer, openings }) {
+    const { nets } = this, copper = nets.copper[layer];
+    const drilled = nets.holes.filter(({ from, to }) => from <= layer && layer <= to).map(({ runs }) => flatRows(runs));
+    return runsOfFlat(drilled.reduce(difference, common(flatRows(openings), flatRows(copper))), copper.width);
+  }
+
+  /** @param {number} limit in nm @returns {import("./rules.js").Breach[]} */
+  paste(limit) {
+    const { grid: { pitch } } = this;
+    return this.masked.flatMap((side) => {
+      if (!side.paste) return [];
+      const around = Math.ceil(DEEPEST / pitch) + 2, mask = inverse(side.openings, around), paste = shifted(side.paste, around);
+      const back = (/** @type {[number, number]} */ [column, row]) => /** @type {[number, number]} */ ([column - around, row - around]);
+      return meetings(piecesOf(netsOf([paste])), { runs: mask, ownerOf: () => 0 }, { most: limit / pitch, deepIn: mask, deepest: DEEPEST / pitch })
+        .map((met) => this.breach("paste", side, { ...met, from: back(met.from), to: met.to && back(met.to) }, ["paste"]));
+    });
+  }
+}
+
+/**
+ * A measure from the copper on, which is the second one of those that are apart; where they overlap it begins on it in any case.
+ * @param {import("./overlaps.js").Met} met
+ * @returns {{value: number, from: [number, number], to: [number, number] | null}}
+ */
+function fromCopper({ value, from, to }) {
+  return value < 0 || !to ? { value, from, to } : { value, from: to, to: from };
+}
+
+/**
+ * A picture with so much white around it.
+ * @param {import("./runs.js").Runs} runs
+ * @param {number} around
+ */
+function shifted(runs, around) {
+  const { offsets, starts, ends } = flatRows(runs), height = runs.height + 2 * around, moved = new Int32Array(height + 1);
+  for (let row = 0; row <= height; row++) moved[row] = offsets[Math.min(runs.height, Math.max(0, row - around))];
+  return runsOfFlat({ offsets: moved, starts: starts.map((start) => start + around), ends: ends.map((end) => end + around) }, runs.width + 2 * around);
+}

@@ -1,0 +1,300 @@
+// Rules of a house that makes boards: what is less than it asks for, with its place and its value.
+
+import { lengthOf } from "../board/index.js";
+import { Around } from "./around.js";
+import { nearPlaces } from "./clearances.js";
+import { thinPlaces } from "./necks.js";
+import { HOLE_RULES, HoleCheck } from "./hole_rules.js";
+import { MASK_RULES, MaskCheck } from "./mask_rules.js";
+import { nearHoles, segmentsOf } from "./strokes.js";
+import { mm } from "./words.js";
+
+/**
+ * A rule: what it is, and what its value is. It is broken by what is less than its limit, or more where it `isMost`. Its limit is a
+ * length `from` and `to` these, in nm, if it has them.
+ * @typedef {{title: string, definition: string, isMost?: boolean, from?: number, to?: number}} Rule
+ */
+
+/**
+ * The rules by their names.
+ * @type {Map<string, Rule>}
+ */
+export const RULES = new Map(/** @type {[string, Rule][]} */ ([
+  ["ring", { title: "annular ring", definition: "the least copper around a plated hole, on each layer where the hole touches copper: the distance "
+    + "from its rim to the nearest white that is not inside of it; 0 where the hole breaks out" }],
+  ["gap", { title: "copper to copper", definition: "the distance of the copper of two nets on one layer" }],
+  ["hole-copper", { title: "hole to copper", definition: "the distance from the rim of a hole to copper of another net than its own, on each layer; "
+    + "of a hole without plating to any copper" }],
+  ["outline", { title: "copper to outline", definition: "the distance of copper from the middle of a closed line of the outline" }],
+  ["hole-hole", { title: "hole to hole", definition: "the distance of the rims of two holes, also of different drill files; less than 0 where they "
+    + "overlap, and two hits of one place are told as doubled" }],
+  ["width", { title: "thin copper", definition: "the width of copper that no disc of this width inside the copper covers, but corners" }],
+  ...MASK_RULES,
+  ...HOLE_RULES,
+]));
+
+/** The longest length that a rule may ask for, in nm. */
+const LONGEST = 1_000_000_000;
+
+/**
+ * A place where a rule is broken.
+ * @typedef {object} Breach
+ * @property {string} rule its name
+ * @property {number} value in nm
+ * @property {number} within how exact the value is, in nm
+ * @property {number | null} layer of copper, by its place in the stack; null of holes alone
+ * @property {{x: number, y: number}} from
+ * @property {{x: number, y: number} | null} to where the measure ends
+ * @property {number[]} nets of copper
+ * @property {string[]} sources of holes, as `plated 3`
+ * @property {string[]} [shown] the layers of mask, ink or paste, or the pad, that it is of
+ */
+
+/**
+ * What is checked.
+ * @typedef {object} Checked
+ * @property {import("./nets.js").Nets} nets
+ * @property {import("./grid.js").Grid} grid
+ * @property {import("./strokes.js").Hole[]} holes
+ * @property {import("./nets.js").Holes[]} spans the layers of holes, as the nets have them; a hole's `layer` is one of these, or greater
+ * @property {[number, number][][]} outline its closed lines, in nm
+ * @property {import("./mask_rules.js").Side[]} [sides] mask, ink and paste on the outer copper
+ * @property {import("./points.js").NetPoint[]} [points] of a netlist or of attributes
+ */
+
+class Check {
+  /** @param {Checked} checked */
+  constructor({ nets, grid, holes, spans, outline }) {
+    this.nets = nets;
+    this.grid = grid;
+    this.holes = holes;
+    this.spans = spans;
+    this.outline = outline;
+    this.within = Math.ceil(grid.pitch * Math.SQRT2);
+    this.arounds = nets.copper.map((_, layer) => new Around(nets, layer));
+  }
+
+  /**
+   * A stroke in pixels.
+   * @param {[[number, number], [number, number]]} segment
+   * @param {number} radius
+   */
+  stroke([[x0, y0], [x1, y1]], radius) {
+    const { grid } = this, column = (/** @type {number} */ x) => (x - grid.x) / grid.pitch - 0.5;
+    const row = (/** @type {number} */ y) => grid.height - 0.5 - (y - grid.y) / grid.pitch;
+    return { x0: column(x0), y0: row(y0), x1: column(x1), y1: row(y1), radius: radius / grid.pitch };
+  }
+
+  /** @param {number} column @param {number} row */
+  place(column, row) {
+    return this.grid.placeOf(column, row);
+  }
+
+  /**
+   * The net of a hole, by the pixels along its line; -1 where it touches no copper.
+   * @param {import("./strokes.js").Hole} hole
+   */
+  netOf({ line, layer, isPlated }) {
+    if (!isPlated || layer >= this.spans.length) return -1;
+    for (const [x, y] of line) {
+      const net = this.nets.netAt(this.nets.copper.length + layer, this.grid.columnOf(x), this.grid.rowOf(y));
+      if (net >= 0) return net;
+    }
+    return -1;
+  }
+
+  /**
+   * The copper layers that a hole passes.
+   * @param {import("./strokes.js").Hole} hole
+   */
+  layersOf({ layer, isPlated }) {
+    const { from, to } = isPlated && layer < this.spans.length ? this.spans[layer] : { from: 0, to: this.nets.copper.length - 1 };
+    return Array.from({ length: to - from + 1 }, (_, at) => from + at);
+  }
+
+  /** @param {number} limit in nm @returns {Breach[]} */
+  ring(limit) {
+    const most = limit / this.grid.pitch;
+    return this.holes.flatMap((hole) => {
+      const net = this.netOf(hole);
+      if (net < 0) return [];
+      return this.layersOf(hole).flatMap((layer) => this.ringOn(hole, net, layer, most));
+    });
+  }
+
+  /**
+   * @param {import("./strokes.js").Hole} hole
+   * @param {number} net
+   * @param {number} layer
+   * @param {number} most
+   * @returns {Breach[]}
+   */
+  ringOn(hole, net, layer, most) {
+    const around = this.arounds[layer], { pitch } = this.grid;
+    /** @type {Breach | null} */
+    let worst = null;
+    for (const segment of segmentsOf(hole.line)) {
+      const stroke = this.stroke(segment, hole.radius), white = around.nearestWhite(stroke, most);
+      if (!white || this.isInside(hole, segment, white)) continue;
+      const value = Math.max(0, white.distance) * pitch;
+      if (worst && worst.value <= value) continue;
+      // Copper of the hole's net has to be there, at its rim or inside.
+      if (!around.nearestCopper(stroke, 1, (other) => other === net)) continue;
+      worst = { rule: "ring", value, within: this.within, layer, from: { x: segment[0][0], y: segment[0][1] }, to: this.place(white.column, white.row),
+        nets: [net], sources: [hole.source] };
+    }
+    return worst && worst.value < most * pitch ? [worst] : [];
+  }
+
+  /**
+   * Whether a white pixel lies in another part of the same rout.
+   * @param {import("./strokes.js").Hole} hole
+   * @param {[[number, number], [number, number]]} segment
+   * @param {{column: number, row: number}} white
+   */
+  isInside({ line, radius }, segment, { column, row }) {
+    if (line.length < 3) return false;
+    const { x, y } = this.place(column, row);
+    return segmentsOf(line).some((other) => (other[0] !== segment[0] || other[1] !== segment[1])
+      && distanceTo(other, x, y) < radius - this.grid.pitch);
+  }
+
+  /** @param {number} limit in nm @returns {Breach[]} */
+  gap(limit) {
+    const { pitch } = this.grid;
+    return nearPlaces(this.nets, limit / pitch).map(({ layer, nets, from, to, distance }) => ({ rule: "gap", value: distance * pitch,
+      within: this.within, layer, from: this.place(...from), to: this.place(...to), nets, sources: [] }));
+  }
+
+  /** @param {number} limit in nm @returns {Breach[]} */
+  holeToCopper(limit) {
+    const { pitch } = this.grid, most = limit / pitch;
+    return this.holes.flatMap((hole) => {
+      const net = this.netOf(hole);
+      return this.layersOf(hole).flatMap((layer) => {
+        /** @type {(import("./around.js").Found & {net: number}) | null} */
+        let nearest = null;
+        for (const segment of segmentsOf(hole.line)) {
+          const found = this.arounds[layer].nearestCopper(this.stroke(segment, hole.radius), most, (other) => other !== net);
+          if (found && (!nearest || found.distance < nearest.distance)) nearest = found;
+        }
+        if (!nearest || nearest.distance >= most) return [];
+        const [[x, y]] = hole.line;
+        return [{ rule: "hole-copper", value: Math.max(0, nearest.distance) * pitch, within: this.within, layer, from: { x, y },
+          to: this.place(nearest.column, nearest.row), nets: [nearest.net], sources: [hole.source] }];
+      });
+    });
+  }
+
+  /** @param {number} limit in nm @returns {Breach[]} */
+  toOutline(limit) {
+    const { pitch } = this.grid, most = limit / pitch;
+    return this.nets.copper.flatMap((_, layer) => this.outline.flatMap((line) => {
+      /** @type {(import("./around.js").Found & {net: number}) | null} */
+      let nearest = null;
+      for (const segment of segmentsOf(line)) {
+        const found = this.arounds[layer].nearestCopper(this.stroke(segment, 0), nearest ? Math.min(most, nearest.distance) : most, () => true);
+        if (found && (!nearest || found.distance < nearest.distance)) nearest = found;
+      }
+      if (!nearest || nearest.distance >= most) return [];
+      return [{ rule: "outline", value: Math.max(0, nearest.distance) * pitch, within: this.within, layer, from: this.place(nearest.column, nearest.row),
+        to: null, nets: [nearest.net], sources: [] }];
+    }));
+  }
+
+  /** @param {number} limit in nm @returns {Breach[]} */
+  holeToHole(limit) {
+    return nearHoles(this.holes, limit).map(({ holes, distance, from, to }) => ({ rule: "hole-hole", value: distance, within: 1, layer: null,
+      from: { x: from[0], y: from[1] }, to: { x: to[0], y: to[1] }, nets: [], sources: holes.map(({ source }) => source) }));
+  }
+
+  /** @param {number} limit in nm @returns {Breach[]} */
+  width(limit) {
+    const { pitch } = this.grid;
+    return thinPlaces(this.nets, limit / pitch).map(({ layer, net, column, row, width }) => ({ rule: "width", value: width * pitch,
+      within: this.within, layer, from: this.place(column, row), to: null, nets: [net], sources: [] }));
+  }
+}
+
+/**
+ * @param {[[number, number], [number, number]]} segment
+ * @param {number} x
+ * @param {number} y
+ */
+function distanceTo([[x0, y0], [x1, y1]], x, y) {
+  const dx = x1 - x0, dy = y1 - y0, square = dx * dx + dy * dy;
+  const part = square ? Math.min(1, Math.max(0, ((x - x0) * dx + (y - y0) * dy) / square)) : 0;
+  return Math.hypot(x - x0 - part * dx, y - y0 - part * dy);
+}
+
+/**
+ * Where rules are broken, rule by rule, the worst place first.
+ * @param {Checked} checked
+ * @param {Map<string, number>} limits in nm, by the rules' names
+ * @returns {Breach[]}
+ */
+export function breachesOf(checked, limits) {
+  const check = new Check(checked), mask = new MaskCheck(checked), holes = new HoleCheck(checked);
+  /** @type {Record<string, (limit: number) => Breach[]>} */
+  const found = { ring: (limit) => check.ring(limit), gap: (limit) => check.gap(limit), "hole-copper": (limit) => check.holeToCopper(limit),
+    outline: (limit) => check.toOutline(limit), "hole-hole": (limit) => check.holeToHole(limit), width: (limit) => check.width(limit),
+    "mask-web": (limit) => mask.web(limit), "mask-bare": (limit) => mask.bare(limit), "silk-bare": (limit) => mask.ink(limit),
+    paste: (limit) => mask.paste(limit), "hole-pad": (limit) => holes.holePad(limit), "pad-hole": (limit) => holes.padHole(limit),
+    doubled: (limit) => holes.doubled(limit), overlap: (limit) => holes.overlap(limit) };
+  const worst = (/** @type {string} */ name) => (RULES.get(name)?.isMost ? -1 : 1);
+  return withoutRepeats([...RULES.keys()].filter((name) => limits.has(name))
+    .flatMap((name) => found[name](/** @type {number} */ (limits.get(name))).sort((one, other) => worst(name) * (one.value - other.value))));
+}
+
+/** Rules of two holes: a pair that breaks one of them is left out of those after it. */
+const OF_PAIRS = ["doubled", "overlap", "hole-hole"];
+
+/**
+ * @param {Breach[]} breaches
+ * @returns {Breach[]}
+ */
+function withoutRepeats(breaches) {
+  /** @type {Map<string, number>} which rule each pair broke first */
+  const first = new Map();
+  const keyOf = (/** @type {Breach} */ { sources }) => sources.join("\n");
+  OF_PAIRS.forEach((name, at) => {
+    for (const breach of breaches.filter(({ rule }) => rule === name)) if (!first.has(keyOf(breach))) first.set(keyOf(breach), at);
+  });
+  return breaches.filter((breach) => !OF_PAIRS.includes(breach.rule) || first.get(keyOf(breach)) === OF_PAIRS.indexOf(breach.rule));
+}
+
+/**
+ * Reads the limits of a file of rules: a line has a name and a length in mm; # begins a comment.
+ * @param {string} text
+ * @returns {{limits: Map<string, number>, refusals: {line: number, what: string}[]}}
+ */
+export function readRules(text) {
+  const limits = new Map();
+  /** @type {{line: number, what: string}[]} */
+  const refusals = [];
+  text.split(/\r\n|\r|\n/).forEach((line, at) => {
+    const words = line.split("#")[0].trim();
+    if (words === "") return;
+    const fault = takeRule(limits, words);
+    if (fault !== null) refusals.push({ line: at + 1, what: fault });
+  });
+  return { limits, refusals };
+}
+
+/**
+ * Takes a rule in words, as `ring 0.13`, which is in mm, or `ring 5mil`.
+ * @param {Map<string, number>} limits
+ * @param {string} words
+ * @returns {string | null} why it is refused
+ */
+export function takeRule(limits, words) {
+  const [name, text, ...more] = words.split(/[ \t=]+/), length = lengthOf(text ?? "", "mm");
+  const rule = RULES.get(name);
+  if (!rule) return `${name.slice(0, 40)} is none of ${[...RULES.keys()].join(", ")}`;
+  const { from = 1, to = LONGEST } = rule, within = rule.to ? `, from ${mm(from)} to ${mm(to)} mm` : "";
+  if (more.length || length === null || length < from || length > to) {
+    return `${name} needs a length in mm or with its unit, as ${name} 0.15 or ${name} 6mil${within}`;
+  }
+  limits.set(name, length);
+  return null;
+}

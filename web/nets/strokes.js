@@ -1,0 +1,125 @@
+// Holes as strokes: hits, slots and flashes by their items, in nm; and which of them are near to others.
+
+import { itemOf } from "../board/index.js";
+
+/**
+ * A hole: a stroke in nm along a line, and where it comes from.
+ * @typedef {object} Hole
+ * @property {[number, number][]} line one place, or the places of a slot or a rout
+ * @property {number} radius
+ * @property {boolean} isPlated
+ * @property {number} layer which layer of holes it belongs to
+ * @property {string} source as `plated 3`
+ */
+
+/**
+ * The holes of a layer.
+ * @param {import("./flat_items.js").FlatItem[]} flat
+ * @param {{isPlated: (number: number | null) => boolean, layer: number, label: string}} layer
+ * @returns {Hole[]}
+ */
+export function holesOf(flat, { isPlated, layer, label }) {
+  return flat.flatMap(({ item, place, move, isDark }) => {
+    const read = itemOf(item.words);
+    if (!read || !isDark || !["hit", "rout", "flash", "draw"].includes(read.kind)) return [];
+    return [{ line: read.points.slice(0, read.kind === "rout" ? undefined : read.kind === "draw" ? 2 : 1).map(move), radius: item.reach,
+      isPlated: isPlated(read.number), layer, source: `${label} ${place}` }];
+  });
+}
+
+/**
+ * The segments of a line, one of its own place where it has one alone.
+ * @param {[number, number][]} line
+ * @returns {[[number, number], [number, number]][]}
+ */
+export function segmentsOf(line) {
+  if (line.length === 1) return [[line[0], line[0]]];
+  return line.slice(1).map((place, at) => /** @type {[[number, number], [number, number]]} */ ([line[at], place]));
+}
+
+/**
+ * The place of a segment that is nearest to a place.
+ * @param {[[number, number], [number, number]]} segment
+ * @param {[number, number]} place
+ * @returns {[number, number]}
+ */
+function nearestOn([[x0, y0], [x1, y1]], [x, y]) {
+  const dx = x1 - x0, dy = y1 - y0, square = dx * dx + dy * dy;
+  const part = square ? Math.min(1, Math.max(0, ((x - x0) * dx + (y - y0) * dy) / square)) : 0;
+  return [x0 + part * dx, y0 + part * dy];
+}
+
+/**
+ * @param {[[number, number], [number, number]]} one
+ * @param {[[number, number], [number, number]]} other
+ */
+function areCrossing([a, b], [c, d]) {
+  const side = (/** @type {number[]} */ p, /** @type {number[]} */ q, /** @type {number[]} */ r) => Math.sign((q[0] - p[0]) * (r[1] - p[1]) - (q[1] - p[1]) * (r[0] - p[0]));
+  return side(a, b, c) * side(a, b, d) < 0 && side(c, d, a) * side(c, d, b) < 0;
+}
+
+/**
+ * The least distance of two lines, and a place of each there.
+ * @param {[number, number][]} one
+ * @param {[number, number][]} other
+ */
+function between(one, other) {
+  /** @type {{distance: number, from: [number, number], to: [number, number]}} */
+  let best = { distance: Infinity, from: one[0], to: other[0] };
+  for (const first of segmentsOf(one)) {
+    for (const second of segmentsOf(other)) {
+      /** @type {[[number, number], [number, number]][]} */
+      const pairs = [[first[0], nearestOn(second, first[0])], [first[1], nearestOn(second, first[1])], [nearestOn(first, second[0]), second[0]],
+        [nearestOn(first, second[1]), second[1]]];
+      for (const [from, to] of pairs) {
+        const distance = areCrossing(first, second) ? 0 : Math.hypot(from[0] - to[0], from[1] - to[1]);
+        if (distance < best.distance) best = { distance, from, to };
+      }
+    }
+  }
+  return best;
+}
+
+/**
+ * The pairs of holes whose rims are nearer than a length, less than 0 where they overlap; nearest first. It is exact.
+ * @param {Hole[]} holes
+ * @param {number} most
+ * @returns {{holes: [Hole, Hole], distance: number, from: [number, number], to: [number, number]}[]}
+ */
+export function nearHoles(holes, most) {
+  const reach = holes.reduce((found, { radius }) => Math.max(found, radius), 0), cell = Math.max(1, 2 * reach + most);
+  /** @type {Map<string, number[]>} */
+  const cells = new Map();
+  /** @type {{holes: [Hole, Hole], distance: number, from: [number, number], to: [number, number]}[]} */
+  const found = [];
+  /** @type {Set<string>} */
+  const seen = new Set();
+  holes.forEach((hole, number) => {
+    for (const [[x0, y0], [x1, y1]] of segmentsOf(hole.line)) {
+      const [left, right, low, high] = [Math.min(x0, x1), Math.max(x0, x1), Math.min(y0, y1), Math.max(y0, y1)].map((side) => Math.floor(side / cell));
+      for (let column = left - 1; column <= right + 1; column++) {
+        for (let row = low - 1; row <= high + 1; row++) {
+          for (const other of cells.get(`${column} ${row}`) ?? []) {
+            const key = `${other} ${number}`;
+            if (other === number || seen.has(key)) continue;
+            const near = between(holes[other].line, hole.line), distance = near.distance - hole.radius - holes[other].radius;
+            if (distance >= most) continue;
+            seen.add(key);
+            found.push({ holes: [holes[other], hole], distance, from: near.from, to: near.to });
+          }
+        }
+      }
+    }
+    for (const [[x0, y0], [x1, y1]] of segmentsOf(hole.line)) {
+      const [left, right, low, high] = [Math.min(x0, x1), Math.max(x0, x1), Math.min(y0, y1), Math.max(y0, y1)].map((side) => Math.floor(side / cell));
+      for (let column = left; column <= right; column++) {
+        for (let row = low; row <= high; row++) {
+          const key = `${column} ${row}`, known = cells.get(key);
+          if (!known) cells.set(key, [number]);
+          else if (!known.includes(number)) known.push(number);
+        }
+      }
+    }
+  });
+  return found.sort((one, other) => one.distance - other.distance);
+}

@@ -1,0 +1,165 @@
+// How wide copper is at a place: the distance between the white pixels on both its sides.
+//
+// From the place a disc grows away from the nearest white pixel, and from further ones that it meets on the same side, until it
+// lies between white pixels on two sides. A disc of copper that two sides hold is as wide as the copper is there.
+
+import { BAND } from "./runs.js";
+
+/** Whites nearer to a disc's rim than this lie on it. */
+const EXACT = 1e-6;
+/** A disc is held where two whites on its rim lie at more than 120 degrees, as seen from its centre. */
+const HELD = -0.5;
+/** By how much the distance of the white centres on both sides of copper is more than its width, on average. */
+const EDGES = 1;
+/** No disc meets so many whites of one side one after another. */
+const MOST_STEPS = 200;
+
+/**
+ * A width in pixels, and the pixel in its middle.
+ * @typedef {{width: number, column: number, row: number}} Width
+ *
+ * A disc without a white centre inside; `across` leads from one of the whites on its rim that hold it to the other.
+ * @typedef {{x: number, y: number, radius: number, across: [number, number]}} Disc
+ */
+
+/**
+ * @param {Disc} disc
+ * @returns {Width}
+ */
+export function widthOf({ x, y, radius }) {
+  return { width: 2 * radius - EDGES, column: Math.round(x), row: Math.round(y) };
+}
+
+/** The widths of a layer's copper. A pixel's centre has its column and its row as coordinates; what is outside is white. */
+export class Widths {
+  /** @param {import("./runs.js").Runs} runs */
+  constructor(runs) {
+    this.runs = runs;
+    // The white pixel that was found last, and the white that a disc met last.
+    this.foundX = 0;
+    this.foundY = 0;
+    this.metX = 0;
+    this.metY = 0;
+  }
+
+  /**
+   * Finds the nearest white pixel's centre, as `foundX` and `foundY`.
+   * @param {number} x
+   * @param {number} y
+   * @param {number} radius only what is nearer than this is found
+   * @returns {number} the distance; Infinity where there is none
+   */
+  toWhite(x, y, radius) {
+    const middle = Math.round(y);
+    let square = radius * radius, isFound = false;
+    for (let away = 0; ; away++) {
+      const above = middle - away - y, below = middle + away - y;
+      if (above * above >= square && below * below >= square) break;
+      for (let side = 0; side < (away ? 2 : 1); side++) {
+        const row = side ? middle - away : middle + away, down = row - y, left = this.whiteTo(row, x, -1), right = this.whiteTo(row, x, 1);
+        const across = Math.min(x - left, right - x), total = across * across + down * down;
+        if (total >= square) continue;
+        square = total;
+        isFound = true;
+        this.foundX = x - left <= right - x ? left : right;
+        this.foundY = row;
+      }
+    }
+    return isFound ? Math.sqrt(square) : Infinity;
+  }
+
+  /**
+   * The first white column of a row from a place on, to the right (1) or to the left (-1).
+   * @param {number} row
+   * @param {number} x
+   * @param {1 | -1} side
+   */
+  whiteTo(row, x, side) {
+    const column = side > 0 ? Math.ceil(x) : Math.floor(x), { runs } = this;
+    if (row < 0 || row >= runs.height) return column;
+    const band = runs.bands[Math.floor(row / BAND)], at = band.runAt(row % BAND, column);
+    if (at < 0) return column;
+    return side > 0 ? band.ends[at] : band.starts[at] - 1;
+  }
+
+  /**
+   * How far a disc goes from a centre along a direction, with a white always on its rim, before it meets another one, which is
+   * `metX` and `metY` then; -1 where its radius passes `reach` first.
+   * @param {number} x
+   * @param {number} y
+   * @param {number} alongX
+   * @param {number} alongY
+   * @param {number} rimX
+   * @param {number} rimY
+   * @param {number} reach
+   */
+  wayOut(x, y, alongX, alongY, rimX, rimY, reach) {
+    const radius = Math.hypot(x - rimX, y - rimY), radiusAt = (/** @type {number} */ way) => Math.hypot(x + alongX * way - rimX, y + alongY * way - rimY);
+    let way = Math.max(1, radius);
+    while (this.toWhite(x + alongX * way, y + alongY * way, radiusAt(way) - EXACT) === Infinity) {
+      if (radiusAt(way) >= reach) return -1;
+      way *= 2;
+    }
+    for (;;) {
+      const { foundX, foundY } = this, slope = 2 * (alongX * (foundX - rimX) + alongY * (foundY - rimY));
+      const next = ((x - foundX) ** 2 + (y - foundY) ** 2 - radius * radius) / slope;
+      this.metX = foundX;
+      this.metY = foundY;
+      if (!(next < way)) return way;
+      way = Math.max(0, next);
+      if (this.toWhite(x + alongX * way, y + alongY * way, radiusAt(way) - EXACT) === Infinity) return way;
+    }
+  }
+
+  /**
+   * The disc of copper about a pixel that whites on two sides hold.
+   * @param {number} column
+   * @param {number} row
+   * @param {number} most only a smaller width is of interest
+   * @returns {Disc | null} null where it is not smaller
+   */
+  disc(column, row, most = Infinity) {
+    const reach = Math.min((most + EDGES) / 2, this.runs.width + this.runs.height);
+    if (this.toWhite(column, row, reach) === Infinity) return null;
+    let x = column, y = row, firstX = this.foundX, firstY = this.foundY, secondX = firstX, secondY = firstY;
+    for (let step = 0; step < MOST_STEPS; step++) {
+      const alongX = x - (firstX + secondX) / 2, alongY = y - (firstY + secondY) / 2, length = Math.hypot(alongX, alongY);
+      if (length < EXACT) break;
+      const way = this.wayOut(x, y, alongX / length, alongY / length, firstX, firstY, reach);
+      if (way < 0) return null;
+      x += alongX / length * way;
+      y += alongY / length * way;
+      const { metX, metY } = this, square = (x - metX) ** 2 + (y - metY) ** 2;
+      const toFirst = (firstX - x) * (metX - x) + (firstY - y) * (metY - y);
+      const toSecond = (secondX - x) * (metX - x) + (secondY - y) * (metY - y);
+      // Of the whites on the rim the two that are the farthest from each other hold the disc.
+      if (toFirst <= toSecond) [secondX, secondY] = [metX, metY];
+      else [firstX, firstY] = [metX, metY];
+      if (Math.min(toFirst, toSecond) <= HELD * square) break;
+    }
+    const radius = Math.hypot(x - firstX, y - firstY);
+    return 2 * radius - EDGES < most ? { x, y, radius, across: [firstX - secondX, firstY - secondY] } : null;
+  }
+
+  /**
+   * The width of the copper at a pixel of it.
+   * @param {number} column
+   * @param {number} row
+   * @param {number} [most] only a smaller width is of interest
+   * @returns {Width | null} null where it is not smaller, or where the copper ends
+   */
+  at(column, row, most = Infinity) {
+    const disc = this.disc(column, row, most);
+    return disc && this.isBetween(disc) ? widthOf(disc) : null;
+  }
+
+  /**
+   * Whether copper goes on outside of a disc to both sides of the line between the whites that hold it; a pixel that stands out
+   * of an edge, and the end of a track, has copper on one side alone.
+   * @param {Disc} disc
+   */
+  isBetween({ x, y, across: [acrossX, acrossY] }) {
+    const across = Math.hypot(acrossX, acrossY), part = (across / 2 + 1) / across;
+    return [1, -1].every((side) => this.runs.isBlack(Math.round(x - side * acrossY * part), Math.round(y + side * acrossX * part)));
+  }
+}
