@@ -13,10 +13,3 @@ _camplot() {
   esac
 }
 complete -o filenames -F _camplot camplot
-
-# The tools take folders and files of a board.
-_camplot_board() {
-  local word=${COMP_WORDS[COMP_CWORD]}
-  mapfile -t COMPREPLY < <(compgen -f -- "$word")
-}
-complete -o filenames -F _camplot_board camplot-board camplot-fit camplot-items camplot-nets camplot-to-gerber camplot-to-xnc

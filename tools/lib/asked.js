@@ -3,7 +3,7 @@
 import { mkdtempSync, rmSync, writeFileSync } from "node:fs";
 import { join } from "node:path";
 import { tmpdir } from "node:os";
-import { explain } from "../../web/refusals.js";
+import { explain } from "../../web/board/index.js";
 import { PROGRAM } from "./places.js";
 import { canRun, isBuilt, meanings, runLines } from "./station.js";
 

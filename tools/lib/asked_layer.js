@@ -1,12 +1,11 @@
 // A layer in a station of its own, which answers questions about it (docs/questions.md): the page's module, in this process.
 
-import { boxFrom } from "../../web/boxes.js";
-import { Failure } from "../../web/convert/report.js";
-import { latin1 } from "../../web/bytes.js";
-import { itemsOf, linesOf } from "../../web/worker/asking.js";
-import { saidItems } from "../../web/nets/said.js";
-import { Station } from "../../web/worker/station.js";
-import { touched } from "../../web/worker/choosing.js";
+import { boxFrom } from "../../web/board/index.js";
+import { Failure } from "../../web/convert/index.js";
+import { latin1 } from "../../web/bytes/index.js";
+import { Station, itemsOf, linesOf } from "../../web/station/index.js";
+import { saidItems } from "../../web/nets/index.js";
+import { touched } from "../../web/worker/index.js";
 import { neededModule } from "./module.js";
 
 // What the layer is called in its station.

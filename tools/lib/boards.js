@@ -1,22 +1,20 @@
 // A board: its layers, what camplot replied to each, and what was plotted.
 
-import { readFileSync, writeFileSync } from "node:fs";
-import { basename, join, resolve } from "node:path";
-import { latin1Bytes, utf8 } from "../../web/bytes.js";
-import { counted } from "../../web/nets/words.js";
-import { BY_ATTRIBUTE, nameParts } from "../../web/layers.js";
-import { isPbm } from "../../web/pbm.js";
-import { explain } from "../../web/refusals.js";
-import { Reply, wordsOf } from "../../web/replies.js";
-import { isInWindow, windowLine } from "../../web/windows.js";
+import { readFileSync } from "node:fs";
+import { basename, join, normalize, resolve } from "node:path";
+import { isPbm, latin1Bytes, utf8 } from "../../web/bytes/index.js";
+import { counted } from "../../web/nets/index.js";
+import { BY_ATTRIBUTE, Reply, explain, isInWindow, nameParts, windowLine, wordsOf } from "../../web/board/index.js";
 import { AskedLayer } from "./asked_layer.js";
 import { called } from "./places.js";
 import { LAYERS, meanings, runLines } from "./station.js";
 
 /** Commands of a user's own lines that look, and change nothing; what runs the lines for their edits does without them. */
 export const LOOKS = ["plot", "write", "redraw", "list", "window"];
+/** The refusal of a file that cannot be read or written. */
+const UNWRITTEN = 82;
 
-/** @typedef {import("../../web/layers.js").Layer} Layer */
+/** @typedef {import("../../web/board/index.js").Layer} Layer */
 
 /** @param {Layer} layer */
 function loadLine(layer) {
@@ -46,29 +44,32 @@ export class Board {
     this.layers = layers;
     this.room = room;
     this.program = program;
-    /** @type {Map<string, import("../../web/replies.js").Reply>} the replies to loads, by the layers' names */
+    /** @type {Map<string, import("../../web/board/index.js").Reply>} the replies to loads, by the layers' names */
     this.loads = new Map();
-    /** @type {Map<string, import("../../web/replies.js").Reply>} */
+    /** @type {Map<string, import("../../web/board/index.js").Reply>} */
     this.plots = new Map();
-    /** @type {Map<string, import("../../web/boxes.js").Box | null>} what the layers that load paint */
+    /** @type {Map<string, import("../../web/board/index.js").Box | null>} what the layers that load paint */
     this.painted = new Map();
-    /** @type {import("../../web/replies.js").Reply[]} of the lines of a user's own */
+    /** @type {import("../../web/board/index.js").Reply[]} of the lines of a user's own */
     this.edits = [];
+    /** The number of the first of these in the script. */
+    this.firstOwn = 1;
     this.window = null;
   }
 
   /** Loads each layer, and writes the texts of those that load. */
   load() {
-    for (const layer of this.layers) {
-      this.room.copy(layer.file.path, layer.copy);
-      this.room.path(layer.text);
-    }
+    for (const { text } of this.layers) this.room.path(text);
+    for (const { file, copy } of this.layers) this.room.copy(file.path, copy);
     for (const layer of this.layers) {
       const asked = new AskedLayer(layer.kind, readFileSync(layer.file.path));
       this.loads.set(layer.name, new Reply(1, loadLine(layer), asked.reply.split(" ")));
-      if (!asked.isLoaded) continue;
+      if (!asked.isLoaded) {
+        for (const name of [layer.text, layer.picture]) this.room.series.drop(name);
+        continue;
+      }
       this.painted.set(layer.name, asked.box());
-      writeFileSync(join(this.room.folder, layer.text), asked.text());
+      this.room.write(layer.text, asked.text());
     }
   }
 
@@ -95,7 +96,7 @@ export class Board {
 
   /**
    * Plots each layer that loads, and then runs the lines of the user's own over the first of the runs.
-   * @param {import("../../web/windows.js").PlotWindow} window
+   * @param {import("../../web/board/index.js").PlotWindow} window
    * @param {string[]} edits
    */
   plot(window, edits) {
@@ -103,19 +104,28 @@ export class Board {
     const told = [];
     partsOf(this.loaded()).forEach((part, number) => {
       const { lines, firstOwn } = this.script(part, number === 0 ? edits : [], window);
+      if (number === 0) this.firstOwn = firstOwn;
       const script = this.room.path(number === 0 ? "script" : `script-${number + 1}`);
-      const replies = runLines(this.program, this.room.folder, lines, script);
-      for (const layer of part) this.plots.set(layer.name, replies.find((reply) => reply.line === plotLine(layer)));
+      const replies = this.room.watch([basename(script), ...part.map(({ picture }) => picture)],
+        () => runLines(this.program, this.room.folder, lines, script));
+      for (const layer of part) this.takePlot(layer, replies);
       this.edits.push(...replies.filter((reply) => reply.number >= firstOwn));
       for (const reply of replies) told.push(`${reply.words.join(" ").padEnd(16)} ${reply.line}\n`);
     });
     for (const reply of this.edits) {
       const [command, , path] = wordsOf(reply.line);
-      if (reply.isAccepted && (command === "plot" || command === "write")) {
-        this.room.left.add(join(this.room.folder, path));
-      }
+      if (reply.isAccepted && (command === "plot" || command === "write")) this.room.series.done(normalize(path));
     }
-    writeFileSync(this.room.path("replies"), latin1Bytes(told.join("")));
+    this.room.write("replies", latin1Bytes(told.join("")));
+  }
+
+  // The reply to a layer's plot. A picture that cannot be written is the one of before.
+  takePlot(layer, replies) {
+    const { name, picture } = layer, reply = replies.find(({ line }) => line === plotLine(layer));
+    this.plots.set(name, reply);
+    if (reply.isAccepted) return;
+    if (reply.refusal === UNWRITTEN) this.room.kept.add(picture);
+    else this.room.series.drop(picture);
   }
 
   // The lines of a run, and the number of the first one that is the user's own.
@@ -126,10 +136,7 @@ export class Board {
       if (!reply.isAccepted) lines.push(`# ${reply.words.join(" ")}: ${reply.line}`);
     }
     lines.push(...part.map(loadLine), windowLine(window));
-    for (const layer of part) {
-      this.room.path(layer.picture);
-      lines.push(plotLine(layer));
-    }
+    lines.push(...part.map(plotLine));
     if (edits.length) lines.push("# your own lines");
     return { lines: [...lines, ...edits], firstOwn: lines.length + 1 };
   }
@@ -173,7 +180,7 @@ export class Board {
   /**
    * What a page opens: the layers' files, the accepted lines of the user's own, and what these plotted.
    * @param {string} title
-   * @returns {import("../../web/building/contents.js").Contents}
+   * @returns {import("../../web/building/index.js").Contents}
    */
   contents(title) {
     const files = this.layers.map(({ file }) => ({ name: file.name, bytes: readFileSync(file.path) }));

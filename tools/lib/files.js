@@ -1,9 +1,10 @@
-// Files: read whole, and never replaced unasked.
+// Files: read whole, written whole, and never replaced unasked.
 
-import { closeSync, openSync, readFileSync, readSync, statSync, writeFileSync } from "node:fs";
+import { closeSync, openSync, readFileSync, readSync, statSync } from "node:fs";
 import { getSystemErrorMap } from "node:util";
-import { Failure } from "../../web/convert/report.js";
-import { HEAD } from "../../web/file_kinds.js";
+import { Failure } from "../../web/convert/index.js";
+import { HEAD } from "../../web/board/index.js";
+import { isStream, put } from "./whole.js";
 
 /**
  * Why the system refused something, in its words.
@@ -15,15 +16,21 @@ export function reasonOf(fault) {
   return text.slice(0, 1).toUpperCase() + text.slice(1);
 }
 
+/** The word of a call that stands for standard input, or for standard output. */
+export const STANDARD = "-";
+
 /**
- * The bytes of a file.
+ * The bytes of a file, or of standard input.
  * @param {string} path
  * @returns {Uint8Array}
  * @throws {Failure} where it cannot be read
  */
 export function readBytes(path) {
+  if (path !== STANDARD && statSync(path, { throwIfNoEntry: false })?.isDirectory()) {
+    throw new Failure(`${path} is a folder: name a file of it`);
+  }
   try {
-    return readFileSync(path);
+    return readFileSync(path === STANDARD ? 0 : path);
   } catch (fault) {
     throw new Failure(`${path}: cannot be read: ${reasonOf(fault)}`);
   }
@@ -57,20 +64,73 @@ function isSameFile(one, other) {
   }
 }
 
+/** @type {string[]} */
+const written = [];
+
+/** The files and folders that this process has written, for people. */
+export function writtenFiles() {
+  return written;
+}
+
 /**
- * Writes a file that was not there; with `force` also over one that was, but never over the source.
+ * Notes that a file or a folder was written.
+ * @param {string} path
+ */
+export function noteWritten(path) {
+  written.push(path);
+}
+
+function unwritten(path, fault) {
+  return new Failure(`${path}: cannot be written: ${reasonOf(fault)}`);
+}
+
+function existing(path) {
+  return new Failure(`${path}: exists already; --replace replaces it, -o names another`);
+}
+
+/**
+ * Stops where a file may not be written: it is there already, or was read.
+ * @param {string} path
+ * @param {boolean} isReplacing
+ * @param {string[]} sources the files that were read
+ * @throws {Failure}
+ */
+export function checkTarget(path, isReplacing, sources = []) {
+  if (sources.some((source) => isSameFile(path, source))) {
+    throw new Failure(`${path}: is a file that was read; name another by -o`);
+  }
+  if (statSync(path, { throwIfNoEntry: false })?.isFile() && !isReplacing && !isStream(path)) throw existing(path);
+}
+
+/**
+ * Writes a file that was not there, whole or not at all; where `isReplacing` also over one that was, but never over one that
+ * was read. A device and a pipe are written straight on.
  * @param {string} path
  * @param {Uint8Array | string} content
- * @param {string} source the file that was read
- * @param {boolean} force
+ * @param {boolean} isReplacing
+ * @param {string[]} sources the files that were read
  * @throws {Failure} where it exists already, or cannot be written
  */
-export function writeNew(path, content, source, force) {
-  if (isSameFile(path, source)) throw new Failure(`${path}: is the file that was read; name another by -o`);
+export function writeFile(path, content, isReplacing, sources = []) {
+  checkTarget(path, isReplacing, sources);
   try {
-    writeFileSync(path, content, { flag: force ? "w" : "wx" });
+    put(path, content, !isReplacing);
   } catch (fault) {
-    if (fault.code === "EEXIST") throw new Failure(`${path}: exists already; --force replaces it, -o names another`);
-    throw new Failure(`${path}: cannot be written: ${reasonOf(fault)}`);
+    throw fault.code === "EEXIST" ? existing(path) : unwritten(path, fault);
+  }
+  noteWritten(path);
+}
+
+/**
+ * Writes a file, also over one that was there: whole, or that one stays.
+ * @param {string} path
+ * @param {Uint8Array | string} content
+ * @throws {Failure} where it cannot be written
+ */
+export function replaceFile(path, content) {
+  try {
+    put(path, content);
+  } catch (fault) {
+    throw unwritten(path, fault);
   }
 }

@@ -1,70 +1,70 @@
 // tools/fit: the lines of a script that plot files in one window around all of them.
 
-import { existsSync, mkdtempSync, rmSync, statSync } from "node:fs";
+import { existsSync, mkdirSync, mkdtempSync, readFileSync, readdirSync, rmSync, statSync, symlinkSync } from "node:fs";
 import { tmpdir } from "node:os";
-import { basename, join } from "node:path";
-import { joined } from "../../web/boxes.js";
-import { recogniseFiles } from "../../web/layers.js";
-import { PITCH, SIDE, pitchOf, windowAtPitch, windowLine } from "../../web/windows.js";
+import { basename, join, resolve } from "node:path";
+import { SIDE, endingOf, joined, recogniseFiles, windowAtPitch, windowLine } from "../../web/board/index.js";
 import { Board } from "./boards.js";
 import { Call, DONE, Failure, REFUSED, complain, perform, say } from "./command.js";
-import { headOf } from "./files.js";
+import { headOf, noteWritten, reasonOf, replaceFile } from "./files.js";
+import { mended } from "./mending.js";
 import { neededModule } from "./module.js";
-import { PROGRAM, called } from "./places.js";
+import { option } from "./options.js";
+import { printedInto, sayJson } from "./output.js";
+import { askedPitch, coarser } from "./pixels.js";
+import { called } from "./places.js";
 import { Room } from "./rooms.js";
+import { Series } from "./series.js";
+import { quoted } from "./shell.js";
 import { LAYERS, checkProgram } from "./station.js";
 
-const DPI = 1000;
-const MOST_DPI = 25_400_000;
 // The paths that stand in a script: printable ASCII without a blank (docs/formats.md, "Scripts").
 const PATH = /^[!-~]{1,255}$/;
 
+const SCRIPT = "script";
 const TOOL = called("fit");
-const COMMAND = {
+export const COMMAND = {
   tool: TOOL,
   about: `Prints a script that plots these files, all in one window around them: a load for each, the window, and a plot for
 each. So this plots a file:
 
   ${TOOL} top.gbr | camplot -            writes top.pbm
-  ${TOOL} *.gbr *.drl > script           a script to begin from
-  ${TOOL} --pitch 10000 top.gbr          with pixels of 10 µm; by default 1000 an inch, of 25.4 µm
+  ${TOOL} *.gbr *.drl -o script          a script to begin from
+  ${TOOL} --pitch 10um top.gbr           with pixels of 10 µm; by default 1000 an inch, of 25.4 µm
+  ${TOOL} --links job 'Rev A'/*.gbr      the script in a new folder, with links of plain names to the files
 
 What a file is, Gerber or drill, it sees by the first bytes. A layer's name and that of its picture come from what the file
 shows, as ${called("board")} names it: top, bottom-mask, holes. The window is the box of all layers with 1 mm on each side. If
 that takes more than ${SIDE} pixels a side, it has the finest pitch that does not, and a line on standard error says so.
 
-A file that camplot refuses is left out, with the reason on standard error. The exit status is 0; 1 if a file was left
-out; 2 if nothing could be done.`,
-  operand: { name: "FILE", isMany: true, help: "Gerber and drill files, by paths that a script can have" },
-  options: [
-    { name: "--dpi", value: "N", isWhole: true, help: `pixels an inch (${DPI})` },
-    { name: "--pitch", value: "NM", isWhole: true, help: "the side of a pixel in nm" },
-    { name: "--camplot", value: "PROGRAM", otherwise: PROGRAM, help: `the program (${PROGRAM})` },
-  ],
+No line of a script can have a path with a blank or a letter outside of ASCII, or of more than 255 bytes. --links DIR writes
+the script into the new folder DIR, and a link with a plain name to each file next to it: run it there.
+
+A file that camplot refuses is left out, with the reason on standard error, and how it is converted if a converter helps. The
+exit status is 0; 1 if a file was left out; 2 if nothing could be done; 3 if standard output cannot be written.`,
+  operand: { name: "FILE", isMany: true, help: "Gerber and drill files" },
+  options: [option("--dpi", " (1000)"), option("--pitch"), option("--links"), option("--out", ": a file"), option("--replace"),
+    option("--json"), option("--camplot")],
 };
 
-// The pitch that the call asks for.
-function askedPitch({ dpi, pitch }) {
-  if (dpi !== null && pitch !== null) throw new Call("--dpi and --pitch both say how large a pixel is: give one of them");
-  if (dpi !== null && (dpi < 1 || dpi > MOST_DPI)) throw new Call(`--dpi is from 1 to ${MOST_DPI}`);
-  if (pitch !== null && (pitch < 1 || pitch > PITCH)) throw new Call(`--pitch is from 1 to ${PITCH} nm`);
-  return pitch ?? pitchOf(dpi ?? DPI);
+// Why no line of a script can have a path; null where it can.
+function unfitting(path) {
+  if (PATH.test(path)) return null;
+  if (Buffer.byteLength(path) > 255 && /^[!-~]*$/.test(path)) return "more than 255 bytes";
+  const odd = [...path].find((letter) => !/[!-~]/.test(letter));
+  return odd === " " ? "a blank" : /\s|\p{C}/u.test(odd) ? "a character that is not printed" : `the letter ${odd}, outside of ASCII`;
 }
 
-function quoted(path) {
-  return `'${path.replaceAll("'", "'\\''")}'`;
-}
-
-function checkPath(path) {
+function checkPath(path, hasLinks) {
   if (!existsSync(path)) throw new Failure(`${path} does not exist`);
   if (statSync(path).isDirectory()) {
     throw new Failure(`${path} is a folder: name its files; ${called("board")} finds the layers of a folder`);
   }
-  if (!PATH.test(path)) {
+  const why = hasLinks ? null : unfitting(path);
+  if (why !== null) {
     const plain = path.slice(-200).replace(/[^!-~]+/g, "_");
-    throw new Failure(`${path}: no line of a script can have this path, which has a blank, a letter outside of ASCII, or more `
-      + `than 255 bytes. Give the file a second name, as by ln -s ${quoted(path)} ${quoted(basename(plain))}, and name that; `
-      + `${called("board")} takes any name`);
+    throw new Failure(`${path}: no line of a script can have this path, which has ${why}: --links DIR writes the script with `
+      + `links of plain names; or give the file a second name, as by ln -s ${quoted(path)} ${quoted(basename(plain))}, and name that`);
   }
 }
 
@@ -72,7 +72,7 @@ function checkPath(path) {
 function loadedBoard(layers, program) {
   const folder = mkdtempSync(join(tmpdir(), "camplot-fit-"));
   try {
-    const board = new Board(layers, new Room(folder, false), program);
+    const board = new Board(layers, new Room(folder, false, true), program);
     board.load();
     return board;
   } finally {
@@ -80,28 +80,66 @@ function loadedBoard(layers, program) {
   }
 }
 
-function tellPitch(window, { dpi }, pitch) {
-  if (window.pitch === pitch) return;
-  const asked = dpi === null ? `pixels of ${pitch} nm` : `${dpi} pixels an inch`;
-  complain(`${TOOL}: ${asked} would be more than ${SIDE} a side: the pitch is ${window.pitch} nm`);
+function tellRefused(layer, board) {
+  const { path } = layer.file, way = mended(layer.kind, readFileSync(path), path);
+  complain(`${path}: ${board.outcome(layer)}${way === null ? "" : `; ${way}`}`);
 }
 
-function run(options) {
+// A folder with the script, and with links of these plain names to the layers' files.
+function leaveLinks(folder, layers, names, script) {
+  if (existsSync(folder) && readdirSync(folder).length) throw new Failure(`${folder} has files: --links names a new folder`);
+  const series = new Series(folder);
+  series.plan([...names, SCRIPT]);
+  series.during(() => {
+    try {
+      mkdirSync(folder, { recursive: true });
+      names.forEach((name, at) => {
+        symlinkSync(resolve(layers[at].file.path), join(folder, name));
+        series.done(name);
+      });
+    } catch (fault) {
+      throw new Failure(`${folder}: cannot be written: ${reasonOf(fault)}`);
+    }
+    replaceFile(join(folder, SCRIPT), script);
+  });
+  noteWritten(folder);
+}
+
+function scriptOf(layers, paths, window) {
+  return [...layers.map((layer, at) => `load ${layer.name} ${layer.kind} ${paths[at]}`), windowLine(window),
+    ...layers.map((layer) => `plot ${layer.name} ${layer.picture}`)];
+}
+
+function tellScript(layers, window, { json, links }) {
+  const paths = layers.map(({ name, kind, file }) => (links === null ? file.path : `${name}${endingOf(kind)}`));
+  const lines = scriptOf(layers, paths, window);
+  if (links !== null) leaveLinks(links, layers, paths, `${lines.join("\n")}\n`);
+  if (json) {
+    sayJson({ layers: layers.map(({ name, kind, file, picture }, at) => ({ name, kind, file: file.path, path: paths[at], picture })),
+      window, script: lines });
+  } else if (links === null) {
+    say(lines.join("\n"));
+  } else {
+    say(`written: ${join(links, SCRIPT)}, with links to ${layers.length} files; cd ${quoted(links)} && camplot script runs it`);
+  }
+}
+
+function fitted(options) {
   const pitch = askedPitch(options), paths = options.operands;
+  if (options.links !== null && options.out !== null) throw new Call("--links writes the script into its folder: leave --out away");
   checkProgram(options.camplot);
   neededModule();
-  paths.forEach(checkPath);
+  for (const path of paths) checkPath(path, options.links !== null);
   if (paths.length > LAYERS) throw new Failure(`${paths.length} files: a script loads at most ${LAYERS}`);
   const files = paths.map((path) => ({ path, name: basename(path), bytes: headOf(path) }));
   const board = loadedBoard(recogniseFiles(files, true).layers, options.camplot);
   const layers = board.loaded(), box = joined(board.boxes());
-  for (const layer of board.layers) if (!layers.includes(layer)) complain(`${layer.file.path}: ${board.outcome(layer)}`);
+  for (const layer of board.layers) if (!layers.includes(layer)) tellRefused(layer, board);
   if (!layers.length) throw new Failure("no file was loaded");
   if (!box) throw new Failure("no item of these files paints anything, so there is no box for a window");
-  const window = windowAtPitch(box, pitch);
-  tellPitch(window, options, pitch);
-  say([...layers.map((layer) => `load ${layer.name} ${layer.kind} ${layer.file.path}`), windowLine(window),
-    ...layers.map((layer) => `plot ${layer.name} ${layer.picture}`)].join("\n"));
+  const window = windowAtPitch(box, pitch), told = coarser(window, options, pitch);
+  if (told !== null) complain(`${TOOL}: ${told}`);
+  tellScript(layers, window, options);
   return layers.length < board.layers.length ? REFUSED : DONE;
 }
 
@@ -110,5 +148,5 @@ function run(options) {
  * @param {string[]} words
  */
 export function main(words) {
-  return perform(COMMAND, run, words);
+  return perform(COMMAND, (options) => printedInto(options, () => fitted(options)), words);
 }

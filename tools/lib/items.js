@@ -1,18 +1,17 @@
 // tools/items: which item is K.
 
-import { readFileSync } from "node:fs";
-import { joined } from "../../web/boxes.js";
-import { GERBER, kindOf } from "../../web/file_kinds.js";
-import { counted } from "../../web/nets/words.js";
-import { itemOf } from "../../web/page/items.js";
-import { explain } from "../../web/refusals.js";
-import { Reply } from "../../web/replies.js";
+import { GERBER, Reply, explain, itemOf, kindOf } from "../../web/board/index.js";
+import { counted } from "../../web/nets/index.js";
 import { AskedLayer } from "./asked_layer.js";
-import { DONE, Failure, complain, perform, say } from "./command.js";
+import { Call, DONE, Failure, perform, say, withEach } from "./command.js";
+import { contourBox, lengthOf } from "./contours.js";
+import { readBytes } from "./files.js";
+import { mended } from "./mending.js";
+import { option } from "./options.js";
+import { printedInto, sayJson } from "./output.js";
 import { called } from "./places.js";
 import { meanings } from "./station.js";
 
-const KINDS = ["flash", "draw", "arc", "region", "repeat", "hit", "rout"];
 // A region of more words than this is cut short.
 const WORDS = 40;
 // Long regions are no measure of the column.
@@ -21,28 +20,25 @@ const COLUMN = 80;
 const LINES = 10_000;
 
 const TOOL = called("items");
-const COMMAND = {
+export const COMMAND = {
   tool: TOOL,
   about: `Numbers the items of a layer as a script counts them, from 0: the place K that \`delete\`, \`move\` and others take.
 
   ${TOOL} FILE                     all items of a text that camplot's \`write\` gave, Gerber or XNC
   ${TOOL} FILE --at X Y            only those whose box holds this point, in nm
-  ${TOOL} FILE --only flash        only those of one kind: flash, draw, arc, region, repeat, hit, rout
+  ${TOOL} FILE --only flash        only those of one kind
   ${TOOL} FILE --apertures         the apertures and blocks, or the tools, in place of the items
+  ${TOOL} FILE FILE -o list        of several files, into a file
 
 Each line has the place K, the item in the words that \`insert\` takes, and its size. All lengths are in nm. The objects
 of a repeat, which no \`insert\` takes, stand below it; they have no place of their own. A region or a slot of many points
 is cut short, unless --whole is given. Definitions are no items.
 
-FILE may be any other Gerber or drill file too: these are then the items that camplot makes of it.
-The exit status is 0, or 2 if the file cannot be read.`,
-  operand: { name: "FILE" },
-  options: [
-    { name: "--at", value: ["X", "Y"], isWhole: true, help: "items whose box holds this point in nm" },
-    { name: "--only", value: "KIND", choices: KINDS, help: "items of this kind" },
-    { name: "--apertures", help: "the apertures and blocks, or the tools" },
-    { name: "--whole", help: "cut no region and no slot short" },
-  ],
+FILE may be any other Gerber or drill file too: these are then the items that camplot makes of it, and the first line of
+what is printed tells so. The exit status is 0; 2 if a file cannot be read; 3 if standard output cannot be written.`,
+  operand: { name: "FILE", isMany: true, help: "Gerber and drill files, or - for standard input" },
+  options: [option("--at"), option("--only"), option("--apertures"), option("--whole"), option("--out", ": a file"),
+    option("--replace"), option("--json")],
 };
 
 function shortened(words, isWhole) {
@@ -94,7 +90,7 @@ class Sizes {
     const [kind, number, sx, sy, ex, ey] = words.split(" ", 6), entry = this.entries.get(Number(number));
     if (kind === "flash" || kind === "hit") return entry;
     if (kind === "draw") return `${entry}, ${Math.round(Math.hypot(Number(ex) - Number(sx), Number(ey) - Number(sy)))} long`;
-    const { points, segments } = itemOf(words);
+    const { points, segments } = /** @type {Board.Region} */ (itemOf(words));
     if (kind === "arc") return `${entry}, radius ${Math.round(lengthOf([points[0], points[2]]))}`;
     if (kind === "rout") return `${entry}, ${Math.round(lengthOf(points))} long`;
     return `${sidesOf(contourBox(points[0], segments))}, ${counted(segments.length, "segment")}`;
@@ -108,29 +104,6 @@ class Sizes {
       `${sidesOf(this.layer.boxAt(place))}, ${counted(Number(count), "object")}`],
     ...objects.map((object) => [" ", `  ${shortened(object, isWhole)}`, this.of(object)])];
   }
-}
-
-const TURN = 2 * Math.PI;
-const turnOf = (from, to) => ((to - from) % TURN + TURN) % TURN;
-
-// The points farthest right, up, left and down of an arc's circle that it passes, at whole nm.
-function passed([sx, sy], { kind, to: [ex, ey], centre: [x, y] }) {
-  const start = Math.atan2(sy - y, sx - x), end = Math.atan2(ey - y, ex - x);
-  const [first, last] = kind === "cw" ? [end, start] : [start, end], sweep = turnOf(first, last) || TURN;
-  const radius = Math.ceil(Math.sqrt((sx - x) ** 2 + (sy - y) ** 2));
-  return [[radius, 0], [0, radius], [-radius, 0], [0, -radius]].filter(([dx, dy]) => turnOf(first, Math.atan2(dy, dx)) <= sweep)
-    .map(([dx, dy]) => [x + dx, y + dy]);
-}
-
-// The box of a region's contour: a station's has the whole circles of its arcs.
-function contourBox(start, segments) {
-  const from = (at) => (at ? segments[at - 1].to : start);
-  const all = [start, ...segments.flatMap((segment, at) => [segment.to, ...(segment.centre ? passed(from(at), segment) : [])])];
-  return joined(all.map(([x, y]) => ({ left: x, low: y, right: x, high: y })));
-}
-
-function lengthOf(points) {
-  return points.reduce((length, [x, y], at) => length + (at ? Math.hypot(x - points[at - 1][0], y - points[at - 1][1]) : 0), 0);
 }
 
 // The rows of the items that are wanted.
@@ -165,16 +138,48 @@ function showApertures(layer) {
   for (const [number, size] of entries) say(`${letter}${String(number).padEnd(6)} ${size}`);
 }
 
-function run(options) {
-  const [path] = options.operands, bytes = readFileSync(path);
-  const layer = new AskedLayer(kindOf(bytes) ?? GERBER, bytes);
-  if (!layer.isLoaded) throw new Failure(`${path}: ${explain(new Reply(1, "", layer.reply.split(" ")), meanings(), bytes)}`);
-  if (Buffer.compare(layer.text(), bytes) !== 0) {
-    complain(`${TOOL}: ${path} is not a text that camplot wrote; these are its items after it is loaded`);
+// The same as values: the objects of a repeat have its place.
+function valuesOf(layer, options) {
+  if (options.apertures) return { apertures: [...new Sizes(layer).entries].map(([number, size]) => ({ number, size })) };
+  let last = 0;
+  const items = rowsOf(layer, options).slice(1).map(([place, item, size]) => {
+    const isObject = place === " ";
+    last = isObject ? last : Number(place);
+    return { place: last, item: item.trimStart(), size, ...(isObject ? { isObject } : {}) };
+  });
+  return { items };
+}
+
+// A file as a layer, and whether it is what camplot writes of it.
+function asked(path) {
+  const bytes = readBytes(path), kind = kindOf(bytes) ?? GERBER, layer = new AskedLayer(kind, bytes);
+  if (!layer.isLoaded) {
+    const way = mended(kind, bytes, path), why = explain(new Reply(1, `load it ${kind} file`, layer.reply.split(" ")), meanings(), bytes);
+    throw new Failure(`${path}: ${why}${way === null ? "" : `; ${way}`}`);
   }
+  return { layer, isWritten: Buffer.compare(layer.text(), bytes) === 0 };
+}
+
+function show(path, { layer, isWritten }, options) {
+  if (options.operands.length > 1) say(`${path}:`);
+  if (!isWritten) say(`${path} is not a text that camplot wrote: these are its items after it is loaded`);
   if (options.apertures) showApertures(layer);
   else showItems(layer, options);
-  return DONE;
+}
+
+function run(options) {
+  if (options.operands.filter((path) => path === "-").length > 1) throw new Call("-: standard input is read once");
+  const values = [];
+  return printedInto(options, () => {
+    const status = withEach(TOOL, options.operands, (path) => {
+      const found = asked(path);
+      if (options.json) values.push({ file: path, isWritten: found.isWritten, ...valuesOf(found.layer, options) });
+      else show(path, found, options);
+      return DONE;
+    });
+    if (options.json) sayJson({ files: values });
+    return status;
+  });
 }
 
 /**

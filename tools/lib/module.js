@@ -1,13 +1,13 @@
 // The station of the page's module. Layers are asked by it; where no program is built, it takes lines as the program does.
 
-import { existsSync, readFileSync, statSync, writeFileSync } from "node:fs";
+import { existsSync, readFileSync, statSync } from "node:fs";
 import { dirname, join } from "node:path";
 import { fileURLToPath } from "node:url";
-import { Station } from "../../web/worker/station.js";
-import { latin1, latin1Bytes } from "../../web/bytes.js";
-import { Failure } from "../../web/convert/report.js";
-import { wordsOf } from "../../web/replies.js";
-import { reasonOf } from "./files.js";
+import { Station } from "../../web/station/index.js";
+import { latin1, latin1Bytes } from "../../web/bytes/index.js";
+import { Failure } from "../../web/convert/index.js";
+import { wordsOf } from "../../web/board/index.js";
+import { replaceFile } from "./files.js";
 import { remedy } from "./places.js";
 
 const MODULE = join(dirname(dirname(dirname(fileURLToPath(import.meta.url)))), "web", "out", "station.wasm");
@@ -52,18 +52,10 @@ function bytesAt(path) {
   }
 }
 
-function put(path, bytes) {
-  try {
-    writeFileSync(path, bytes);
-  } catch (fault) {
-    throw new Failure(`${path} cannot be written: ${reasonOf(fault)}`);
-  }
-}
-
 function served(station, folder, line) {
   const [command, ...words] = wordsOf(line), isLoad = command === "load" && words.length === 3;
   const code = station.apply(latin1Bytes(line), isLoad ? bytesAt(pathIn(folder, words[2])) : null);
-  if (code === 0 && (command === "plot" || command === "write")) put(pathIn(folder, words[1]), station.file);
+  if (code === 0 && (command === "plot" || command === "write")) replaceFile(String(pathIn(folder, words[1])), station.file);
   return latin1(station.reply);
 }
 

@@ -1,29 +1,36 @@
 // tools/nets: which copper is one piece, and what differs from the netlist.
 
-import { existsSync } from "node:fs";
-import { latin1 } from "../../web/bytes.js";
-import { limitWords, limitsOf } from "../../web/nets/grid.js";
-import { counted, mm, placeWords } from "../../web/nets/words.js";
-import { SIDE, windowLine } from "../../web/windows.js";
-import { recogniseFiles } from "../../web/layers.js";
-import { scriptLines } from "../../web/replies.js";
-import { inputs } from "./board.js";
+import { existsSync, statSync } from "node:fs";
+import { dirname, join } from "node:path";
+import { latin1 } from "../../web/bytes/index.js";
+import { RULES, counted, limitWords, limitsOf as limitsOfPitch, mm, placeWords } from "../../web/nets/index.js";
+import { SIDE, scriptLines, windowLine } from "../../web/board/index.js";
 import { Call, DONE, Failure, REFUSED, perform, say } from "./command.js";
-import { readBytes } from "./files.js";
+import { STANDARD, checkTarget, readBytes } from "./files.js";
+import { inputs } from "./inputs.js";
 import { NetsBoard } from "./nets_board.js";
+import { layersOf, rolesOf } from "./nets_roles.js";
+import { limitsOf, rulesSummary } from "./nets_rules.js";
+import { neededBy, uncheckedWords } from "./nets_sides.js";
 import { Truth } from "./nets_truth.js";
 import { Answer, differences } from "./nets_answer.js";
 import { drawFindings } from "./nets_pictures.js";
 import { neededModule } from "./module.js";
-import { PROGRAM, called } from "./places.js";
+import { Accepted, NAME } from "./nets_accepted.js";
+import { progress } from "./nets_progress.js";
+import { option } from "./options.js";
+import { printedInto } from "./output.js";
+import { askedPitch } from "./pixels.js";
+import { called } from "./places.js";
 import { checkProgram } from "./station.js";
 
+/** The exit status where there is nothing to compare with. */
+const NOTHING = 2;
 /** By default, in nm. */
 const FINE = 10_000;
-const MOST_PITCH = 100_000_000;
 
 const TOOL = called("nets");
-const COMMAND = {
+export const COMMAND = {
   tool: TOOL,
   about: `Finds which copper of a board is one piece, and compares it with the nets that it should have.
 
@@ -43,57 +50,67 @@ nets there are, then each difference with its place in mm:
 The pictures are camplot's, whose every pixel is proved; the nets are not proved. Each answer is that of a pitch: it holds
 where tracks and holes are at least as wide as a pixel's diagonal and gaps wider than a pixel.
 
-Exit status 0: no difference; 1: differences, or places of --gap and --neck; 2: nothing could be compared.`,
+Exit status 0: no difference, or none that is not accepted; 1: differences, broken rules, or places of --gap and --neck;
+2: there is nothing to compare with, or copper or holes that a netlist or a file counts on are missing, not recognised or
+refused (--partial compares the rest); 3: standard output cannot be written.`,
   operand: { name: "FOLDER|FILE", isMany: true },
-  options: [
-    { name: "--ipc", value: "FILE", help: "the netlist" },
-    { name: "--edits", value: "FILE", help: "lines of a script that run before the layers are plotted" },
-    { name: "--shift", value: ["X", "Y"], isWhole: true, help: "what is added to the netlist's places, in nm" },
-    { name: "--pitch", value: "NM", isWhole: true, otherwise: FINE, help: `the pitch of the pixels in nm (${FINE})` },
-    { name: "--twice", help: "once more with the window moved by half a pixel, and once at half the pitch" },
-    { name: "--gap", value: "MM", help: "list where two nets are nearer than this" },
-    { name: "--neck", value: "MM", help: "list where copper is thinner than this" },
-    { name: "--pictures", value: "DIR", help: "write a picture of each finding into this folder" },
-    { name: "--json", help: "print all of it as JSON" },
-    { name: "--camplot", value: "PROGRAM", otherwise: PROGRAM, help: `the program (${PROGRAM})` },
-  ],
+  options: [option("--ipc"), option("--edits", ": before they are plotted; - is standard input"),
+    option("--shift", "; by default it is found"), option("--rules", ": a line has a name and its limit, as ring 0.13 or ring 5mil"),
+    option("--rule", `: ${[...RULES.keys()].join(", ")}`), option("--copper"), option("--may-touch"), option("--accept"),
+    option("--accepted", ` (${NAME} in the folder of the board)`), option("--role"), option("--partial"), option("--dpi"),
+    option("--pitch", " (10um)"), option("--twice"), option("--gap"), option("--neck"), option("--pictures"),
+    option("--out", ": a file"), option("--replace"), option("--json"), option("--camplot")],
 };
 
-function lengthOf(name, text) {
-  if (text === null) return null;
-  if (!/^\d{1,4}(\.\d{1,6})?$/.test(text) || Number(text) === 0) throw new Call(`${name} ${text}: it needs a length in mm, as 0.15`);
-  return Math.round(Number(text) * 1e6);
+function pairOf(text) {
+  const names = text.split(",").map((name) => name.trim());
+  if (names.length !== 2 || names.includes("")) throw new Call(`--may-touch ${text}: it needs two nets, as GND,AGND`);
+  return names;
+}
+
+// Where a board's accepted findings are, if no file is named: in its folder.
+function acceptedPath([first]) {
+  return join(statSync(first).isDirectory() ? first : dirname(first), NAME);
 }
 
 function checkOptions(options) {
-  if (options.pitch < 1 || options.pitch > MOST_PITCH) throw new Call(`--pitch is from 1 to ${MOST_PITCH}`);
+  options.pitch = askedPitch(options, FINE);
   if (options.shift !== null && options.ipc === null) throw new Call("--shift is for the netlist of --ipc");
   if (options.ipc !== null && !existsSync(options.ipc)) throw new Failure(`${options.ipc} does not exist`);
-  options.gap = lengthOf("--gap", options.gap);
-  options.neck = lengthOf("--neck", options.neck);
+  options.mayTouch = options.mayTouch.map(pairOf);
+  options.limits = limitsOf(options.rules, options.rule);
+  if (options.accept === "") throw new Call("--accept needs a reason");
   if (options.pictures !== null && existsSync(options.pictures)) {
     throw new Failure(`${options.pictures} exists already: --pictures names a new folder`);
   }
 }
 
-function tellLayers(board, others) {
-  for (const { name } of others) say(`left out, since it is not recognised as a layer: ${name}`);
+function tellLayers(board, others, notes) {
+  for (const { name } of others.filter((other) => other.name !== NAME)) say(`left out, since it is not recognised as a layer: ${name}`);
+  for (const note of notes) say(note);
   for (const { layer, number } of board.stack.copper) say(`copper ${number}: ${layer.name}: ${layer.file.name}`);
   for (const { layer, why } of board.stack.holes) {
     const unplated = board.unplated.get(layer).length;
     say(`plated holes: ${layer.file.name}: through ${why}${
-      unplated ? `; ${counted(unplated, "hole")} of tools without plating left out` : ""}`);
+      unplated ? `; ${counted(unplated, "hole")} of tools without plating left out, which cut copper` : ""}`);
   }
+  for (const { file } of board.withoutPlating) say(`holes without plating: ${file.name}: they cut copper`);
+  if (board.outline) {
+    const { closed, open } = board.outlines;
+    say(`outline: ${board.outline.file.name}: ${closed.length ? "its closed lines cut copper" : "none of its lines is closed"}${
+      open ? `; ${counted(open, "open line")} left out` : ""}`);
+  }
+  for (const { layerFunction, file } of board.covers) say(`${layerFunction.label}: ${file.name}${/mask/.test(layerFunction.name) ? ": open where it is black" : ""}`);
   for (const { layer, why } of board.stack.leftOut) say(`left out: ${layer.file.name}: ${why}`);
-  const { missing } = board.stack;
-  if (missing.length) say(`copper ${missing.join(", ")} is not among the files: what it joins is not seen`);
   if (!board.stack.holes.length) say("no layer of plated holes: nothing joins the copper layers");
+  for (const line of board.missing) say(`missing: ${line}: not checked`);
+  if (board.missing.length) say("parts that are told as open may be joined by what is missing");
 }
 
 function tellWindow(window, asked) {
   const { pitch, width, height } = window;
   say(`the window: ${width} x ${height} pixels of ${pitch} nm${
-    pitch === asked ? "" : `, since --pitch ${asked} would take more than ${SIDE} of them a side`}`);
+    pitch === asked ? "" : `, since pixels of ${asked} nm would be more than ${SIDE} a side`}`);
 }
 
 // The answer at the pitch, and with --twice those of another window and of another pitch.
@@ -130,46 +147,83 @@ function tellSizes({ nets, grid }, labels) {
   }
 }
 
-function tell(board, truth, answers, others, options) {
+const percent = (part) => `${(100 * part).toFixed(1)} %`;
+
+function tellShares(answer) {
+  answer.shares.forEach(({ all, rows }, layer) => {
+    say(`copper's share of ${answer.labels[layer]}: ${percent(all)}; by squares of 10 mm, from the upper left:`);
+    for (const row of rows) say(`  ${row.map((part) => percent(part).padStart(8)).join("")}`);
+  });
+}
+
+function tell(truth, answers, options, accepted) {
   const [answer] = answers;
-  tellLayers(board, others);
   tellWindow(answer.window, options.pitch);
   say(truth.words(answer));
   say(`${counted(answer.nets.count, "net")} in ${counted(answer.nets.pieces, "piece")} of copper; ${limitWords(answer.window.pitch)}`);
   if (truth.isNone) tellSizes(answer, answer.labels);
   for (const lines of answer.lines()) say(lines.join("\n"));
   if (!truth.isNone) say(answer.summary());
+  if (options.limits.size) say(rulesSummary(answer.breaches, options.limits, answer.unchecked));
+  for (const rule of answer.unchecked) say(uncheckedWords(rule));
+  if (options.copper) tellShares(answer);
+  accepted.tell();
   tellTwice(answers);
 }
 
-function jsonOf(board, truth, answers) {
-  const [answer, ...others] = answers, { track, gap } = limitsOf(answer.window.pitch);
+function jsonOf(board, truth, answers, accepted) {
+  const [answer, ...others] = answers, { track, gap } = limitsOfPitch(answer.window.pitch);
   return JSON.stringify({
     copper: board.stack.copper.map(({ layer, number }) => ({ number, name: layer.name, file: layer.file.name })),
-    missing: board.stack.missing, holes: board.stack.holes.map(({ layer, why }) => ({ name: layer.name, file: layer.file.name, through: why })),
+    missing: board.stack.missing, notChecked: board.missing, holes: board.stack.holes.map(({ layer, why }) => ({ name: layer.name, file: layer.file.name, through: why })),
     window: answer.window, narrowestTrack: mm(track), narrowestGap: mm(gap), truth: truth.words(answer),
-    nets: answer.nets.count, pieces: answer.nets.pieces, ...answer.findings(),
+    nets: answer.nets.count, pieces: answer.nets.pieces, ...answer.findings(), accepted: accepted.kept, gone: accepted.gone,
     twice: others.map((other) => ({ window: other.window, what: other.what, differs: differences(answer, other) })),
   }, null, 1);
 }
 
+// Whether something is asked that needs no nets to compare with.
+function isChecked({ gap, neck, limits, copper }) {
+  return gap !== null || neck !== null || limits.size > 0 || copper;
+}
+
+// The file of --out is none of those that are read, also of a folder.
+function checkOut({ out, replace, ipc, edits, rules }, files, accepted) {
+  if (out === null || out === STANDARD) return;
+  checkTarget(out, replace, [...files.map(({ path }) => path), accepted, ...[ipc, edits, rules].filter((path) => path !== null)]);
+}
+
 function run(options) {
   checkOptions(options);
-  const { files, areNamed } = inputs(options.operands);
-  const { layers, others } = recogniseFiles(files, areNamed);
+  const { files, areNamed, notes } = inputs(options.operands), acceptedIn = options.accepted ?? acceptedPath(options.operands);
+  checkOut(options, files, acceptedIn);
+  const { layers, others } = layersOf(files, areNamed, rolesOf(options.role));
   checkProgram(options.camplot);
   neededModule();
+  const accepted = new Accepted(acceptedIn);
   const netlist = options.ipc === null ? null : Truth.netlist(options.ipc);
   const edits = options.edits === null ? [] : scriptLines(latin1(readBytes(options.edits)));
-  const board = new NetsBoard(layers, edits, options.camplot);
+  const board = new NetsBoard(layers, edits, options.camplot, neededBy(options.limits), options.edits ?? undefined);
   try {
-    const truth = new Truth(board, netlist, options);
+    const truth = new Truth(board, netlist);
+    truth.checkWhole(others, options.partial);
+    truth.align(options.shift);
+    // What the layers are first: the rest may take a while.
+    if (!options.json) tellLayers(board, others, notes);
     const answers = answersOf(board, truth, options);
-    if (options.json) say(jsonOf(board, truth, answers));
-    else tell(board, truth, answers, others, options);
+    progress("");
+    for (const answer of answers) answer.accept(accepted);
+    if (options.accept !== null) {
+      accepted.add(answers[0].kept(), options.accept);
+      for (const answer of answers) answer.accept(accepted);
+    }
+    if (options.json) say(jsonOf(board, truth, answers, accepted));
+    else tell(truth, answers, options, accepted);
     if (options.pictures !== null) drawFindings(answers[0], options.pictures);
-    return answers.some((answer) => answer.hasFault) ? REFUSED : DONE;
+    if (answers.some((answer) => answer.hasFault)) return REFUSED;
+    return truth.isNone && !isChecked(options) ? NOTHING : DONE;
   } finally {
+    progress("");
     board.close();
   }
 }
@@ -179,5 +233,5 @@ function run(options) {
  * @param {string[]} words
  */
 export function main(words) {
-  return perform(COMMAND, run, words);
+  return perform(COMMAND, (options) => printedInto(options, () => run(options)), words);
 }

@@ -1,11 +1,14 @@
 // The nets of a board at one pitch, and what differs from those that it should have.
 
-import { compareNets } from "../../web/nets/compare.js";
-import { nearPlaces } from "../../web/nets/clearances.js";
-import { thinPlaces } from "../../web/nets/necks.js";
-import { Report } from "../../web/nets/report.js";
-import { counted, mm, placeWords } from "../../web/nets/words.js";
+import {
+  MOST_FULL, RULES, Report, breachesOf, compareNets, counted, mm, nearPlaces, placeWords, shareOf, thinPlaces,
+} from "../../web/nets/index.js";
+import { breachWords } from "./nets_rules.js";
+import { progress } from "./nets_progress.js";
+import { sidesOf, uncheckedOf } from "./nets_sides.js";
 
+/** The side of the squares in which copper's share is counted, in nm. */
+const SQUARE = 10_000_000;
 const NONE = { opens: [], shorts: [], bare: [], loose: [], names: new Map() };
 
 /** What a pitch answers. */
@@ -13,27 +16,46 @@ export class Answer {
   /**
    * @param {import("./nets_board.js").NetsBoard} board
    * @param {import("./nets_truth.js").Truth} truth
-   * @param {import("../../web/windows.js").PlotWindow} window
+   * @param {import("../../web/board/index.js").PlotWindow} window
    * @param {string} what of the window, in words
-   * @param {{gap: number | null, neck: number | null}} options in nm
+   * @param {{gap: number | null, neck: number | null, mayTouch: [string, string][], limits: Map<string, number>}} options lengths
+   *   in nm
    */
-  constructor(board, truth, window, what, { gap, neck }) {
+  constructor(board, truth, window, what, { gap, neck, mayTouch, limits }) {
     this.window = window;
     this.what = what;
     this.labels = board.stack.copper.map(({ layer }) => layer.name);
-    const { nets, grid } = board.nets(window);
+    const { nets, apart, grid } = board.nets(window);
     this.nets = nets;
     this.grid = grid;
-    this.points = truth.points(nets, grid);
-    this.found = truth.isNone ? NONE : compareNets(nets, grid, this.points);
+    this.points = truth.points();
+    progress("comparing");
+    this.found = truth.isNone ? NONE : compareNets(nets, grid, this.points, { apart, mayTouch });
     this.report = new Report(this.labels, window.pitch);
+    if (gap !== null || neck !== null) progress("measuring gaps and widths");
+    this.limits = limits;
+    if (limits.size) progress("checking the rules");
+    this.breaches = !limits.size ? [] : breachesOf({ nets, grid, holes: board.holes(), spans: nets.holes, outline: board.outlines.closed,
+      points: this.points, sides: sidesOf(board, window, this.points) }, limits);
+    this.unchecked = uncheckedOf(board, limits, this.points);
+    // The box of the outline, else that of the copper and the holes.
+    const box = this.boxOf(board.sides());
+    this.shares = nets.copper.map((runs) => shareOf(runs, box, SQUARE / window.pitch));
     this.gaps = gap === null ? [] : nearPlaces(nets, gap / window.pitch).map((near) => this.gapOf(near));
     this.necks = neck === null ? [] : thinPlaces(nets, neck / window.pitch).map((thin) => this.neckOf(thin));
   }
 
   get hasFault() {
     const { opens, shorts, bare } = this.found;
-    return [opens, shorts, bare, this.gaps, this.necks].some((list) => list.length > 0);
+    return [opens, shorts, bare, this.gaps, this.necks, this.breaches].some((list) => list.length > 0);
+  }
+
+  // The pixels of a box, the last column and row not included.
+  boxOf({ left, low, right, high }) {
+    const { x, y, pitch, width, height } = this.grid, within = (at, most) => Math.min(most, Math.max(0, at));
+    const first = within(Math.floor((left - x) / pitch), width - 1), top = within(height - Math.ceil((high - y) / pitch), height - 1);
+    return { left: first, top, right: Math.max(first + 1, within(Math.ceil((right - x) / pitch), width)),
+      bottom: Math.max(top + 1, within(height - Math.floor((low - y) / pitch), height)) };
   }
 
   place(layer, [column, row]) {
@@ -57,12 +79,75 @@ export class Answer {
     return { name: this.nameOf(net, place), place, width: width * this.window.pitch };
   }
 
-  /** Each finding, in lines for people. */
+  /**
+   * Takes the findings away that are accepted.
+   * @param {import("./nets_accepted.js").Accepted} accepted
+   */
+  accept(accepted) {
+    const { found } = this, isOther = (kept) => (finding) => !accepted.has(kept.call(this, finding));
+    this.found = { ...found, opens: found.opens.filter(isOther(this.keptOpen)), shorts: found.shorts.filter(isOther(this.keptShort)),
+      bare: found.bare.filter(isOther(this.keptBare)) };
+    this.gaps = this.gaps.filter(isOther(this.keptGap));
+    this.necks = this.necks.filter(isOther(this.keptNeck));
+    this.breaches = this.breaches.filter(isOther(this.keptBreach));
+  }
+
+  /** The findings that are faults, as they are kept. */
+  kept() {
+    const { opens, shorts, bare } = this.found;
+    return [...opens.map((open) => this.keptOpen(open)), ...shorts.map((short) => this.keptShort(short)),
+      ...bare.map((point) => this.keptBare(point)), ...this.gaps.map((gap) => this.keptGap(gap)), ...this.necks.map((neck) => this.keptNeck(neck)),
+      ...this.breaches.map((breach) => this.keptBreach(breach))];
+  }
+
+  namesOf({ nets, from }) {
+    return nets.map((net) => this.nameOf(net, from));
+  }
+
+  keptBreach(breach) {
+    const { rule, sources, shown = [], layer, from: { x, y } } = breach;
+    return { kind: rule, nets: [...sources, ...shown, ...this.namesOf(breach)], layer: layer === null ? "holes" : this.labels[layer], x: x / 1e6, y: y / 1e6 };
+  }
+
+  keep(kind, nets, { layer, x, y }) {
+    return { kind, nets, layer: this.labels[layer], x: x / 1e6, y: y / 1e6 };
+  }
+
+  // A point of the part with the fewest points stands for an open.
+  keptOpen({ net, parts }) {
+    const [point] = parts[parts.length - 1].points;
+    return this.keep("open", [net], { ...point, layer: point.layers[0] });
+  }
+
+  keptShort({ nets, touching }) {
+    const [point] = nets[nets.length - 1].points;
+    return this.keep("short", nets.map(({ net }) => net), touching[0]?.place ?? { ...point, layer: point.layers[0] });
+  }
+
+  keptBare({ point }) {
+    return this.keep("no copper", [point.net ?? "N/C", point.name], { ...point, layer: point.layers[0] });
+  }
+
+  keptGap({ names, from }) {
+    return this.keep("gap", names, from);
+  }
+
+  keptNeck({ name, place }) {
+    return this.keep("neck", [name], place);
+  }
+
+  /** The findings in lines for people: of each kind the first ones, and how many more there are. */
   lines() {
     const { opens, shorts, bare, loose } = this.found, { report } = this;
-    return [...opens.map((open) => report.open(open)), ...shorts.map((short) => report.short(short)),
-      ...bare.map((point) => report.bare(point)), ...loose.map((copper) => report.loose(copper)),
-      ...this.gaps.map((gap) => report.clearance(gap)), ...this.necks.map((neck) => report.neck(neck))];
+    const some = (list, what, told) => {
+      const more = list.length - MOST_FULL;
+      return [...list.slice(0, MOST_FULL).map(told), ...(more > 0 ? [[`and ${counted(more, `more ${what}`)}`]] : [])];
+    };
+    return [...some(opens, "open", (open) => report.open(open)), ...some(shorts, "short", (short) => report.short(short)),
+      ...some(bare, "point", (point) => report.bare(point)), ...some(loose, "piece", (copper) => report.loose(copper)),
+      ...[...this.limits].flatMap(([rule, limit]) => some(this.breaches.filter((breach) => breach.rule === rule), RULES.get(rule).title,
+        (breach) => [breachWords(breach, limit, this.namesOf(breach), this.labels)])),
+      ...some(this.gaps, "gap", (gap) => report.clearance(gap)), ...some(this.necks, "neck", (neck) => report.neck(neck))];
   }
 
   summary() {
@@ -88,6 +173,12 @@ export class Answer {
       withoutPoint: loose.map(({ place: at, area }) => ({ place: place(at), area })),
       gaps: this.gaps.map(({ names, from, to, distance }) => ({ names, from: place(from), to: place(to),
         distance: mm(distance), within: exact })),
+      rules: this.breaches.map((breach) => ({ rule: breach.rule, value: mm(breach.value), within: mm(breach.within),
+        limit: mm(this.limits.get(breach.rule)), layer: breach.layer === null ? null : this.labels[breach.layer], x: mm(breach.from.x), y: mm(breach.from.y),
+        to: breach.to && { x: mm(breach.to.x), y: mm(breach.to.y) }, holes: breach.sources, nets: this.namesOf(breach),
+        of: breach.shown ?? [] })),
+      rulesNotChecked: this.unchecked,
+      copperShare: this.shares.map(({ all, rows }, layer) => ({ layer: this.labels[layer], all, rows })),
       necks: this.necks.map(({ name, place: at, width }) => ({ name, place: place(at), width: mm(width), within: exact })),
     };
   }
@@ -102,6 +193,19 @@ export class Answer {
   }
 }
 
+// Shorts that both have, whose places or widths are farther apart than the pixels of both allow.
+function movedShorts(first, other) {
+  const exact = Math.SQRT2 * (first.window.pitch + other.window.pitch), nameOf = ({ nets }) => nets.map(({ net }) => net).join(" and ");
+  const known = new Map(first.found.shorts.map((short) => [nameOf(short), short.touching[0]]));
+  return other.found.shorts.flatMap((short) => {
+    const one = known.get(nameOf(short)), [now] = short.touching;
+    if (!one || !now) return [];
+    const away = Math.hypot(one.place.x - now.place.x, one.place.y - now.place.y), wider = Math.abs(one.width - now.width);
+    if (one.place.layer === now.place.layer && away <= exact && wider <= exact) return [];
+    return [`short: ${nameOf(short)} touch ${mm(away)} mm from there, ${mm(now.width)} mm wide in place of ${mm(one.width)}`];
+  });
+}
+
 /**
  * What one answer says and another does not.
  * @param {Answer} first
@@ -111,5 +215,5 @@ export class Answer {
 export function differences(first, other) {
   const [before, now] = [first.gist, other.gist];
   return [...now.filter((line) => !before.includes(line)).map((line) => `now ${line}`),
-    ...before.filter((line) => !now.includes(line)).map((line) => `no longer ${line}`)];
+    ...before.filter((line) => !now.includes(line)).map((line) => `no longer ${line}`), ...movedShorts(first, other)];
 }

@@ -1,10 +1,12 @@
 // Pictures of findings: the copper around each place, the nets that it is about in colours.
 
-import { mkdirSync, writeFileSync } from "node:fs";
+import { mkdirSync } from "node:fs";
 import { join } from "node:path";
-import { say } from "./command.js";
+import { Failure, say } from "./command.js";
+import { noteWritten, reasonOf, replaceFile } from "./files.js";
 import { pngOfColours } from "./png.js";
-import { counted } from "../../web/nets/words.js";
+import { counted } from "../../web/nets/index.js";
+import { Series } from "./series.js";
 
 /** How many pixels a picture has on each side, how many of a finding's own stand around it, and how many are written. */
 const SIDE = 640, AROUND = 60, MOST = 200;
@@ -12,7 +14,7 @@ const COLOURS = ["#15181c", "#4a4f57", "#e0513f", "#3f8fe0", "#f2eda1", "#ffffff
 const BOARD = 0, COPPER = 1, FIRST = 2, SECOND = 3, HOLE = 4, MARK = 6;
 
 // The findings with the places that their pictures show, and the copper nets that are coloured.
-function shownOf({ found: { opens, shorts, bare }, gaps, necks, nets, grid }) {
+function shownOf({ found: { opens, shorts, bare }, gaps, necks, breaches, nets, grid }) {
   const at = ({ layer, x, y }) => nets.netAt(layer, grid.columnOf(x), grid.rowOf(y));
   return [
     ...opens.flatMap(({ parts, gaps: between }) => between.map(({ from, to, part, other }) => ({ what: "open",
@@ -21,6 +23,8 @@ function shownOf({ found: { opens, shorts, bare }, gaps, necks, nets, grid }) {
     ...bare.map(({ point }) => ({ what: "no-copper", places: [{ ...point, layer: point.layers[0] }], nets: [] })),
     ...gaps.map(({ from, to }) => ({ what: "gap", places: [from, to], nets: [at(from), at(to)] })),
     ...necks.map(({ place }) => ({ what: "neck", places: [place], nets: [at(place)] })),
+    ...breaches.map(({ rule, layer, from, to, nets: own }) => ({ what: rule, nets: own,
+      places: [from, ...(to ? [to] : [])].map((place) => ({ ...place, layer: layer ?? 0 })) })),
   ];
 }
 
@@ -80,13 +84,19 @@ class Drawn {
  * @param {string} folder a new one
  */
 export function drawFindings(answer, folder) {
-  mkdirSync(folder, { recursive: true });
-  const shown = shownOf(answer);
-  shown.slice(0, MOST).forEach((finding, at) => {
-    const { pixels } = new Drawn(answer, finding);
-    const name = `${String(at + 1).padStart(3, "0")}-${finding.what}.png`;
-    writeFileSync(join(folder, name), pngOfColours(SIDE, SIDE, pixels, COLOURS));
-  });
+  try {
+    mkdirSync(folder, { recursive: true });
+  } catch (fault) {
+    throw new Failure(`${folder} cannot be made: ${reasonOf(fault)}; --pictures names another folder`);
+  }
+  const shown = shownOf(answer), series = new Series(folder);
+  const names = shown.slice(0, MOST).map(({ what }, at) => `${String(at + 1).padStart(3, "0")}-${what}.png`);
+  series.plan(names);
+  series.during(() => names.forEach((name, at) => {
+    replaceFile(join(folder, name), pngOfColours(SIDE, SIDE, new Drawn(answer, shown[at]).pixels, COLOURS));
+    series.done(name);
+  }));
+  if (names.length) noteWritten(folder);
   const left = shown.length - MOST;
   say(`${counted(Math.min(shown.length, MOST), "picture")} written into ${folder}${left > 0 ? `, and ${left} left out` : ""}`);
 }

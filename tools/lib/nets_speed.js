@@ -3,12 +3,13 @@
 import { mkdtempSync, rmSync, writeFileSync } from "node:fs";
 import { tmpdir } from "node:os";
 import { join } from "node:path";
-import { recogniseFiles } from "../../web/layers.js";
-import { netsOf } from "../../web/nets/nets.js";
-import { runsOf } from "../../web/nets/runs.js";
-import { inputs } from "./board.js";
+import { recogniseFiles } from "../../web/board/index.js";
+import { Grid, breachesOf, counted, mm, netsOf, runsOf } from "../../web/nets/index.js";
+import { inputs } from "./inputs.js";
 import { DONE, perform, say } from "./command.js";
 import { NetsBoard } from "./nets_board.js";
+import { limitsOf } from "./nets_rules.js";
+import { neededBy, sidesOf } from "./nets_sides.js";
 import { PROGRAM } from "./places.js";
 import { checkProgram } from "./station.js";
 
@@ -19,10 +20,12 @@ most memory of the process, pictures included. Give one pitch a call, since the 
 
   speed/nets --pitch 10000             a dense board of 100 by 100 mm that it makes: four copper layers, 10^5 draws, 10^4 vias
   speed/nets --pitch 10000 FOLDER      a board of yours
+  speed/nets --rules docs/rules        the rules of a file too, each with its seconds and how often it is broken
   speed/nets --write FOLDER            writes the dense board's files there`,
   operand: { name: "FOLDER", isOptional: true },
   options: [
     { name: "--pitch", value: "NM", isWhole: true, otherwise: 10_000, help: "the pitch in nm (10000)" },
+    { name: "--rules", value: "FILE", help: "a file with the rules of a house" },
     { name: "--write", value: "FOLDER", help: "a folder for the files of the dense board" },
     { name: "--camplot", value: "PROGRAM", otherwise: PROGRAM, help: `the program (${PROGRAM})` },
   ],
@@ -54,10 +57,26 @@ function denseLayer(number, isAlongX, chance) {
   return [...lines, "M02*", ""].join("\n");
 }
 
-function denseHoles(chance) {
-  const spot = () => (STEP * (1 + Math.floor(chance() * (SIDE / STEP - 2))) / 1e6).toFixed(3);
-  const hits = Array.from({ length: VIAS }, () => `X${spot()}Y${spot()}`);
+function denseSpots(chance) {
+  const spot = () => STEP * (1 + Math.floor(chance() * (SIDE / STEP - 2)));
+  return Array.from({ length: VIAS }, () => [spot(), spot()]);
+}
+
+function denseHoles(spots) {
+  const hits = spots.map(([x, y]) => `X${(x / 1e6).toFixed(3)}Y${(y / 1e6).toFixed(3)}`);
   return ["M48", "; #@! TF.FileFunction,Plated,1,4,PTH", "METRIC", "T1C0.200", "%", "G05", "T1", ...hits, "M30", ""].join("\n");
+}
+
+// Mask with an opening at each via, paste in each third of them, and a sign of ink next to each fifth.
+function denseCover(layerFunction, size, lines) {
+  return [`%TF.FileFunction,${layerFunction}*%`, "%FSLAX46Y46*%", "%MOMM*%", `%ADD10C,${size}*%`, "%LPD*%", "G01*", "D10*", ...lines, "M02*", ""].join("\n");
+}
+
+function denseCovers(spots, name, end) {
+  const flash = ([x, y]) => `X${x}Y${y}D03*`, sign = ([x, y]) => [`X${x + 300_000}Y${y}D02*`, `X${x + 700_000}Y${y + 300_000}D01*`, `X${x + 700_000}Y${y - 300_000}D01*`];
+  return [[`${end}_Mask`, denseCover(`Soldermask,${name}`, 0.5, spots.map(flash))],
+    [`${end}_Paste`, denseCover(`Paste,${name}`, 0.4, spots.filter((_, at) => at % 3 === 0).map(flash))],
+    [`${end}_Silkscreen`, denseCover(`Legend,${name}`, 0.12, spots.filter((_, at) => at % 5 === 0).flatMap(sign))]];
 }
 
 /**
@@ -68,11 +87,22 @@ function writeDense(folder) {
   const chance = chances(10);
   const names = ["F_Cu", "In1_Cu", "In2_Cu", "B_Cu"];
   names.forEach((name, at) => writeFileSync(join(folder, `dense-${name}.gbr`), denseLayer(at + 1, at % 2 === 0, chance)));
-  writeFileSync(join(folder, "dense-PTH.drl"), denseHoles(chance));
+  const spots = denseSpots(chance);
+  writeFileSync(join(folder, "dense-PTH.drl"), denseHoles(spots));
+  for (const [end, text] of [...denseCovers(spots, "Top", "F"), ...denseCovers(spots, "Bot", "B")]) writeFileSync(join(folder, `dense-${end}.gbr`), text);
 }
 
-function measure(folder, { pitch, camplot }) {
-  const board = new NetsBoard(recogniseFiles(inputs([folder]).files, false).layers, [], camplot);
+// Each rule with its seconds, and how often it is broken.
+function measureRules(board, { nets, window }, limits, timed) {
+  const sides = sidesOf(board, window, []), checked = { nets, grid: new Grid(window), holes: board.holes(), spans: nets.holes, outline: board.outlines.closed, sides };
+  for (const [rule, limit] of limits) {
+    const { micros, result } = timed(() => breachesOf(checked, new Map([[rule, limit]])));
+    say(`${rule} ${mm(limit)}: ${(micros / 1e6).toFixed(2)} s, ${counted(result.length, "place")}`);
+  }
+}
+
+function measure(folder, { pitch, camplot, rules }) {
+  const limits = limitsOf(rules, []), board = new NetsBoard(recogniseFiles(inputs([folder]).files, false).layers, [], camplot, neededBy(limits));
   try {
     const window = board.window(pitch), spent = { micros: 0, ms: 0 };
     const timed = (work) => {
@@ -80,15 +110,16 @@ function measure(folder, { pitch, camplot }) {
       const { user, system } = process.cpuUsage(before);
       spent.micros += user + system;
       spent.ms += performance.now() - start;
-      return result;
+      return { micros: user + system, result };
     };
     const runs = (layer) => {
       const picture = board.picture(layer, window);
-      return timed(() => runsOf(picture));
+      return timed(() => runsOf(picture)).result;
     };
     const copper = board.stack.copper.map(({ layer }) => runs(layer));
     const holes = board.stack.holes.map(({ layer, from, to }) => ({ runs: runs(layer), from, to }));
-    const nets = timed(() => netsOf(copper, holes)), count = nets.layers.reduce((sum, layer) => sum + layer.size, 0);
+    const nets = timed(() => netsOf(copper, holes)).result, count = nets.layers.reduce((sum, layer) => sum + layer.size, 0);
+    measureRules(board, { nets, window }, limits, timed);
     const memory = Math.round(process.resourceUsage().maxRSS / 1024);
     say(`${window.width} x ${window.height} pixels of ${window.pitch} nm, ${nets.copper.length} copper layers: ${count} runs, ${
       nets.pieces} pieces, ${nets.count} nets; ${(spent.micros / 1e6).toFixed(2)} s of processors, ${

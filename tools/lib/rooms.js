@@ -1,13 +1,14 @@
 // The folder that a tool leaves its files in, which replaces no file that is not its own.
 
 import { createHash } from "node:crypto";
-import { copyFileSync, existsSync, mkdirSync, readFileSync, readdirSync, rmSync, statSync, writeFileSync } from "node:fs";
-import { dirname, join, relative, sep } from "node:path";
-import { Failure } from "../../web/convert/report.js";
-import { reasonOf } from "./files.js";
+import { existsSync, mkdirSync, readFileSync, readdirSync, rmSync, statSync, writeFileSync } from "node:fs";
+import { dirname, join } from "node:path";
+import { Failure } from "../../web/convert/index.js";
+import { noteWritten, reasonOf, replaceFile } from "./files.js";
+import { Series } from "./series.js";
 
-// The list of the files that the tool left, with their checksums.
-const LIST = ".left_by_board.json";
+/** The list of the files that the tool left, with their checksums. */
+export const LIST = ".left_by_board.json";
 
 function checksum(path) {
   return createHash("sha256").update(readFileSync(path)).digest("hex");
@@ -17,32 +18,41 @@ function isFile(path) {
   return existsSync(path) && statSync(path).isFile();
 }
 
+// Which file is at a path, and as it was written when.
+function markOf(path) {
+  const found = statSync(path, { bigint: true, throwIfNoEntry: false });
+  return found ? `${found.ino} ${found.mtimeNs}` : "";
+}
+
 /**
- * A folder, new or empty or left by an earlier run, whose files are then taken away. Where it holds a file that was changed
- * since, or that a file of this run would replace, it is refused, but where `isReplacing`.
+ * A folder, new or empty or left by an earlier run, whose files are then replaced, or deleted if this run leaves none of
+ * their names. Where it holds a file that was changed since, or that a file of this run would replace, it is refused, but
+ * where `isReplacing`.
  */
 export class Room {
   /**
    * @param {string} folder
    * @param {boolean} isReplacing
+   * @param {boolean} isScratch whether it is for this run alone, which deletes it
    */
-  constructor(folder, isReplacing) {
+  constructor(folder, isReplacing, isScratch = false) {
     this.folder = folder;
     this.isReplacing = isReplacing;
-    /** @type {Set<string>} the paths of files that this run leaves */
-    this.left = new Set();
+    this.put = isScratch ? writeFileSync : replaceFile;
+    this.series = new Series(folder);
+    /** @type {Set<string>} the names of files of the run before that stay though this run left none */
+    this.kept = new Set();
     try {
       mkdirSync(folder, { recursive: true });
     } catch (fault) {
       throw new Failure(`${folder} cannot be made: ${reasonOf(fault)}; --out names another folder`);
     }
-    const earlier = this.earlier();
-    this.checkEarlier(earlier);
-    for (const name of earlier.keys()) rmSync(join(folder, name), { force: true });
+    /** @type {Map<string, string>} the files of the run before, and their checksums */
+    this.earlier = this.readEarlier();
+    this.checkEarlier();
   }
 
-  // The files of the run before, and their checksums.
-  earlier() {
+  readEarlier() {
     const path = join(this.folder, LIST);
     if (!isFile(path)) return new Map();
     try {
@@ -55,16 +65,16 @@ export class Room {
     }
   }
 
-  checkEarlier(earlier) {
-    if (!earlier.size && !this.isReplacing && readdirSync(this.folder).length) {
+  checkEarlier() {
+    if (!this.earlier.size && !this.isReplacing && readdirSync(this.folder).length) {
       throw new Failure(`${this.folder} has files of other origin: --out names another folder, and --replace `
         + "replaces those in it that have the same names");
     }
-    for (const [name, sumThen] of earlier) {
+    for (const [name, sumThen] of this.earlier) {
       const path = join(this.folder, name);
       if (isFile(path) && checksum(path) !== sumThen && !this.isReplacing) {
-        throw new Failure(`${path} was changed since an earlier run wrote it: --out names another folder, and --replace `
-          + "replaces it");
+        throw new Failure(`${path} was changed since an earlier run wrote it, or that run was cut short: --out names another `
+          + "folder, and --replace replaces it");
       }
     }
   }
@@ -74,13 +84,22 @@ export class Room {
    * @param {string} name
    */
   path(name) {
-    const path = join(this.folder, name);
-    if (existsSync(path) && !this.left.has(path) && !this.isReplacing) {
+    const path = join(this.folder, name), isOwn = this.earlier.has(name) || this.series.written.has(name);
+    if (existsSync(path) && !isOwn && !this.isReplacing) {
       throw new Failure(`${path} is in the way: --out names another folder, and --replace replaces it`);
     }
     mkdirSync(dirname(path), { recursive: true });
-    this.left.add(path);
     return path;
+  }
+
+  /**
+   * Writes a file.
+   * @param {string} name
+   * @param {Uint8Array | string} content
+   */
+  write(name, content) {
+    this.put(this.path(name), content);
+    this.series.done(name);
   }
 
   /**
@@ -89,15 +108,71 @@ export class Room {
    * @param {string} name
    */
   copy(source, name) {
-    copyFileSync(source, this.path(name));
+    this.write(name, readFileSync(source));
   }
 
-  /** Keeps the list of the files that were left, also where the run failed. */
-  close() {
-    const sums = {};
-    for (const path of [...this.left].filter(isFile).sort()) {
-      sums[relative(this.folder, path).split(sep).join("/")] = checksum(path);
+  /**
+   * Runs what writes files of these names, and notes those that it wrote, also where it fails.
+   * @template T
+   * @param {string[]} names
+   * @param {() => T} act
+   * @returns {T}
+   */
+  watch(names, act) {
+    const paths = names.map((name) => this.path(name)), marks = paths.map(markOf);
+    try {
+      return act();
+    } finally {
+      names.forEach((name, at) => markOf(paths[at]) !== marks[at] && this.series.done(name));
     }
-    writeFileSync(join(this.folder, LIST), `${JSON.stringify(sums, null, 1)}\n`);
+  }
+
+  /**
+   * Leaves files in the room, deletes what else an earlier run left, and lists them. Where that fails, the others stay, and
+   * the fault has what was written.
+   * @template T
+   * @param {() => T} act
+   * @returns {T}
+   */
+  fill(act) {
+    return this.series.during(() => {
+      let result;
+      try {
+        result = act();
+      } catch (fault) {
+        this.tryToList();
+        throw fault;
+      }
+      this.deleteOthers();
+      this.writeList();
+      if (this.series.written.size) noteWritten(this.folder);
+      return result;
+    });
+  }
+
+  deleteOthers() {
+    const { written } = this.series;
+    for (const name of [...this.earlier.keys()].filter((known) => !written.has(known) && !this.kept.has(known))) {
+      rmSync(join(this.folder, name), { force: true });
+      this.earlier.delete(name);
+    }
+  }
+
+  // What an earlier run left and this one did not replace is as it was then.
+  writeList() {
+    const sums = {}, isThere = (name) => isFile(join(this.folder, name)), { written } = this.series;
+    for (const name of [...new Set([...this.earlier.keys(), ...written])].filter(isThere).sort()) {
+      sums[name] = written.has(name) ? checksum(join(this.folder, name)) : this.earlier.get(name);
+    }
+    this.put(join(this.folder, LIST), `${JSON.stringify(sums, null, 1)}\n`);
+  }
+
+  // (The run has failed, which is what is told.)
+  tryToList() {
+    try {
+      this.writeList();
+    } catch {
+      this.series.plan([LIST]);
+    }
   }
 }

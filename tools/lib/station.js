@@ -4,10 +4,10 @@ import { spawnSync } from "node:child_process";
 import { existsSync, mkdtempSync, readFileSync, rmSync, statSync, writeFileSync } from "node:fs";
 import { tmpdir } from "node:os";
 import { join, resolve } from "node:path";
-import { latin1Bytes } from "../../web/bytes.js";
-import { Failure } from "../../web/convert/report.js";
-import { meaningsOf } from "../../web/refusals.js";
-import { repliesOf } from "../../web/replies.js";
+import { latin1Bytes } from "../../web/bytes/index.js";
+import { Failure } from "../../web/convert/index.js";
+import { meaningsOf, repliesOf } from "../../web/board/index.js";
+import { replaceFile } from "./files.js";
 import { outputOfModule, stationModule } from "./module.js";
 import { PROGRAM, REFUSALS, remedy } from "./places.js";
 
@@ -55,14 +55,14 @@ function outputOf(program, folder, path) {
  * @param {string} folder
  * @param {string[]} lines
  * @param {string | null} script
- * @returns {import("../../web/replies.js").Reply[]}
+ * @returns {import("../../web/board/index.js").Reply[]}
  */
 export function runLines(program, folder, lines, script = null) {
   checkProgram(program);
   const room = mkdtempSync(join(tmpdir(), "camplot-"));
   try {
-    const path = script ?? join(room, "script");
-    writeFileSync(path, latin1Bytes(lines.map((line) => `${line}\n`).join("")));
+    const path = script ?? join(room, "script"), put = script === null ? writeFileSync : replaceFile;
+    put(path, latin1Bytes(lines.map((line) => `${line}\n`).join("")));
     const output = isBuilt(program) ? outputOf(program, folder, path) : outputOfModule(folder, lines);
     const replies = repliesOf(lines, output);
     if (!replies) throw new Failure(`${program}: another number of replies than of lines`);

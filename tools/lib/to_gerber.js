@@ -1,16 +1,13 @@
 // tools/to_gerber: old Gerber files in today's form.
 
-import { CHOICES } from "../../web/convert/choices.js";
-import { digitsOf } from "../../web/convert/drill/choices.js";
-import { convertGerber } from "../../web/convert/gerber/convert.js";
-import { toldChanges, toldRefusals } from "../../web/convert/report.js";
-import { loadedBy } from "./asked.js";
-import { DONE, Failure, REFUSED, complain, optionsOf, perform, say } from "./command.js";
-import { readBytes, writeNew } from "./files.js";
-import { PROGRAM, called } from "./places.js";
+import { convertGerber, toldChanges } from "../../web/convert/index.js";
+import { Call, perform } from "./command.js";
+import { chosenDigits, convertFiles } from "./converting.js";
+import { choicesOf, option } from "./options.js";
+import { called } from "./places.js";
 
 const TOOL = called("to_gerber");
-const COMMAND = {
+export const COMMAND = {
   tool: TOOL,
   about: `Writes an old Gerber file in the form that camplot loads.
 
@@ -38,49 +35,41 @@ refuses.
   ${TOOL} top.gbr -o out/top.gbr --unit inch
   ${TOOL} top.pho --repeat                  X..Y..* after D03 or D02 repeats it, as old plotters took it
   ${TOOL} top.gbx --format 2.4 --zeros leading   a file without %FS..*%, whose X01 is 1 inch
+  ${TOOL} *.art -o out                      several files, into a folder that is there
+  ${TOOL} - < top.art > top.gbr             from standard input to standard output; changes go to standard error
 
-Exit status 0: written; 1: refused, and nothing was written; 2: the words of the call or a file cannot be used.`,
-  operand: { name: "FILE", help: "the Gerber file" },
+Exit status 0: written; 1: a file was refused, and nothing was written of it; 2: the words of the call or a file cannot be
+used; 3: standard output cannot be written.`,
+  operand: { name: "FILE", isMany: true, help: "Gerber files, or - for standard input" },
   options: [
-    { name: "-o", key: "out", value: "OUT", help: "the file to write; by default FILE.gbr" },
-    ...optionsOf(CHOICES.gerber),
-    { name: "--force", help: "replace an existing file" },
-    { name: "--camplot", value: "PROGRAM", otherwise: PROGRAM, help: `the program (${PROGRAM})` },
+    option("--out", ": a file, a folder, or - for standard output; by default FILE.gbr"),
+    ...choicesOf("gerber"),
+    option("--replace"),
+    option("--json"),
+    option("--camplot"),
   ],
 };
 
-function chosenFormat(format, zeros) {
-  const digits = format === null ? undefined : digitsOf(format);
-  if (digits === null) throw new Failure(`--format ${format}: it needs two digits, as 2.4`);
-  if (zeros !== null && !digits) throw new Failure(`--zeros ${zeros}: it needs --format, as --format 2.4`);
-  return digits;
+function run(options) {
+  const { nearest, repeat, unit, arcs, zeros } = options, format = chosenDigits(options.format) ?? undefined;
+  if (zeros !== null && !format) throw new Call(`--zeros ${zeros}: it needs --format, as --format 2.4`);
+  const convert = (bytes) => {
+    const made = convertGerber(bytes, { nearest, repeat, unit: unit ?? undefined, arcs: arcs ?? undefined, format,
+      zeros: zeros ?? undefined });
+    const { changes, refusals, operations } = made;
+    if (refusals.length) return { bytes: null, refusals, changed: [], told: [] };
+    const changed = toldChanges(changes), { count, flashes, draws } = operations;
+    const told = [...(changed.length ? changed : ["nothing was changed"]),
+      `operations: ${count} read and written, ${flashes} flashes and ${draws} draws`];
+    return { bytes: made.bytes, refusals, values: { changes, operations }, changed, told };
+  };
+  return convertFiles(TOOL, options, { kind: "gerber", outOf: (file) => `${file}.gbr`, convert });
 }
 
-function run({ operands: [file], out, nearest, unit, format, zeros, repeat, arcs, force, camplot }) {
-  const { bytes, changes, refusals, operations } = convertGerber(readBytes(file), {
-    nearest, repeat, unit: unit ?? undefined, arcs: arcs ?? undefined, format: chosenFormat(format, zeros),
-    zeros: zeros ?? undefined });
-  if (refusals.length > 0) {
-    complain(toldRefusals(TOOL, file, refusals).join("\n"));
-    return REFUSED;
-  }
-  const { isRefused, told: loaded } = loadedBy(camplot, "gerber", bytes);
-  if (isRefused) {
-    complain([...toldChanges(changes), `${file}: ${loaded}`, `${TOOL}: nothing was written`].join("\n"));
-    return REFUSED;
-  }
-  const target = out ?? `${file}.gbr`;
-  writeNew(target, bytes, file, force);
-  const told = toldChanges(changes);
-  say((told.length > 0 ? told : ["nothing was changed"]).join("\n"));
-  const { count, flashes, draws } = operations;
-  say(`operations: ${count} read and written, ${flashes} flashes and ${draws} draws`);
-  say(loaded);
-  say(`written: ${target}`);
-  return DONE;
-}
-
-/** @param {string[]} words  of the call */
+/**
+ * Runs the command with the words of a call.
+ * @param {string[]} words
+ */
 export function main(words) {
   return perform(COMMAND, run, words);
 }

@@ -1,16 +1,14 @@
 // tools/to_xnc: Excellon drill files as XNC.
 
-import { CHOICES } from "../../web/convert/choices.js";
-import { digitsOf, toolOf } from "../../web/convert/drill/choices.js";
-import { convertDrill } from "../../web/convert/drill/convert.js";
-import { toldRefusals } from "../../web/convert/report.js";
-import { loadedBy } from "./asked.js";
-import { DONE, Failure, REFUSED, complain, optionsOf, perform, say } from "./command.js";
-import { readBytes, writeNew } from "./files.js";
-import { PROGRAM, called } from "./places.js";
+import { convertDrill, toolOf } from "../../web/convert/index.js";
+import { Call, perform } from "./command.js";
+import { chosenDigits, convertFiles } from "./converting.js";
+import { readBytes } from "./files.js";
+import { choicesOf, option } from "./options.js";
+import { called } from "./places.js";
 
 const TOOL = called("to_xnc");
-const COMMAND = {
+export const COMMAND = {
   tool: TOOL,
   about: `Writes an Excellon drill file as XNC that \`camplot\` loads: coordinates with a point, slots as routs.
 
@@ -28,28 +26,26 @@ nothing that camplot refuses.
 
   ${TOOL} holes.drl                                  holes.xnc, by what the file declares
   ${TOOL} holes.drd --report holes.dri               the form by EAGLE's report, or Allegro's nc_param.txt
-  ${TOOL} holes.tap -o out/holes.xnc --unit inch --digits 2:4 --zeros trailing
+  ${TOOL} holes.tap -o out/holes.xnc --unit inch --format 2.4 --zeros trailing
   ${TOOL} holes.txt --unit mm --tool 1=0.8 --tool 2=40mil
+  ${TOOL} *.drl -o out                               several files, into a folder that is there
+  ${TOOL} - < holes.drl > holes.xnc                  from standard input to standard output
 
-Exit status 0: written; 1: refused, and nothing was written; 2: the words of the call or a file cannot be used.`,
-  operand: { name: "FILE", help: "the Excellon drill file" },
+Exit status 0: written; 1: a file was refused, and nothing was written of it; 2: the words of the call or a file cannot be
+used; 3: standard output cannot be written.`,
+  operand: { name: "FILE", isMany: true, help: "Excellon drill files, or - for standard input" },
   options: [
-    { name: "-o", value: "OUT", help: "the file to write; by default FILE with the ending .xnc" },
-    ...optionsOf(CHOICES.drill),
-    { name: "--force", help: "replace an existing file" },
-    { name: "--camplot", value: "PROGRAM", otherwise: PROGRAM, help: `the program (${PROGRAM})` },
+    option("--out", ": a file, a folder, or - for standard output; by default FILE with the ending .xnc"),
+    ...choicesOf("drill"),
+    option("--replace"),
+    option("--json"),
+    option("--camplot"),
   ],
 };
 
-function chosenDigits(text) {
-  const digits = text === null ? null : digitsOf(text);
-  if (text !== null && !digits) throw new Failure(`--digits ${text}: it needs two digits, as 2:4`);
-  return digits;
-}
-
 function chosenTool(word) {
   const tool = toolOf(word, `--tool ${word}`);
-  if (!tool) throw new Failure(`--tool ${word}: it needs a number and a diameter, as 1=0.8mm`);
+  if (!tool) throw new Call(`--tool ${word}: it needs a number and a diameter, as 1=0.8mm`);
   return tool;
 }
 
@@ -57,25 +53,15 @@ function outOf(file) {
   return `${file.replace(/(?<=[^/])\.[^./]+$/, "")}.xnc`;
 }
 
-function run({ operands: [file], o, unit, digits, zeros, report, tool, force, camplot }) {
-  const bytes = readBytes(file);
-  const done = convertDrill(bytes, {
-    unit, zeros, digits: chosenDigits(digits), tools: tool.map(chosenTool),
-    report: report === null ? null : { name: report, bytes: readBytes(report) },
-  });
-  if (!done.bytes) {
-    complain(toldRefusals(TOOL, file, done.refusals).join("\n"));
-    return REFUSED;
-  }
-  const { isRefused, told } = loadedBy(camplot, "drill", done.bytes);
-  if (isRefused) {
-    complain([...done.account, `${file}: ${told}`, `${TOOL}: nothing was written`].join("\n"));
-    return REFUSED;
-  }
-  const out = o ?? outOf(file);
-  writeNew(out, done.bytes, file, force);
-  say([...done.account, told, `written: ${out}`].join("\n"));
-  return DONE;
+function run(options) {
+  const { unit, zeros, report } = options, digits = chosenDigits(options.format), tools = options.tool.map(chosenTool);
+  const told = report === null ? null : { name: report, bytes: readBytes(report) };
+  const convert = (bytes) => {
+    const done = convertDrill(bytes, { unit, zeros, digits, tools, report: told });
+    if (!done.bytes) return { bytes: null, refusals: done.refusals, changed: [], told: [] };
+    return { bytes: done.bytes, refusals: [], changed: done.account, told: done.account };
+  };
+  return convertFiles(TOOL, options, { kind: "drill", outOf, convert });
 }
 
 /**

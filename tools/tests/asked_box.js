@@ -2,7 +2,7 @@
 
 import { existsSync } from "node:fs";
 import { join } from "node:path";
-import { kindOf } from "../../web/file_kinds.js";
+import { kindOf } from "../../web/board/file_kinds.js";
 import { headOf } from "../lib/files.js";
 import { skip } from "./harness.js";
 import { REPOSITORY, newRoom, runProgram } from "./support.js";

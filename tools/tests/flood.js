@@ -5,8 +5,8 @@ const blackAt = ({ width, height, stride, bits }, column, row) => column >= 0 &&
 
 /**
  * The net of each pixel of copper and of holes, counted from 0 in the order of the layers and rows; -1 where there is none.
- * @param {import("../../web/pbm.js").Picture[]} copper
- * @param {{picture: import("../../web/pbm.js").Picture, from: number, to: number}[]} holes
+ * @param {import("../../web/bytes/pbm.js").Picture[]} copper
+ * @param {{picture: import("../../web/bytes/pbm.js").Picture, from: number, to: number}[]} holes
  * @returns {{labels: Int32Array[], count: number}}
  */
 export function flooded(copper, holes) {

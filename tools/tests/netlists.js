@@ -66,7 +66,7 @@ const at = (line, from, text) => line.slice(0, from) + text + line.slice(from + 
 /** @type {Break[]} */
 const BREAKS = [
   ["an unknown code", (line) => at(line, 0, "337"), "there is no record 337"],
-  ["another unknown code", (line) => at(line, 0, "017"), "there is no record 017"],
+  ["another unknown code", (line) => at(line, 0, "037"), "there is no record 037"],
   ["a letter in the code", (line) => at(line, 1, "l"), "begins with none of"],
   ["a line cut short", (line) => line.slice(0, 50), "the place ends in column 57"],
   ["a line of three characters", (line) => line.slice(0, 3), "the line has 3 characters"],
@@ -112,8 +112,8 @@ export function brokenNetlists() {
   add("a surface point from both sides", [...HEAD, at(surface, 39, "00"), "999"], 4, "both sides");
   add("layers that are no span", [...HEAD, blind.replace("L01-02", "L02-01"), "999"], 4, "no span");
   add("layer 0", [...HEAD, blind.replace("L01-02", "L00-01"), "999"], 4, "no span");
-  add("no units", [HEAD[0], through, "999"], 2, "no line P  UNITS");
-  add("units behind a record", [HEAD[0], through, HEAD[1], "999"], 2, "no line P  UNITS");
+  add("units behind a record", [HEAD[0], through, HEAD[1], "999"], 3, "UNITS stands after the first record");
+  add("a continuation of nothing", [...HEAD, at(through, 0, "017"), "999"], 4, "no record that 017 goes on with");
   add("unknown units", ["P  UNITS CUST 3", through, "999"], 1, "UNITS CUST 3 is none of");
   add("units of nothing", ["P  UNITS", through, "999"], 1, "is none of");
   add("two units", [...HEAD, "P  UNITS CUST 1", through, "999"], 4, "UNITS stands twice");

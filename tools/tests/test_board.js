@@ -4,7 +4,7 @@ import assert from "node:assert/strict";
 import { copyFileSync, cpSync, existsSync, mkdirSync, readFileSync, readdirSync, renameSync, rmSync, writeFileSync } from "node:fs";
 import { dirname, join } from "node:path";
 import { gunzipSync } from "node:zlib";
-import { scriptLines } from "../../web/replies.js";
+import { scriptLines } from "../../web/board/replies.js";
 import { runLines } from "../lib/station.js";
 import { part, suite, test } from "./harness.js";
 import { CASES, PROGRAM, REPOSITORY, needProgram, newRoom, runProgram, runTool } from "./support.js";
@@ -90,7 +90,8 @@ suite("plotted", () => {
     includes(told, "At line 3, column 1 (byte 24): %ADD10P,1X6*%");
     includes(told, "refused 45, no point: A coordinate without a decimal point");
     includes(told, "At line 6, column 1 (byte 24): X0100Y0200");
-    includes(told, "it may load after tools/to_xnc");
+    includes(told, "--zeros leading, or after tools/to_xnc ");
+    assert.match(told, /it loads after tools\/to_gerber \S+b-B_Cu\.gbr\n/);
     includes(told, "refused 26, no end: The file ends without `M02*`. At line 1, column 1 (byte 0), the end of the file");
     assert.deepEqual(pictures(join(folder, "board")), ["top"]);
   });
@@ -263,5 +264,9 @@ suite("left alone", () => {
       [room, "--edits", join(room, "none")], [room, "--page", join(room, "none")]]) {
       part(words.join(" "), () => board(words, 2));
     }
+    writeFileSync(join(room, "full.html"), "<p>no room</p>");
+    const { status, stderr } = runTool("board", [join(BOARDS, "refused", "b-F_Cu.gbr"), "--page", join(room, "full.html"), "--camplot", PROGRAM, "-o", join(room, "out")]);
+    assert.match(stderr, /^tools\/board: \S+full\.html: the page has no room for files[^]*not written, so that what was there stays: index\.html\n$/);
+    assert.equal(status, 2);
   });
 });

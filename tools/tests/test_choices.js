@@ -5,7 +5,7 @@ import { readFileSync } from "node:fs";
 import { join } from "node:path";
 import { suite, test } from "./harness.js";
 import { ADVICE, CASES, runTool } from "./support.js";
-import { latin1Bytes } from "../../web/bytes.js";
+import { latin1Bytes } from "../../web/bytes/text.js";
 import { CHOICES, askedChoices, choiceWords, waysToConvert } from "../../web/convert/choices.js";
 import { convertDrill } from "../../web/convert/drill/convert.js";
 import { convertGerber } from "../../web/convert/gerber/convert.js";
@@ -29,7 +29,7 @@ suite("choices", () => {
     test(`are the options of ${tool}`, () => {
       const { stdout } = runTool(tool, ["--help"]);
       const options = [...stdout.matchAll(/^ {2}(--\w+)/gm)].map(([, option]) => option);
-      const others = ["--force", "--camplot"];
+      const others = ["--replace", "--json", "--camplot"];
       assert.deepEqual(options.filter((option) => !others.includes(option)), CHOICES[kind].map(({ option }) => option));
     });
 

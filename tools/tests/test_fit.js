@@ -3,8 +3,8 @@
 import assert from "node:assert/strict";
 import { copyFileSync, mkdirSync, readFileSync, readdirSync, writeFileSync } from "node:fs";
 import { join } from "node:path";
-import { kindOf } from "../../web/file_kinds.js";
-import { readPbm } from "../../web/pbm.js";
+import { kindOf } from "../../web/board/file_kinds.js";
+import { readPbm } from "../../web/bytes/pbm.js";
 import { AskedLayer } from "../lib/asked_layer.js";
 import { askedBoxes } from "./asked_box.js";
 import { part, suite, test } from "./harness.js";
@@ -183,7 +183,7 @@ suite("files", () => {
       assert.deepEqual([status, stdout], [2, ""], name);
       const [, link] = /by (ln -s .+?), and name that/.exec(stderr);
       runProgram("bash", ["-c", link], room);
-      const short = /'([^']+)'$/.exec(link)[1];
+      const [short] = /\S+$/.exec(link);
       assert.equal(fit([short], room).status, 0, link);
     }
   });

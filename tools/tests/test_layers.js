@@ -3,11 +3,11 @@
 import assert from "node:assert/strict";
 import { readFileSync } from "node:fs";
 import { join } from "node:path";
-import { kindOf } from "../../web/file_kinds.js";
-import { byAttribute, byName, recogniseFiles } from "../../web/layers.js";
-import { excerpt, meaningsOf, placeOf } from "../../web/refusals.js";
-import { isCommand, repliesOf, scriptLines } from "../../web/replies.js";
-import { BOARD, PITCH, SIDE, windowAround, windowLine } from "../../web/windows.js";
+import { kindOf } from "../../web/board/file_kinds.js";
+import { byAttribute, byName, recogniseFiles } from "../../web/board/layers.js";
+import { excerpt, meaningsOf, placeOf } from "../../web/board/refusals.js";
+import { isCommand, repliesOf, scriptLines } from "../../web/board/replies.js";
+import { BOARD, PITCH, SIDE, pitchOf, windowAround, windowLine } from "../../web/board/windows.js";
 import { suite, test } from "./harness.js";
 import { CASES, REPOSITORY } from "./support.js";
 
@@ -75,7 +75,7 @@ suite("layers", () => {
 
 suite("windows", () => {
   test("a window stands around its box with a margin", () => {
-    const window = windowAround({ left: 0, low: -20_000_000, right: 30_000_000, high: 0 }, [], 1000);
+    const window = windowAround({ left: 0, low: -20_000_000, right: 30_000_000, high: 0 }, [], 25_400);
     assert.equal(windowLine(window), "window -1016000 -21005800 25400 1261 867");
   });
 
@@ -84,7 +84,7 @@ suite("windows", () => {
     for (const [box, dpi] of /** @type {[[number, number, number, number], number][]} */ ([
       [[-far, -far, far, far], 25400], [[0, 0, 0, 0], 1], [[far, far, far, far], 1000],
       [[-far, 0, far, 1], 25_400_000], [[-far, far - 9, 9 - far, far], 2540], [[0, 0, 400_000_000, 3], 2540]])) {
-      const [left, low, right, high] = box, { x, y, pitch, width, height } = windowAround({ left, low, right, high }, [], dpi);
+      const [left, low, right, high] = box, { x, y, pitch, width, height } = windowAround({ left, low, right, high }, [], pitchOf(dpi));
       assert.ok(1 <= width && width <= SIDE && 1 <= height && height <= SIDE && 1 <= pitch && pitch <= PITCH, String(box));
       for (const [first, count] of [[x, width], [y, height]]) {
         assert.ok(2 * first + pitch > -2 * BOARD && 2 * (first + count * pitch) - pitch < 2 * BOARD, String(box));
@@ -93,7 +93,7 @@ suite("windows", () => {
   });
 
   test("there is none around nothing", () => {
-    assert.equal(windowAround(null, [], 1000), null);
+    assert.equal(windowAround(null, [], 25_400), null);
   });
 });
 

@@ -5,7 +5,7 @@ import assert from "node:assert/strict";
 import { readFileSync } from "node:fs";
 import { join } from "node:path";
 import { convertGerber } from "../../web/convert/gerber/convert.js";
-import { latin1, latin1Bytes } from "../../web/bytes.js";
+import { latin1, latin1Bytes } from "../../web/bytes/text.js";
 import { suite, test } from "./harness.js";
 import { CASES } from "./support.js";
 

@@ -6,7 +6,7 @@ import { join } from "node:path";
 import { isNetlist, readNetlist } from "../../web/nets/ipc.js";
 import { netsOf } from "../../web/nets/nets.js";
 import { runsOf } from "../../web/nets/runs.js";
-import { readPbm } from "../../web/pbm.js";
+import { readPbm } from "../../web/bytes/pbm.js";
 import { flooded } from "./flood.js";
 import { part, suite, test } from "./harness.js";
 import { brokenNetlists, randomNetlist, recordOf } from "./netlists.js";
@@ -133,6 +133,34 @@ suite("netlists", () => {
     assert.ok(!isNetlist(bytesOf("%FSLAX46Y46*%\n%MOMM*%\n")));
     assert.ok(!isNetlist(bytesOf("M48\nMETRIC\n")));
     assert.ok(isNetlist(bytesOf(`${recordOf({ code: 327, access: 1, x: 0, y: 0 })}\n`)));
+  });
+
+  test("continuations, comments, no units, pads without a net", () => {
+    const through = recordOf({ code: 317, net: "GND", part: "J1", pin: "2", hole: 394, x: 1000, y: -2000, width: 787, height: 787 });
+    const surface = recordOf({ code: 327, net: "VCC", part: "U1", pin: "8", access: 1, x: 1500, y: 2500, width: 610, height: 236 });
+    const lines = ["C----- any comment", "Comment", through, `017${" ".repeat(35)}A02${" ".repeat(16)}`,
+      `017${" ".repeat(38)}X+001000Y-002100X0600Y0600`, surface, `027${" ".repeat(35)}A02X+001500Y+002500`,
+      recordOf({ code: 327, net: "n/c", access: 1, x: 1, y: 2 }), recordOf({ code: 327, net: "NC", access: 1, x: 1, y: 3 }), "999"];
+    assert.ok(isNetlist(bytesOf(lines.join("\n"))));
+    const { netlist, refusals } = readNetlist(bytesOf(lines.join("\n")));
+    assert.deepEqual(refusals, []);
+    assert.deepEqual(netlist.points.map(({ net, part, pin, kind, access, hole, x, y }) => [net, part, pin, kind, access, hole, x, y]), [
+      ["GND", "J1", "2", "through", 0, 394 * 2540, 2540000, -5080000], ["GND", "J1", "2", "through", 0, 394 * 2540, 2540000, -5334000],
+      ["VCC", "U1", "8", "surface", 1, null, 3810000, 6350000], ["VCC", "U1", "8", "surface", 2, null, 3810000, 6350000],
+      [null, "R1", "1", "surface", 1, null, 2540, 5080], [null, "R1", "1", "surface", 1, null, 2540, 7620]]);
+    assert.deepEqual([netlist.unit, netlist.isUnitTold, netlist.leftOut.get("017")], ["0.0001 inch", false, 1]);
+    assert.deepEqual(readNetlist(bytesOf(["P  UNITS CUST 1", through, "999"].join("\n"))).netlist.isUnitTold, true);
+  });
+
+  test("a megabyte of blanks, and 100,000 records, in seconds", () => {
+    const through = recordOf({ code: 317, net: "GND", hole: 394, x: 1000, y: -2000 }), blanks = " ".repeat(1e6), start = performance.now();
+    for (const line of [`${through}${blanks}x`, `P${blanks}x`, `${blanks}x`, `317${blanks}x`, `${through.slice(0, 41)}${blanks}x`, `P  UNITS${blanks}x`]) {
+      const { refusals } = readNetlist(bytesOf(`P  UNITS CUST 0\n${line}\n999\n`));
+      assert.ok(refusals.length > 0 && refusals.every(({ what }) => what.length < 200));
+    }
+    const many = Array.from({ length: 100_000 }, (_, at) => recordOf({ code: 327, net: `N${at % 999}`, access: 1, x: at, y: at % 7, width: 10 }));
+    assert.equal(readNetlist(bytesOf(["P  UNITS CUST 0", ...many, "999"].join("\n"))).netlist.points.length, 100_000);
+    assert.ok(performance.now() - start < 15_000, `${performance.now() - start} ms`);
   });
 
   test("those of the examples", () => {

@@ -3,8 +3,8 @@
 import assert from "node:assert/strict";
 import { cpSync, mkdirSync, readFileSync, readdirSync, rmSync, writeFileSync } from "node:fs";
 import { join } from "node:path";
-import { recogniseFiles } from "../../web/layers.js";
-import { inputs } from "../lib/board.js";
+import { recogniseFiles } from "../../web/board/layers.js";
+import { inputs } from "../lib/inputs.js";
 import { NetsBoard } from "../lib/nets_board.js";
 import { compareWithFlood } from "./test_nets.js";
 import { part, suite, test } from "./harness.js";
@@ -131,13 +131,40 @@ suite("boards", () => {
 
   test("another origin, marks in holes, tools without plating, two pads without a net on one piece", () => {
     const told = nets([MARKS, "--ipc", NETLISTS.get(MARKS)]);
-    includes(told, "shifted by (5.000, 10.000) mm, as its points lie on the pads so; 1 record 378 left out");
+    includes(told, "7 of 7 on the centres of pads and holes, shifted by (5.000, 10.000) mm; 1 record 378 left out");
     includes(told, "1 hole of tools without plating left out");
     includes(told, "0 opens, 0 shorts, 0 points without copper, 1 piece of copper without a point");
     includes(nets([MARKS, "--ipc", NETLISTS.get(MARKS), "--shift", 5000000, 10000000]), "as given");
     includes(nets([MARKS, "--ipc", NETLISTS.get(MARKS), "--shift", 50000000, 0], 1), "7 points without copper");
     includes(nets([MARKS]), "0 opens, 0 shorts");
     assert.equal(found([MARKS]).nets, 4);
+  });
+
+  test("a netlist about another origin, or of another board", () => {
+    const room = newRoom(), lines = readFileSync(NETLISTS.get(KICAD), "latin1").split("\n");
+    const moved = (name, change) => {
+      const path = join(room, name);
+      writeFileSync(path, lines.map((line) => line.replace(/X([+-]\d{6})Y([+-]\d{6})/, (_, x, y) => {
+        const [across, up] = change(Number(x), Number(y)).map(Math.round);
+        return [["X", across], ["Y", up]].map(([axis, value]) => `${axis}${value < 0 ? "-" : "+"}${String(Math.abs(value)).padStart(6, "0")}`).join("");
+      })).join("\n"));
+      return path;
+    };
+    const count = "17 of 17 on the centres of pads and holes";
+    /** @type {[name: string, change: (x: number, y: number) => number[], says: string][]} */
+    const ways = [
+      ["moved", (x, y) => [x + 394, y], "shifted by (-1.00"], ["mirrored", (x, y) => [100000 - x, y], "mirrored, left for right"],
+      ["turned", (x, y) => [-y, x], "turned by 270 degrees"], ["in mm", (x, y) => [x * 2.54, y * 2.54], "read in 0.001 mm in place of 0.0001 inch"],
+    ];
+    for (const [name, change, says] of ways) {
+      part(name, () => {
+        const told = nets([KICAD, "--ipc", moved(name, change)]);
+        includes(told, count);
+        includes(told, says);
+        includes(told, "0 opens, 0 shorts, 0 points without copper");
+      });
+    }
+    includes(nets([KICAD, "--ipc", moved("other", (x, y) => [x + (y * 7919) % 400, y + (x * 104729) % 400])], 2), "less than nine of ten points lie on");
   });
 
   test("each board beside a flood fill", () => {
@@ -172,7 +199,7 @@ suite("boards", () => {
 
 suite("calls", () => {
   test("without a netlist and without attributes nets are listed by size", () => {
-    const told = nets([join(CASES, "board", "fritzing")]);
+    const told = nets([join(CASES, "board", "fritzing")], 2);
     includes(told, "compared with nothing");
     const areas = [...told.matchAll(/^ *([\d.]+) mm²/gm)].map(([, area]) => Number(area));
     assert.ok(areas.length > 0);
@@ -217,8 +244,44 @@ suite("calls", () => {
     includes(nets([KICAD, "--pictures", folder], 2), "exists already");
   });
 
-  test("copper that is missing is said", () => {
-    includes(nets([join(EXAMPLES, "blinker")], 1), "copper 2 is not among the files: what it joins is not seen");
+  test("copper or holes that are missing", () => {
+    includes(nets([join(EXAMPLES, "blinker")], 2), "copper 2 is not among the files: other files name it");
+    const room = join(newRoom(), "board"), top = "nightlight-F_Cu.gbr", back = "nightlight-B_Cu.gbr";
+    cpSync(KICAD, room, { recursive: true });
+    const without = (name, act) => {
+      rmSync(join(room, name));
+      act();
+      cpSync(join(KICAD, name), join(room, name));
+    };
+    const netlist = ["--ipc", NETLISTS.get(KICAD)];
+    // Copper that only the netlist counts on.
+    const plain = join(room, "plain.gbr");
+    /** @type {[name: string, words: string[], says: string][]} */
+    const cases = [[top, netlist, "copper 1 is not among the files: 17 points of the netlist lie on it"],
+      [back, netlist, "copper 2 is not among the files: 8 points of the netlist lie on it"], [top, [], "copper 1"], [back, [], "copper 2"]];
+    for (const [name, words, says] of cases) {
+      part(`${name}, ${words.join(" ")}`, () => without(name, () => {
+        includes(nets([room, ...words], 2), says);
+        // (GND is joined on the bottom)
+        const told = nets([room, ...words, "--partial"], name === back ? 1 : 0);
+        includes(told, `missing: ${says}`);
+        includes(told, `${name === back ? "1 open" : "0 opens"}, 0 shorts, 0 points without copper`);
+      }));
+    }
+    // One that is not recognised, and is by its role; one that is refused.
+    without(top, () => {
+      cpSync(join(KICAD, top), plain);
+      writeFileSync(plain, readFileSync(plain, "latin1").replace(/%TF.FileFunction[^%]*%\r?\n/, ""));
+      includes(nets([room, ...netlist], 2), "what these show is not known: plain.gbr");
+      includes(nets([room, ...netlist, "--role", "plain.gbr=top"]), "17 points, 17 of 17");
+      includes(nets([room, ...netlist, "--role", "plain.gbr=side"], 2), "side is none of in1, in2 ..");
+      rmSync(plain);
+      writeFileSync(join(room, top), "%FSLAX46Y46*%%MOMM*%%ADD10C,0.1*%D10*X0Y0D03*");
+      includes(nets([room, ...netlist], 2), "copper 1 is refused");
+      includes(nets([room, ...netlist, "--partial"]), "0 opens, 0 shorts, 0 points without copper");
+    });
+    const drill = readdirSync(KICAD).find((name) => name.endsWith("-PTH.drl"));
+    without(drill, () => includes(nets([room, ...netlist], 2), "plated holes are not among the files: 8 points of the netlist have one"));
   });
 
   test("calls that do not fit", () => {
@@ -231,7 +294,10 @@ suite("calls", () => {
       part(words.join(" "), () => nets(words, 2));
     }
     includes(nets([KICAD, "--ipc", broken], 2), `${broken}: line 2: the line has 6 characters`);
-    includes(nets([KICAD, "--edits", editsOf("delete top 0", "delete top 99")], 2), "line 2 of the edits, delete top 99: refused 61");
+    const edits = editsOf("delete top 0", "delete top 99", "plot top none.pbm", "moove top 1 2 3");
+    const told = nets([KICAD, "--edits", edits], 2);
+    includes(told, `line 2 of ${edits}, at '99' (K): delete top 99\n  refused 61, no item: `);
+    includes(told, `\nline 4 of ${edits}, at 'moove' (no command; did you mean move?): moove top 1 2 3\n  refused 80, bad line: `);
     const folder = join(room, "one");
     cpSync(KICAD, folder, { recursive: true });
     for (const name of readdirSync(folder)) if (name.endsWith(".gbr") && !name.includes("Edge")) rmSync(join(folder, name));

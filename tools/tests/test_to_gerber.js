@@ -131,9 +131,10 @@ suite("what camplot does not load", () => {
 suite("options", () => {
   test("that do not fit are refused", () => {
     const text = `${HEAD}X0Y0D03*\nM02*\n`;
-    for (const [words, why] of [[["--format", "24"], "--format 24: it needs two digits, as 2.4"],
-      [["--format", "7.4"], "--format 7.4: it needs two digits, as 2.4"],
-      [["--zeros", "leading"], "--zeros leading: it needs --format, as --format 2.4"],
+    const listed = "; tools/to_gerber --help lists the options";
+    for (const [words, why] of [[["--format", "24"], `--format 24: it needs two digits, as 2.4${listed}`],
+      [["--format", "7.4"], `--format 7.4: it needs two digits, as 2.4${listed}`],
+      [["--zeros", "leading"], `--zeros leading: it needs --format, as --format 2.4${listed}`],
       [["--format", "2.5"], "--format 2.5: the file has %FSLAX24Y24*% on line 1"],
       [["--format", "2.4", "--zeros", "leading"], "--format 2.4 --zeros leading: the file has %FSLAX24Y24*% on line 1"]]) {
       const { status, stderr } = runOn(newRoom(), text, words);
@@ -191,7 +192,7 @@ suite("texts", () => {
     writeFileSync(join(room, "old.gbr.gbr"), "mine");
     const { status, stderr } = runOn(room, `${HEAD}M02*\n`, []);
     assert.equal(status, 2);
-    assert.ok(stderr.includes("old.gbr.gbr: exists already; --force replaces it"));
+    assert.ok(stderr.includes("old.gbr.gbr: exists already; --replace replaces it"));
     assert.equal(readFileSync(join(room, "old.gbr.gbr"), "utf8"), "mine");
     assert.equal(runOn(room, `${HEAD}M02*\n`, ["-o", "old.gbr", "--force"]).status, 2);
   });

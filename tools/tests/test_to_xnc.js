@@ -6,7 +6,7 @@ import { join } from "node:path";
 import { convertDrill } from "../../web/convert/drill/convert.js";
 import { Drilling } from "../../web/convert/drill/drilling.js";
 import { decimalOf, lengthOf, lengthText, micrometres, quickReader, sizeOf } from "../../web/convert/drill/lengths.js";
-import { latin1, latin1Bytes } from "../../web/bytes.js";
+import { latin1, latin1Bytes } from "../../web/bytes/text.js";
 import { part, skip, suite, test } from "./harness.js";
 import { CASES, PROGRAM, newRoom, runProgram, runTool, withoutLoaded } from "./support.js";
 
@@ -192,7 +192,7 @@ written: holes.xnc
     writeFileSync(join(room, "holes.xnc"), "mine");
     const { status, stderr } = runOn(room, "M30\n");
     assert.equal(status, 2);
-    assert.equal(stderr, "tools/to_xnc: holes.xnc: exists already; --force replaces it, -o names another\n");
+    assert.equal(stderr, "tools/to_xnc: holes.xnc: exists already; --replace replaces it, -o names another\n");
     assert.equal(readFileSync(join(room, "holes.xnc"), "utf8"), "mine");
     assert.equal(runOn(room, "M30\n", "--force").status, 0);
     assert.equal(runOn(room, "M30\n", "--force", "-o", "holes.drl").status, 2);
@@ -201,11 +201,11 @@ written: holes.xnc
 
   test("calls that cannot be used", () => {
     for (const [words, told] of /** @type {[string[], string][]} */ ([
-      [["--digits", "24"], "--digits 24"], [["--tool", "1"], "--tool 1"],
+      [["--digits", "24"], "--format 24: it needs two digits, as 2.4"], [["--tool", "1"], "--tool 1"],
       [["--tool", "5=0.8"], "--tool 5: the file has no tool of this number"], [["--report", "none"], "none: cannot be read"],
       [["--tool", "1=300"], "a diameter outside 1 nm to 200 mm"], [["-o", "no/out"], "no/out: cannot"],
-      [["--report", "holes.drl"], "holes.drl: no report of"], [["--unit", "mil"], "--unit"], [["--unit"], "one argument"],
-      [["more"], "unrecognized arguments: more"], [["--none"], "unrecognized arguments: --none"]])) {
+      [["--report", "holes.drl"], "holes.drl: no report of"], [["--unit", "mil"], "--unit"], [["--unit"], "--unit needs mm|inch"],
+      [["more"], "more: cannot be read"], [["--none"], "--none is no option"], [["--unti", "mm"], "did you mean --unit?"]])) {
       part(words.join(" "), () => {
         const { status, stderr } = runOn(newRoom(), "M48\nMETRIC,TZ\nT1C0.8\n%\nT1\nX1000Y1000\nM30\n", ...words);
         assert.equal(status, 2);
@@ -218,7 +218,7 @@ written: holes.xnc
     const room = newRoom(), text = "M48\nT1C0.8\n%\nT1\nX1000Y1000\nM30\n";
     assert.equal(runOn(room, text, "--uni=mm", "--zer", "trailing", "-oout.xnc").status, 0);
     assert.ok(existsSync(join(room, "out.xnc")));
-    assert.ok(runTool("to_xnc", ["--help"]).stdout.includes("--zeros ZEROS"));
+    assert.ok(runTool("to_xnc", ["--help"]).stdout.includes("--zeros leading|trailing"));
   });
 });
 

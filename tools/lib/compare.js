@@ -1,0 +1,199 @@
+// tools/compare: what differs between two revisions of a board.
+
+import { readAttributes } from "../../web/attributes/index.js";
+import { DRILL, windowLine } from "../../web/board/index.js";
+import { DIFFERS, SAME, SAME_PICTURE, attributeWords, changeWords, placeLine, saidWords, windowOfPlace } from "../../web/compare/index.js";
+import { counted } from "../../web/nets/index.js";
+import { Call, DONE, FAILED, REFUSED, complain, perform, say } from "./command.js";
+import { boardOf, pairsOf } from "./compare_boards.js";
+import { ComparedPair } from "./compare_layers.js";
+import { PICTURE, reportOf } from "./compare_report.js";
+import { STANDARD, checkTarget, writeFile } from "./files.js";
+import { option } from "./options.js";
+import { printedInto, sayJson } from "./output.js";
+import { askedPitch } from "./pixels.js";
+import { called } from "./places.js";
+import { checkProgram } from "./station.js";
+
+/** Stands between the files of the two boards. */
+const BETWEEN = ":";
+/** So many places of a layer are printed, and so many changes of a place. */
+const MOST_PLACES = 40, MOST_CHANGES = 6;
+
+const TOOL = called("compare");
+export const COMMAND = {
+  tool: TOOL,
+  about: `Compares two revisions of a board, layer by layer: what is the same, and where the rest differs.
+
+  ${TOOL} FOLDER FOLDER             the layers among the files of two folders
+  ${TOOL} old.zip new.zip           those in two ZIP files; or a folder and a ZIP file, or two files
+  ${TOOL} a/*.gbr : b/*.gbr         several files of each board, with a colon between them
+  ${TOOL} A B --html what.html      and a page with pictures of both sides at each place
+  ${TOOL} A B --json                for a program, as one that checks each commit of a board
+
+Layers are paired by what they show, as an attribute, a job file (.gbrjob) or their names tell it. A pair is
+  the same              its items are, whatever numbers their apertures have, and in whichever order where that changes nothing
+  the same picture      items differ, and no pixel does; so a pad that moved by 1 nm is found, and has its place
+  different             at so many places, each with its middle in mm, the pixels that differ, and what became of its items
+Dates, other attributes, comments and the names of files change nothing of what is made: they are told, and a pair that
+differs in them alone is the same.
+
+The exit status is 0 if both boards are the same; 1 if a layer differs or only one board has it; 2 if the call or a file
+cannot be used; 3 if standard output cannot be written.`,
+  operand: { name: "A B", isMany: true, help: "each a folder, a ZIP file or a file; or files of A, the word : and files of B" },
+  options: [option("--dpi", " (1000)"), option("--pitch"), option("--html"), option("--out", ": a file"), option("--replace"),
+    option("--json"), option("--camplot")],
+};
+
+/** @param {string[]} words */
+function sidesOf(words) {
+  const at = words.indexOf(BETWEEN), sides = at < 0 ? words.map((word) => [word]) : [words.slice(0, at), words.slice(at + 1)];
+  if (sides.length !== 2 || sides.some((side) => !side.length)) {
+    throw new Call(at < 0 ? `${counted(words.length, "word")}: it needs two boards, A and B; files of each with a colon between them`
+      : "a colon stands between files of A and files of B");
+  }
+  return sides;
+}
+
+// The files that are written are none of those that are read.
+function checkTargets({ out, html, replace }, boards) {
+  const sources = boards.flatMap((board) => board.sources);
+  if (html !== null && html === out) throw new Call("--html and --out name the same file");
+  for (const path of [out, html]) if (path !== null && path !== STANDARD) checkTarget(path, replace, sources);
+  if (html === STANDARD) throw new Call("--html needs a file");
+  return sources;
+}
+
+/** @param {ComparedPair} pair */
+const labelOf = ({ layers: [first, second], isAnother }) => (isAnother ? `${first.layerFunction.label}, now ${second.layerFunction.label}`
+  : first.layerFunction.label);
+
+/** What each item of a changed layer is of: net, component and pin, where the files have them. */
+class Owners {
+  /** @param {ComparedPair} pair */
+  constructor(pair) {
+    const isGerber = pair.compared?.changes.length && pair.layers[0].kind !== DRILL && pair.compared.said.isRead;
+    this.readings = isGerber ? pair.bytes.map((bytes) => readAttributes(bytes).items) : [];
+  }
+
+  /** @param {import("../../web/compare/index.js").Change} change */
+  words({ from, to }) {
+    if (!this.readings.length) return "";
+    const said = from === null ? this.readings[1][to] : this.readings[0][from];
+    return attributeWords(said?.attributes ?? []);
+  }
+}
+
+/** @param {ComparedPair} pair */
+function outcomeWords({ outcome, compared, window, isSameFile, refused }) {
+  if (outcome === "refused") return refused.join("; ");
+  if (isSameFile) return "the same file";
+  const places = counted(compared.places.length, "place");
+  if (outcome === SAME_PICTURE) return `the same picture at pixels of ${window.pitch} nm; items differ at ${places}`;
+  if (outcome === DIFFERS) return `differs at ${places}${window ? `, by pixels of ${window.pitch} nm` : ""}`;
+  return compared.isSameOrder ? "the same" : "the same, with its items in another order, which changes nothing";
+}
+
+// What of a pair is no copper, a hole or ink: names and what the files say.
+/** @param {ComparedPair} pair */
+function besides({ layers: [first, second], compared }) {
+  const { dates = [], attributes = [], comments = [], isRead = true } = compared?.said ?? {};
+  return [...first.file.name === second.file.name ? [] : [`the file is called ${second.file.name} now`],
+    ...dates.map((said) => `date: ${saidWords(said)}`), ...attributes.map((said) => `attribute: ${saidWords(said)}`),
+    ...comments.map((said) => `comment: ${saidWords(said)}`), ...isRead ? [] : ["attributes of items are not compared: they cannot be read"]];
+}
+
+/** @param {ComparedPair} pair */
+function tellPair(pair) {
+  const { compared } = pair, owners = new Owners(pair);
+  say(`${labelOf(pair)}: ${pair.layers[0].file.name}: ${outcomeWords(pair)}`);
+  for (const line of besides(pair)) say(`  ${line}`);
+  const places = compared?.places ?? [];
+  places.slice(0, MOST_PLACES).forEach((place, at) => {
+    say(`  ${at + 1}. ${placeLine(place)}`);
+    for (const owner of place.owners.slice(0, MOST_CHANGES)) {
+      const change = compared.changes[owner], of = owners.words(change);
+      say(`     ${changeWords(change, compared)}${of && ` (${of})`}`);
+    }
+    if (place.owners.length > MOST_CHANGES) say(`     and ${counted(place.owners.length - MOST_CHANGES, "more item")}`);
+  });
+  if (places.length > MOST_PLACES) say(`  and ${counted(places.length - MOST_PLACES, "more place")}; --json lists all`);
+}
+
+/** @param {ComparedPair[]} pairs */
+function summary(pairs, { onlyFirst, onlySecond }) {
+  const count = (outcome) => pairs.filter((pair) => pair.outcome === outcome).length, refused = count("refused");
+  const parts = [`${count(SAME)} the same`, `${count(SAME_PICTURE)} the same picture`, `${count(DIFFERS)} different`,
+    ...refused ? [`${refused} not compared`] : [], ...onlyFirst.length ? [`${onlyFirst.length} only in A`] : [],
+    ...onlySecond.length ? [`${onlySecond.length} only in B`] : []];
+  return `${counted(pairs.length, "pair")} of layers: ${parts.join(", ")}`;
+}
+
+function tell(boards, pairs, rest) {
+  boards.forEach(({ title, layers, leftOut, notes }, at) => {
+    say(`${"AB"[at]}: ${title}: ${counted(layers.length, "layer")}${leftOut.length ? `; left out, since they are no layers: ${leftOut.join(", ")}` : ""}`);
+    for (const note of notes) say(`   ${note}`);
+  });
+  for (const pair of pairs) tellPair(pair);
+  for (const { layerFunction, file } of rest.onlyFirst) say(`${layerFunction.label}: ${file.name}: only in A`);
+  for (const { layerFunction, file } of rest.onlySecond) say(`${layerFunction.label}: ${file.name}: only in B`);
+  say(summary(pairs, rest));
+}
+
+const toMm = (nm) => nm / 1e6;
+const NOTHING_SAID = { dates: [], attributes: [], comments: [], isRead: true };
+
+/** @param {ComparedPair} pair @param {Owners} owners */
+function placesJson({ compared }, owners) {
+  return (compared?.places ?? []).map((place) => {
+    const { left, low, right, high } = place.box;
+    return { x: toMm((left + right) / 2), y: toMm((low + high) / 2), width: toMm(right - left), height: toMm(high - low),
+      window: windowLine(windowOfPlace(place.box, PICTURE.width, PICTURE.height)), onlyInA: place.onlyFirst, onlyInB: place.onlySecond,
+      changes: place.owners.map((owner) => {
+        const change = compared.changes[owner], { what, from, to, parts, dx, dy } = change;
+        return { what, a: from, b: to, parts, ...what === "moved" ? { dx: toMm(dx), dy: toMm(dy) } : {}, words: changeWords(change, compared),
+          of: owners.words(change) };
+      }) };
+  });
+}
+
+function jsonOf(boards, pairs, rest) {
+  const layerJson = ({ layerFunction, file }) => ({ shows: layerFunction.label, file: file.name });
+  return { boards: boards.map(({ title, leftOut, notes, faults }) => ({ title, leftOut, notes, faults })),
+    isSame: isAllSame(pairs, rest),
+    pairs: pairs.map((pair) => ({ shows: labelOf(pair), name: pair.layers[0].layerFunction.name, a: pair.layers[0].file.name,
+      b: pair.layers[1].file.name, pairedBy: pair.by, outcome: pair.outcome, isSame: pair.isSame, isSameFile: pair.isSameFile,
+      refused: pair.refused, pitch: pair.window?.pitch ?? null, places: placesJson(pair, new Owners(pair)), ...pair.compared?.said ?? NOTHING_SAID })),
+    onlyInA: rest.onlyFirst.map(layerJson), onlyInB: rest.onlySecond.map(layerJson) };
+}
+
+function isAllSame(pairs, { onlyFirst, onlySecond }) {
+  return pairs.every((pair) => pair.isSame) && !onlyFirst.length && !onlySecond.length;
+}
+
+async function run(options) {
+  const pitch = askedPitch(options), sides = sidesOf(options.operands);
+  const boards = [await boardOf(sides[0]), await boardOf(sides[1])], sources = checkTargets(options, boards);
+  checkProgram(options.camplot);
+  const { pairs: found, ...rest } = pairsOf(boards[0], boards[1]);
+  const pairs = found.map((pair) => new ComparedPair(pair, options.camplot));
+  for (const pair of pairs) pair.compare(pitch);
+  for (const fault of boards.flatMap(({ faults }) => faults)) complain(`${TOOL}: ${fault}`);
+  if (options.json) sayJson(jsonOf(boards, pairs, rest));
+  else tell(boards, pairs, rest);
+  if (options.html !== null) {
+    const lines = (pair) => ({ title: labelOf(pair), outcome: outcomeWords(pair), besides: besides(pair), owners: new Owners(pair) });
+    writeFile(options.html, reportOf(boards, pairs, rest, summary(pairs, rest), lines), options.replace, sources);
+    if (!options.json) say(`the page: ${options.html}`);
+  }
+  const isUnread = boards.some(({ faults }) => faults.length) || pairs.some(({ refused }) => refused.length);
+  return isUnread ? FAILED : isAllSame(pairs, rest) ? DONE : REFUSED;
+}
+
+/**
+ * Runs the command with the words of a call.
+ * @param {string[]} words
+ */
+export function main(words) {
+  return perform(COMMAND, (options) => printedInto(options, () => run(options)), words);
+}

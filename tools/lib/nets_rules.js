@@ -1,0 +1,39 @@
+// The rules of a house: their limits by a file and by the words of a call, and what breaks them in lines.
+
+import { utf8 } from "../../web/bytes/index.js";
+import { refusalText } from "../../web/convert/index.js";
+import { RULES, mm, placeWords, readRules, takeRule } from "../../web/nets/index.js";
+import { Call, Failure } from "./command.js";
+import { readBytes } from "./files.js";
+
+/**
+ * The limits in nm, by the rules' names: those of a file, and over them those of the call.
+ * @param {string | null} path
+ * @param {string[]} words as `ring=0.13`
+ * @returns {Map<string, number>}
+ */
+export function limitsOf(path, words) {
+  const { limits, refusals } = path === null ? { limits: new Map(), refusals: [] } : readRules(utf8(readBytes(path)));
+  if (refusals.length) throw new Failure(refusals.map((refusal) => `${path}: ${refusalText(refusal)}`).join("\n"));
+  for (const rule of words) {
+    const fault = takeRule(limits, rule);
+    if (fault !== null) throw new Call(`--rule ${rule}: ${fault}`);
+  }
+  return limits;
+}
+
+/** A breach in a line, with names for its nets and labels for layers. */
+export function breachWords({ rule, value, within, layer, from, to, sources, shown = [] }, limit, names, labels) {
+  const what = [...sources, ...shown, ...names].join(" and "), where = `${placeWords(from)}${to ? ` and ${placeWords(to)}` : ""}`;
+  const exact = within > 1 ? ` (within ${mm(within)})` : "", doubled = rule === "hole-hole" && from.x === to.x && from.y === to.y;
+  return `${rule}: ${mm(value)} mm${exact}, ${RULES.get(rule).isMost ? "more" : "less"} than ${mm(limit)}: ${what} at ${where}${layer === null ? "" : ` on ${labels[layer]}`}${
+    doubled ? ": doubled" : ""}`;
+}
+
+/** How many places break each rule, in a line; `unchecked` has those that are not checked on some side. */
+export function rulesSummary(breaches, limits, unchecked) {
+  return [...limits].map(([rule, limit]) => {
+    const count = breaches.filter((breach) => breach.rule === rule).length, isPartly = unchecked.some((other) => other.rule === rule);
+    return `${RULES.get(rule).title} of ${mm(limit)} mm: ${count ? `${count} ${RULES.get(rule).isMost ? "more" : "less"}` : isPartly ? "kept, as far as it is checked" : "kept"}`;
+  }).join("; ");
+}
