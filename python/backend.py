@@ -40,9 +40,17 @@ def _library() -> Path | None:
     return next((path for path in built if path.is_file()), None)
 
 
+def _platform(library: bytes) -> str:
+    """Where the library runs: with the newest version of the C library that it names, or a later one."""
+    versions = [int(it) for it in re.findall(rb"GLIBC_2\.(\d+)(?:\.\d+)?\0", library)]
+    machine = re.sub(r"[-.]", "_", sysconfig.get_platform())
+    # (2.5 is the oldest one for which there are wheels)
+    return machine.replace("linux_", f"manylinux_2_{max(5, *versions)}_", 1) if versions else machine
+
+
 def _tag() -> str:
-    platform = re.sub(r"[-.]", "_", sysconfig.get_platform()) if _library() else "any"
-    return f"py3-none-{platform}"
+    library = _library()
+    return f"py3-none-{_platform(library.read_bytes()) if library else 'any'}"
 
 
 def _metadata() -> bytes:
@@ -62,7 +70,10 @@ def _info() -> dict[str, bytes]:
     """The files of the wheel's own folder, but its record."""
     pure = "false" if _library() else "true"
     wheel = f"Wheel-Version: 1.0\nGenerator: {NAME} {VERSION}\nRoot-Is-Purelib: {pure}\nTag: {_tag()}\n"
-    return {f"{INFO}/METADATA": _metadata(), f"{INFO}/WHEEL": wheel.encode()}
+    held = {f"{INFO}/METADATA": _metadata(), f"{INFO}/WHEEL": wheel.encode()}
+    # those of the crates in the library, which a release lays here
+    licences = HERE / "licences.txt"
+    return {**held, f"{INFO}/{licences.name}": licences.read_bytes()} if licences.is_file() else held
 
 
 def _modules() -> Iterator[tuple[str, bytes]]:

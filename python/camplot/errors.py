@@ -38,7 +38,8 @@ class Refused(Error):
         self.name, self.advice = REFUSALS.get(number, ("unknown", "This version of the package does not know it."))
         if call.split()[:1] == ["load"] and call.split()[2:3] == ["drill"]:
             self.advice = DRILL.get(number, self.advice)
-        self.advice = advice or self.advice
+        # (the page has the program's option, which is an argument here)
+        self.advice = advice or self.advice.replace("--depth", "`Station(depth=..)`")
 
     def __str__(self) -> str:
         place = "" if self.at is None else f" at byte {self.at}"

@@ -23,6 +23,9 @@ class Picture:
     height: int
     pbm: bytes
 
+    def __repr__(self) -> str:
+        return f"<camplot.Picture of {self.width} by {self.height} pixels>"
+
     @classmethod
     def from_pbm(cls, pbm: bytes) -> Picture:
         """The picture of a PBM file as plots write it: P4, and the sides in a line of their own."""
@@ -62,6 +65,9 @@ class Tile:
     """A clean tile: 64 rows of 64 pixels from the top. `octets` are its 512 bytes."""
 
     octets: bytes
+
+    def __repr__(self) -> str:
+        return f"<camplot.Tile of 64 by 64 pixels, {self.count()} of them black>"
 
     @property
     def data(self) -> memoryview:

@@ -191,8 +191,8 @@ REFUSALS: dict[int, tuple[str, str]] = {
     ),
     30: (
         'no memory',
-        'The machine refused memory; no layer changed, but the file of a plot may be cut. Close other '
-        'programs, set a smaller window.',
+        'The machine refused memory; no layer and no file changed. Close other programs, set a smaller '
+        'window.',
     ),
     40: (
         'no header',
@@ -346,7 +346,8 @@ REFUSALS: dict[int, tuple[str, str]] = {
     ),
     82: (
         'file fault',
-        'The file cannot be read or written, or is longer than 268,435,456 bytes. Paths are as seen from the '
+        'The file cannot be read or written, or is longer than 268,435,456 bytes; or it would replace the '
+        "script, or a file that was loaded, by anything but its own layer's text. Paths are as seen from the "
         'folder where the program runs, and no shell reads them: write /home/me/a.gbr for ~/a.gbr, and no '
         'quotes.',
     ),

@@ -17,6 +17,7 @@ from camplot.values import Attribute, Box, Entry, History, Layer, Window
 
 _NO_LAYER = 60
 _BAD_LINE = 80
+_FILE_FAULT = 82
 _ACCEPTED = 0
 
 
@@ -89,6 +90,9 @@ class Station:
         reply = self._session.reply.split()
         if code == _BAD_LINE and isinstance(line, Line):
             raise line.refused()
+        if code == _FILE_FAULT and data is None:
+            # no path is read here: it is the bytes that are missing
+            raise TypeError("this load needs `file`, the bytes of the file that it reads")
         if code != _ACCEPTED:
             at = int(reply[2]) if len(reply) > 2 else None
             raise Refused(code, at, words[:80].decode(errors="replace"))
@@ -108,11 +112,16 @@ class Station:
 
     def load_gerber(self, name: str, data: bytes | bytearray | memoryview) -> int:
         """Reads the bytes of a Gerber file as a new layer. Answers how many items it has."""
-        return self.apply(line_of("load {name} gerber file", name=name), data)[0]
+        return self._load("gerber", name, data)
 
     def load_drill(self, name: str, data: bytes | bytearray | memoryview) -> int:
         """Reads the bytes of a drill file (XNC) as a new layer. Answers how many items it has."""
-        return self.apply(line_of("load {name} drill file", name=name), data)[0]
+        return self._load("drill", name, data)
+
+    def _load(self, kind: str, name: str, data: bytes | bytearray | memoryview) -> int:
+        if not isinstance(data, (bytes, bytearray, memoryview)):
+            raise TypeError(f"`data` is the bytes of the file, as Path(..).read_bytes() gives them, not {type(data).__name__}")
+        return self.apply(line_of(f"load {{name}} {kind} file", name=name), data)[0]
 
     def text(self, name: str) -> bytes:
         """The canonical text of a layer, Gerber or XNC."""

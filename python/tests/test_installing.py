@@ -4,11 +4,9 @@ from __future__ import annotations
 
 import importlib.util
 import os
-import re
 import shutil
 import subprocess
 import sys
-import sysconfig
 import tempfile
 import unittest
 import venv
@@ -171,7 +169,8 @@ class Wheels(InFolder):
         (package,) = there.glob("lib/python*/site-packages/camplot")
         self.assertEqual(self.told(self.folder, python)[:2], ["(0, 0, 0)", str((package / library.NAME).resolve())])
         (wheel,) = there.glob(f"lib/python*/site-packages/camplot-{camplot.__version__}.dist-info/WHEEL")
-        self.assertIn(f"Root-Is-Purelib: false\nTag: py3-none-{re.sub('[-.]', '_', sysconfig.get_platform())}\n", wheel.read_text())
+        # (its library asks for the functions of memory alone, which a C library of 2014 has)
+        self.assertRegex(wheel.read_text(), r"Root-Is-Purelib: false\nTag: py3-none-manylinux_2_(5|14)_x86_64\n")
         self.pip("uninstall", "-y", "camplot", python=python)
         self.assertEqual(list(there.glob("lib/python*/site-packages/camplot*")), [])
 

@@ -55,6 +55,10 @@ class Bits(unittest.TestCase):
         with self.assertRaises(IndexError):
             tile.pixel(64, 0)
 
+    def test_printed_by_their_sides(self) -> None:
+        self.assertEqual(repr(Picture.from_pbm(SMALL)), "<camplot.Picture of 10 by 2 pixels>")
+        self.assertEqual(repr(Tile(b"\x03" + bytes(511))), "<camplot.Tile of 64 by 64 pixels, 2 of them black>")
+
     def test_kept_compared_and_pickled(self) -> None:
         for value in (Picture.from_pbm(SMALL), Tile(bytes(512))):
             self.assertEqual(pickle.loads(pickle.dumps(value)), value)

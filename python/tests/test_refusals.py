@@ -12,11 +12,11 @@ import camplot
 from camplot.refusals import DRILL, REFUSALS
 from support import CASES, ONE_FLASH, TOP, WithStation, needs_library
 
-# What no line is refused with here: 30 is of a machine without memory, and 51, 75, 90 and 91 are told to a caller of the
-# library alone.
-NOT_HERE = {30, 51, 75, 90, 91}
+# What no line is refused with here: 30 is of a machine without memory, 51, 75, 90 and 91 are told to a caller of the
+# library alone, and a load that is given no file is no call.
+NOT_HERE = {30, 51, 75, 82, 90, 91}
 # Cases of files that the program cannot write: the package writes none.
-WRITING = {"checks_before_files", "failed_plot_keeps_its_tiles"}
+WRITING = {"checks_before_files", "failed_plot_keeps_its_tiles", "what_was_loaded_stays"}
 # Files beside a script that these cases do not have.
 OTHERS = ("make", "zeros", "memory", "stdin", "feed", "stdout_to", "copies", "complaint")
 LONGEST = 1_000_000
@@ -38,6 +38,10 @@ class Carried(unittest.TestCase):
         self.assertEqual(camplot.Refused(24, 9, "load holes drill file").advice, DRILL[24])
         self.assertEqual(camplot.Refused(24, 9, "load top gerber file").advice, REFUSALS[24][1])
         self.assertEqual(camplot.Refused(45, 9, "load holes drill file").advice, REFUSALS[45][1])
+
+    def test_the_depth_has_the_name_that_it_has_here(self) -> None:
+        self.assertIn("`Station(depth=..)`", camplot.Refused(70).advice)
+        self.assertNotIn("--", camplot.Refused(70).advice)
 
     def test_an_unknown_number(self) -> None:
         self.assertEqual(camplot.Refused(77).name, "unknown")
@@ -94,6 +98,9 @@ class Run:
         file = self.held.get(path) if verb == [b"load"] else None
         try:
             numbers = station.apply(line, file)
+        except TypeError as fault:
+            assert verb == [b"load"] and file is None and "`file`" in str(fault)
+            return b"refused 82\n"
         except camplot.Refused as fault:
             self.refused.add(fault.number)
             assert (fault.name, fault.advice) != ("unknown", "")
@@ -122,6 +129,15 @@ class Cases(WithStation):
                 count += 1
         self.assertGreater(count, 100)
         self.assertEqual(set(REFUSALS) - NOT_HERE - refused, set())
+
+    def test_a_file_that_is_missing(self) -> None:
+        with self.assertRaisesRegex(TypeError, "`file`"):
+            self.station.apply("load b gerber b.gbr")
+        for wrong in (None, "b.gbr", Path("b.gbr")):
+            for load in (self.station.load_gerber, self.station.load_drill):
+                with self.assertRaisesRegex(TypeError, f"`data`.*{type(wrong).__name__}"):
+                    load("b", wrong)  # type: ignore[arg-type]
+        self.assertEqual(len(self.station.layers()), 2)
 
     def test_each_call_that_can_be_refused(self) -> None:
         refused, station = self.refused, self.station
