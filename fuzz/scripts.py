@@ -19,14 +19,22 @@ def is_large(line):
         return False
 
 
+def writes_what_is_read(script):
+    """Whether a script writes over itself or a file that it loads, which the program alone refuses: it alone has files."""
+    lines = [line.split() for line in script.split(b"\n")]
+    read = {words[3] for words in lines if words[:1] == [b"load"] and len(words) == 4} | {b"script"}
+    return any(words[:1] in ([b"plot"], [b"write"]) and len(words) == 3 and words[2] in read for words in lines)
+
+
 def mutated(chance, maker, seed):
-    """A mutated script with small windows, the files next to it, and a depth; nothing if it names a folder."""
+    """A mutated script with small windows, the files next to it, and a depth; nothing if it names a folder, or writes over
+    what it reads."""
     text, files = seed
     maker.names = re.findall(rb"^load (\S+)", text, re.MULTILINE)
     maker.files = [name.encode() for name in files]
     made = maker.mutated(text).replace(b"/", b"_").split(b"\n")[:ROWS]
     script = b"\n".join(line for line in made if not is_large(line))
-    if any(word in FOLDERS or len(word) > 200 for word in script.split()):
+    if any(word in FOLDERS or len(word) > 200 for word in script.split()) or writes_what_is_read(script):
         return None
     return script, files, chance.choice((1, 2, 3, 100, 1000))
 
