@@ -1,10 +1,18 @@
 // docs/refusals.md as data: of each number its name and what to do, for files of drill layers where those differ.
 
 /**
+ * A text in which the tools have the names that they have once installed, and the documents no folder: who reads the page has
+ * no copy of the repository.
+ * @type {(text: string) => string}
+ */
+const installed = (text) => text.replace(/\btools\/(\w+)/g, (_, tool) => `camplot-${tool.replaceAll("_", "-")}`)
+  .replace(/\bdocs\/(\w+\.md)/g, "camplot's $1");
+
+/**
  * A text of the page as a sentence: one line, without its marks. A `*` in code is Gerber's own and stays.
  * @type {(text: string) => string}
  */
-const plain = (text) => text.replace(/\s+/g, " ").replace(/`([^`]*)`|\*/g, "$1").trim();
+const plain = (text) => installed(text).replace(/\s+/g, " ").replace(/`([^`]*)`|\*/g, "$1").trim();
 
 /**
  * The first sentences of a text, as long as they are of use in a line.

@@ -2,7 +2,7 @@
 
 import assert from "node:assert/strict";
 import { inflateSync } from "node:zlib";
-import { mkdtempSync, rmSync, writeFileSync } from "node:fs";
+import { mkdtempSync, readFileSync, rmSync, writeFileSync } from "node:fs";
 import { join } from "node:path";
 import { spawnSync } from "node:child_process";
 import { tmpdir } from "node:os";
@@ -14,6 +14,7 @@ import { entriesFrom, itemOf, shifted } from "../board/items.js";
 import { lengthOf, mm } from "../board/units.js";
 import { knowRefusals, refusalWords } from "../machine/refusal_words.js";
 import { inlined } from "../building/inline.js";
+import { refusalsOf } from "../building/refusals.js";
 
 const bytesOf = (text) => new TextEncoder().encode(text);
 
@@ -30,6 +31,16 @@ suite("lengths", () => {
     assert.deepEqual(["", "mm", "1 2", "x", "5000000"].map(lengthOf), [null, null, null, null, null]);
   });
   test("what is shown", () => assert.deepEqual([0, 1, -1500000, 1234567].map(mm), ["0.000", "0.000001", "-1.500", "1.234567"]));
+});
+
+suite("what the page tells of a refusal", () => {
+  test("no tool and no document by a path that only a copy of the repository has", () => {
+    const page = readFileSync(new URL("../../docs/refusals.md", import.meta.url), "utf8");
+    const texts = Object.values(refusalsOf(page)).flatMap((kind) => Object.values(kind).map(({ text }) => text));
+    assert.ok(texts.some((text) => text.includes("camplot-to-gerber --nearest")));
+    assert.ok(texts.some((text) => text.includes("camplot's formats.md")));
+    assert.deepEqual(texts.filter((text) => /\b(tools|docs)\//.test(text)), []);
+  });
 });
 
 suite("steps", () => {
