@@ -2,6 +2,7 @@ pub mod AskedLayers
 pub mod CleanTiles
 pub mod Depths
 pub mod DirtyTiles
+mod DrawnInTurn
 pub mod DrawnTiles
 pub mod EditCommands
 pub mod FaultNumbers

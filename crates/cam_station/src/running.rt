@@ -93,12 +93,13 @@ fn bytes_of(answer: &Result<Reply, Fault>) -> Option<&Bytes>
 }
 
 /// Takes a step, puts the bytes of its answer under the path, and tells of these as a plot does, or counts them.
-fn put<F: Files>(
+fn put<F: Files, V: Watch<F>>(
     station: &mut Station,
     command: Command,
     counts: bool,
     path: &FilePath,
     files: &mut F,
+    watch: &mut V,
 ) -> Result<Reply, Fault>
     ensures { (memory : MemoryGrant) × (put : Result (Unit {0}) FileFault)
         × TurnGives (put_turn (tells counts) path.now put (step station.old command memory))
@@ -106,7 +107,7 @@ fn put<F: Files>(
         (files_seen (F.contents files.old) (F.failed files.old))
         (files_seen (F.contents files.new) (F.failed files.new)) }
 {
-    let answer = station.apply(command);
+    let answer = station.apply_watched::<F, V>(command, watch);
     let Some(bytes) = bytes_of(&answer) else {
         return answer;
     };
@@ -123,11 +124,12 @@ fn put<F: Files>(
 }
 
 /// Runs one line, up to its reply, if it has one.
-fn run_line<F: Files>(
+fn run_line<F: Files, V: Watch<F>>(
     alloc: Global,
     station: &mut Station,
     line: &[u8],
     files: &mut F,
+    watch: &mut V,
 ) -> Option<Result<Reply, Fault>>
     ensures { (w : World) × TurnGives (turn station.old line.now w) station.new result
         (files_seen (F.contents files.old) (F.failed files.old))
@@ -141,10 +143,10 @@ fn run_line<F: Files>(
             Some(load(alloc, station, name, kind, &path, files))
         }
         Ok(Some(Line::Plot { name, path })) => {
-            Some(put(station, Command::Plot { name }, false, &path, files))
+            Some(put(station, Command::Plot { name }, false, &path, files, watch))
         }
         Ok(Some(Line::Write { name, path })) => {
-            Some(put(station, Command::Write { name }, true, &path, files))
+            Some(put(station, Command::Write { name }, true, &path, files, watch))
         }
     }
 }
@@ -169,7 +171,7 @@ fn serve_line<F: Files, O: Out, V: Watch<F>>(
         (moment (F.contents files.old) (F.failed files.old) (O.said out.old) (O.failed out.old) 0)
         (moment (F.contents files.new) (F.failed files.new) (O.said out.new) (O.failed out.new) 0)) }
 {
-    let Some(reply) = run_line(alloc, station, line, files) else {
+    let Some(reply) = run_line(alloc, station, line, files, watch) else {
         return Ok(0);
     };
     watch.reply();

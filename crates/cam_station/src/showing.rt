@@ -4,7 +4,7 @@ ghost use Rattle.std.specs.Prelude.{◌≡◌, ◌++◌, ◌<◌, ◌≤◌, len
 ghost use Rattle.std.specs.Prelude.{IfErr, IfOk, OnOk, Some, option_map, option_to_list};
 ghost use Rattle.cam_edits.specs.Images.{image_of};
 ghost use Rattle.cam_edits.specs.Sheets.{AreSound, IsSound, content_of, sheets_of};
-ghost use Rattle.cam_station.specs.TileTables.{dirty_in, redrawn_in};
+ghost use Rattle.cam_station.specs.TileTables.{dirty_in, drawn, redrawn_in};
 ghost use Rattle.cam_station.specs.Machine.{fault};
 ghost use Rattle.cam_refusals.specs.declared.refusal.Refusal.TheVariants.{NoMemory};
 ghost use Rattle.cam_station.specs.Writing.{text_of};
@@ -13,6 +13,7 @@ ghost use Rattle.cam_tiles.specs.declared.window.Window.{Window};
 ghost use Rattle.cam_tiles.specs.Tables.{blank, dirty_count, redrawn};
 
 use crate::fault::{Fault, without_place};
+use crate::watch::Watch;
 use cam_edits::{Board, SheetContent};
 use cam_refusals::Refusal;
 use cam_tiles::{Raster, Source, Window};
@@ -89,6 +90,27 @@ pub(crate) fn draw_all(alloc: Global, board: &Board, rasters: &mut [Raster], at_
         left -= draw(alloc, board.content(place), &mut rasters[place], left);
     }
     at_most - left
+}
+
+/// Draws the dirty tiles of a layer, as many at once as a watch wants to wait for, and answers how many.
+pub(crate) fn draw_watched<F, V: Watch<F>>(
+    alloc: Global,
+    content: &SheetContent,
+    raster: &mut Raster,
+    watch: &mut V,
+) -> u32
+    requires { IsSound (content_of content.now) }
+    ensures count { result ≡ dirty_count raster.old }
+    ensures tiles { raster.new ≡ drawn (content_of content.now) raster.old }
+{
+    let dirty = raster.dirty();
+    let at_once = watch.tiles_at_once(dirty).max(1);
+    let mut done = 0u32;
+    while done < dirty {
+        done += draw(alloc, content, raster, at_once.min(dirty - done));
+        watch.drawn(done, dirty);
+    }
+    done
 }
 
 /// Draws dirty tiles of a layer, those of least number first, and answers how many: by the cells that its items reach, where

@@ -14,8 +14,9 @@ ghost use Rattle.cam_undo.specs.Counted.{counts_at};
 use crate::fault::{Fault, without_place};
 use crate::reading::read;
 use crate::reply::{Numbers, Reply};
-use crate::showing::{blank_behind, blanks, draw, draw_all, put_behind, text};
+use crate::showing::{blank_behind, blanks, draw_all, draw_watched, put_behind, text};
 use crate::touching::{touch, touch_accepted, touch_group};
+use crate::watch::{Unwatched, Watch};
 use cam_edits::{Board, BoardStep, Change, Edit, Name, Reversible, Sheet, plan};
 use cam_refusals::Refusal;
 use cam_script::{Bytes, Command, FileKind};
@@ -122,7 +123,7 @@ impl Station {
                 height,
             }),
             Command::Redraw { at_most } => self.redraw(at_most),
-            Command::Plot { name } => self.plot(&name),
+            Command::Plot { name } => self.plot::<(), Unwatched>(&name, &mut Unwatched),
             Command::Write { name } => self.write(&name),
             Command::Insert { name, k, item } => self.change(name, Change::Insert { k, item }),
             Command::Delete { name, k } => self.change(name, Change::Delete { k }),
@@ -261,8 +262,22 @@ impl Station {
         Ok(Reply::Numbers(Numbers::One(u64::from(drawn))))
     }
 
+    /// Does what [`Station::apply`] does, and lets a watch see the tiles that a plot draws.
+    pub(crate) fn apply_watched<F, V: Watch<F>>(
+        &mut self,
+        command: Command,
+        watch: &mut V,
+    ) -> Result<Reply, Fault>
+        ensures step { step self.old command (memory_of result) ≡ (self.new, result) }
+    {
+        match command {
+            Command::Plot { name } => self.plot::<F, V>(&name, watch),
+            other => self.step(other),
+        }
+    }
+
     /// Draws the dirty tiles of a layer, and keeps them also where there is no memory for the file.
-    fn plot(&mut self, name: &Name) -> Result<Reply, Fault>
+    fn plot<F, V: Watch<F>>(&mut self, name: &Name, watch: &mut V) -> Result<Reply, Fault>
         ensures { plot_step self.old name.now (memory_of result) ≡ (self.new, result) }
     {
         let Some(place) = self.board.place(name) else {
@@ -272,8 +287,8 @@ impl Station {
             return Err(without_place(Refusal::NoWindow));
         }
         let raster = &mut self.rasters[place];
-        let dirty = raster.dirty();
-        let drawn = draw(self.alloc, self.board.content(place), raster, dirty);
+        let content = self.board.content(place);
+        let drawn = draw_watched::<F, V>(self.alloc, content, raster, watch);
         match raster.to_pbm() {
             Ok(bytes) => Ok(Reply::Bytes {
                 bytes: Bytes::from_vec(bytes),

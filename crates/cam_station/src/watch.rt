@@ -12,6 +12,12 @@ pub trait Watch<F> {
     /// A line is run next, by its number from 1; it may be empty or a comment.
     fn line(&mut self, number: u64, line: &[u8]);
 
+    /// A plot has this many dirty tiles: how many it draws before the watch sees them. It draws one at least.
+    fn tiles_at_once(&self, dirty: u32) -> u32;
+
+    /// A plot has drawn so many of its dirty tiles.
+    fn drawn(&mut self, done: u32, dirty: u32);
+
     /// The reply to that line is said next.
     fn reply(&mut self);
 
@@ -27,6 +33,12 @@ impl<F> Watch<F> for Unwatched {
     fn script(&mut self, _script: &[u8]) {}
 
     fn line(&mut self, _number: u64, _line: &[u8]) {}
+
+    fn tiles_at_once(&self, dirty: u32) -> u32 {
+        dirty
+    }
+
+    fn drawn(&mut self, _done: u32, _dirty: u32) {}
 
     fn reply(&mut self) {}
 

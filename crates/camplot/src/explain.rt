@@ -45,6 +45,13 @@ const OPEN: &str = "the script ends inside this group: no `end` and no `abort` c
 /// Erases the line of a terminal on which progress stands.
 const ERASED: &str = "\r\u{1b}[K";
 
+/// How many tiles a plot draws at least before it is told how far it is.
+const LEAST_TOLD: u32 = 1024;
+
+/// In how many parts a plot is told on a terminal, and in a log.
+const PARTS: u32 = 32;
+const PARTS_IN_LOG: u32 = 4;
+
 /// The line as it is shown: its first 60 bytes, with `?` for each that is not printed as it is.
 fn shown(alloc: Global, line: &[u8]) -> Result<String, AllocError> {
     let line = line.trim_ascii();
@@ -162,6 +169,8 @@ pub struct Notes<'a, W, C> {
     lines: u64,
     /// The number of the line that is run.
     number: u64,
+    /// The line as it is shown, where progress is told.
+    command: String,
     /// What the script is, where it is a file of another kind than text.
     kind: Option<&'static str>,
     /// Whether the script was told to be a file of another kind.
@@ -189,6 +198,7 @@ impl<'a, W: Write, C: Calls> Notes<'a, W, C> {
             is_terminal: false,
             lines: 0,
             number: 0,
+            command: String::new(alloc),
             kind: None,
             is_other_file: false,
             group: None,
@@ -200,18 +210,30 @@ impl<'a, W: Write, C: Calls> Notes<'a, W, C> {
         let _ = write_whole(&mut self.errors, text.as_bytes());
     }
 
-    /// Names the line that is run next, over the one before where that is a terminal.
-    fn name_line(&mut self, line: &[u8]) -> Result<(), AllocError> {
+    /// Names the line that is run, and how far it is, over what stands there where that is a terminal.
+    fn name_line(&mut self, how_far: &str) -> Result<(), AllocError> {
         let (number, lines) = (self.number, self.lines);
-        let command = shown(self.alloc, line)?;
-        let (before, behind) = if self.is_terminal {
+        let command = self.command.as_str();
+        let (before, end) = if self.is_terminal {
             (ERASED, "")
         } else {
             ("", "\n")
         };
-        let text = format!(in self.alloc; "{before}{number} of {lines}  {command}{behind}")?;
+        let text = format!(in self.alloc; "{before}{number} of {lines}  {command}{how_far}{end}")?;
         self.write(text.as_str());
         Ok(())
+    }
+
+    /// Names the line that is run next.
+    fn name_next(&mut self, line: &[u8]) -> Result<(), AllocError> {
+        self.command = shown(self.alloc, line)?;
+        self.name_line("")
+    }
+
+    /// Names the plot that is run, and how many of its dirty tiles it has drawn.
+    fn name_tiles(&mut self, done: u32, dirty: u32) -> Result<(), AllocError> {
+        let how_far = format!(in self.alloc; "  {done} of {dirty} tiles")?;
+        self.name_line(how_far.as_str())
     }
 
     /// Why a line is bad; nothing where it was told that the script is a file of another kind.
@@ -344,7 +366,25 @@ impl<C: Calls, W: Write, D: Calls> Watch<Disk<'_, D>> for Notes<'_, W, C> {
         self.number = number;
         self.course.begins(line);
         if self.call.progress && is_run(line) {
-            let _ = self.name_line(line);
+            let _ = self.name_next(line);
+        }
+    }
+
+    fn tiles_at_once(&self, dirty: u32) -> u32 {
+        if !self.call.progress {
+            return dirty;
+        }
+        let parts = if self.is_terminal {
+            PARTS
+        } else {
+            PARTS_IN_LOG
+        };
+        dirty.div_ceil(parts).max(LEAST_TOLD)
+    }
+
+    fn drawn(&mut self, done: u32, dirty: u32) {
+        if self.call.progress && done < dirty {
+            let _ = self.name_tiles(done, dirty);
         }
     }
 

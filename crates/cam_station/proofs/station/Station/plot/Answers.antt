@@ -12,7 +12,7 @@ use Rattle.cam_station.proofs.station.Station.plot.Goals as goal
 use Rattle.cam_station.proofs.station.Station.plot.Goals.{in-Ok, in-Err}
 
 pub invariant_of-self : goal.invariant_of-self
-invariant_of-self c =
+invariant_of-self g c =
     let i = c.self.inside in
     let sheets = sheets_of i.board in
     let place = c.in-Some.place in
@@ -20,15 +20,15 @@ invariant_of-self c =
     let content = content_at sheets place in
     let there = table_there i.history.depth i.window sheets i.rasters.items place t c.self.invariant.0 (search rules)
     c.in-Some.ensures.within c.index_mut-raster.ensures.value in
-    let new : c.draw-drawn.new.raster ≡ drawn content t = search rules in (
+    let new : c.draw_watched-drawn.new.raster ≡ drawn content t = search rules in (
       station_drawn i.history.depth i.window sheets content i.rasters.items _ place c.self.invariant.0
-          (layer_drawn content i.rasters.items place t c.draw-drawn.new.raster there new),
+          (layer_drawn content i.rasters.items place t c.draw_watched-drawn.new.raster there new),
       c.self.invariant.1,
       c.self.invariant.2,
     )
 
 pub returns : goal.returns
-returns c =
+returns g c =
     let i = c.self.inside in
     let sheets = sheets_of i.board in
     let place = c.in-Some.place in
@@ -37,12 +37,12 @@ returns c =
     let content = content_at sheets place in
     let there = table_there i.history.depth i.window sheets i.rasters.items place t c.self.invariant.0 (search rules)
     c.in-Some.ensures.within c.index_mut-raster.ensures.value in
-    let new : c.draw-drawn.new.raster ≡ drawn content t = search rules in
-    let tables = layer_drawn content i.rasters.items place t c.draw-drawn.new.raster there new in
+    let new : c.draw_watched-drawn.new.raster ≡ drawn content t = search rules in
+    let tables = layer_drawn content i.rasters.items place t c.draw_watched-drawn.new.raster there new in
     let s = seen i.window i.history sheets i.rasters.items in
     elim c.match-to_pbm.branch [
       | in-Ok w ↦ (
-          let count : w.from.result ≡ dirty_count t = omega (arith, w.from.ensures, c.draw-drawn.ensures.drawn, c.dirty-dirty.ensures) in
+          let count : w.from.result ≡ dirty_count t = omega (arith, w.from.ensures, c.draw_watched-drawn.ensures.count) in
           let file : w.from_vec.result ≡ pbm_of (drawn content t) =
           w.from_vec.ensures ∙ (w.in-Ok.ensures.bytes ∙ ap pbm_of new) in
           rw w.result-is
@@ -59,10 +59,10 @@ returns c =
     ]
 
 pub returns-then-is_none : goal.returns-then-is_none
-returns-then-is_none c = grind (arith)
+returns-then-is_none g c = grind (arith)
 
 pub returns-in_default : goal.returns-in_default
-returns-in_default c = grind (arith)
+returns-in_default g c = grind (arith)
 
 pub index_mut-raster-requires : goal.index_mut-raster-requires
-index_mut-raster-requires c = grind (arith)
+index_mut-raster-requires g c = grind (arith)
