@@ -5,6 +5,7 @@ import re
 
 from crates import file_sum, files_below, sum_of
 from judging import PROOF
+from switched import LAID
 
 HERE = os.path.dirname(os.path.realpath(__file__))
 TABLE = f"{HERE}/listed.d/evidence"
@@ -73,8 +74,8 @@ def proof_sum(crate, edit):
 def run_sum(root, text):
     """A checksum of the case, the row or the test in which a wrong program shows itself; None if it is not there."""
     kind, name = text.split(" ", 2)[:2]
-    if kind == "session:":
-        return file_sum(f"{HERE}/listed.d/session")[:16]
+    if kind[:-1] in LAID.values():
+        return file_sum(f"{HERE}/listed.d/{kind[:-1]}")[:16]
     if kind == "case":
         folder = f"{root}/black_box/cases/{name.rstrip(':')}"
         return sum_of([(it, file_sum(f"{folder}/{it}")) for it in files_below(folder, ".")])[:16] if os.path.isdir(folder) else None

@@ -10,8 +10,8 @@ import time
 
 HERE = os.path.dirname(os.path.realpath(__file__))
 SWITCH = "edit_switch"
-# The test of the C library.
-SESSION = f"{HERE}/listed.d/session"
+# The tests in listed.d that are laid into copies of crates, by the crate: of what no other test or script can reach.
+LAID = {"cam_c": "session", "camplot": "streams"}
 SOURCE = """//! Whether a wrong body is on.
 
 unsafe extern "C" {
@@ -80,11 +80,11 @@ def lay(crates, folder):
             with open(f"{folder}/crates/{crate.name}/{file}", "w", encoding="utf-8") as it:
                 it.write(text)
     for crate in crates.values():
-        if crate.is_static:
-            # (no program but a test can call it)
-            shutil.copy(SESSION, f"{folder}/crates/{crate.name}/src/session_test.rt")
-            with open(f"{folder}/crates/{crate.name}/src/lib.rt", "a", encoding="utf-8") as it:
-                it.write("#[cfg(test)]\nmod session_test;\n")
+        if crate.name in LAID:
+            test, root = LAID[crate.name], "main" if crate.is_program else "lib"
+            shutil.copy(f"{HERE}/listed.d/{test}", f"{folder}/crates/{crate.name}/src/{test}_test.rt")
+            with open(f"{folder}/crates/{crate.name}/src/{root}.rt", "a", encoding="utf-8") as it:
+                it.write(f"#[cfg(test)]\nmod {test}_test;\n")
     for part in ("src", "c"):
         os.makedirs(f"{folder}/crates/{SWITCH}/{part}")
     shutil.copy(f"{HERE}/switch.c", f"{folder}/crates/{SWITCH}/c")

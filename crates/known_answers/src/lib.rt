@@ -13,6 +13,8 @@ mod apertures;
 #[cfg(test)]
 mod attributes;
 #[cfg(test)]
+mod boards;
+#[cfg(test)]
 mod commands;
 #[cfg(test)]
 mod drills;
