@@ -3,7 +3,7 @@ use Rattle.std.proofs.Common.{◌≡◌, ◌∙◌, ℕ, zero, suc, ◌+◌, Boo
 use Rattle.cam_units.specs.declared.point.Spot.{Spot}
 use Rattle.cam_tiles.specs.Tables.{Table, Tile, drawn_from, redrawn}
 use Rattle.cam_tiles.specs.Tiles.{grid_of, tile_rows}
-use Rattle.cam_tiles.proofs.DrawnTiles.{none_drawn, redraw_law}
+use Rattle.cam_tiles.proofs.DrawnTiles.{none_drawn}
 
 -- those of least number, and then more
 drawn_more : (draw : ℕ → List ℕ) (k a b : ℕ) (tiles : List Tile)
@@ -21,9 +21,9 @@ drawn_more draw k (suc a) b (None ∷ tiles) =
 module _ (image : Spot → Bool) (t : Table) where
   -- at first none is drawn
   pub none_redrawn : t ≡ redrawn image 0 t
-  none_redrawn = ap (λ tiles. record { window = t.window; tiles = tiles; })
+  none_redrawn = ap (λ tiles. record { window = t.window; tiles = tiles })
       (sym (none_drawn (λ k. tile_rows image (grid_of t.window k)) 0 t.tiles))
 
   pub redrawn_more : (a b : ℕ) → redrawn image b (redrawn image a t) ≡ redrawn image (a + b) t
-  redrawn_more a b = ap (λ tiles. record { window = t.window; tiles = tiles; })
+  redrawn_more a b = ap (λ tiles. record { window = t.window; tiles = tiles })
       (drawn_more (λ k. tile_rows image (grid_of t.window k)) 0 a b t.tiles)

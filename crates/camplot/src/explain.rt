@@ -11,6 +11,7 @@ mod forms;
 mod kind;
 mod near;
 mod place;
+mod progress;
 mod quotes;
 mod remedies;
 mod white;
@@ -29,6 +30,7 @@ use cam_station::{Fault, Reply, Station, Watch};
 use forms::begins_with_command;
 use kind::kind_of;
 use place::{column_at, line_at};
+use progress::tiles_at_once;
 use quotes::quoted;
 use remedies::remedy_of;
 use std::alloc::{AllocError, Global};
@@ -44,13 +46,6 @@ const OPEN: &str = "the script ends inside this group: no `end` and no `abort` c
 
 /// Erases the line of a terminal on which progress stands.
 const ERASED: &str = "\r\u{1b}[K";
-
-/// How many tiles a plot draws at least before it is told how far it is.
-const LEAST_TOLD: u32 = 1024;
-
-/// In how many parts a plot is told on a terminal, and in a log.
-const PARTS: u32 = 32;
-const PARTS_IN_LOG: u32 = 4;
 
 /// The line as it is shown: its first 60 bytes, with `?` for each that is not printed as it is.
 fn shown(alloc: Global, line: &[u8]) -> Result<String, AllocError> {
@@ -374,12 +369,7 @@ impl<C: Calls, W: Write, D: Calls> Watch<Disk<'_, D>> for Notes<'_, W, C> {
         if !self.call.progress {
             return dirty;
         }
-        let parts = if self.is_terminal {
-            PARTS
-        } else {
-            PARTS_IN_LOG
-        };
-        dirty.div_ceil(parts).max(LEAST_TOLD)
+        tiles_at_once(dirty, self.is_terminal)
     }
 
     fn drawn(&mut self, done: u32, dirty: u32) {

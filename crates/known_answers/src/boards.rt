@@ -33,10 +33,12 @@ fn put(alloc: Global, sheet: usize) -> Result<BoardStep, Fail> {
 /// Whether the layer of a sheet has room for an attribute.
 fn has_room(board: &Board, sheet: usize) -> bool {
     match board.sheet(sheet) {
-        Some(Sheet {
-            content: SheetContent::Gerber(layer),
-            ..
-        }) => layer.layer().attributes.capacity() > 0,
+        Some(
+            Sheet {
+                content: SheetContent::Gerber(layer),
+                ..
+            },
+        ) => layer.layer().attributes.capacity() > 0,
         _ => false,
     }
 }

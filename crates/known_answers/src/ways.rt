@@ -164,9 +164,7 @@ fn each_way(rt: HostRuntime) -> Result<(), Fail> {
 }
 
 /// A region whose contour does not end at its start.
-const LEFT_OPEN: &[&[u8]] = &[
-    b"%FSLAX66Y66*%%MOMM*%G36*X5Y70D02*X60Y70D01*X60Y130D01*G37*M02*",
-];
+const LEFT_OPEN: &[&[u8]] = &[b"%FSLAX66Y66*%%MOMM*%G36*X5Y70D02*X60Y70D01*X60Y130D01*G37*M02*"];
 
 #[test]
 fn each_way_of_an_open_contour(rt: HostRuntime) -> Result<(), Fail> {
