@@ -287,8 +287,7 @@ impl Station {
             return Err(without_place(Refusal::NoWindow));
         }
         let raster = &mut self.rasters[place];
-        let content = self.board.content(place);
-        let drawn = draw_watched::<F, V>(self.alloc, content, raster, watch);
+        let drawn = draw_watched::<F, V>(self.alloc, self.board.content(place), raster, watch);
         match raster.to_pbm() {
             Ok(bytes) => Ok(Reply::Bytes {
                 bytes: Bytes::from_vec(bytes),
