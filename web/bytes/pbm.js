@@ -5,8 +5,8 @@
  * @typedef {{width: number, height: number, stride: number, bits: Uint8Array}} Picture
  */
 
-/** @param {number} byte */
-const isBlank = (byte) => byte === 32 || byte >= 9 && byte <= 13;
+/** @param {number | undefined} byte  undefined past the end */
+const isBlank = (byte) => byte === 32 || byte !== undefined && byte >= 9 && byte <= 13;
 
 /**
  * Whether bytes begin as a raw PBM file.
@@ -32,7 +32,9 @@ export function readPbm(bytes) {
     }
     let value = 0;
     const start = at;
-    for (; bytes[at] >= 48 && bytes[at] <= 57 && at < start + 10; at++) value = 10 * value + bytes[at] - 48;
+    for (let digit = bytes[at] ?? 0; digit >= 48 && digit <= 57 && at < start + 10; digit = bytes[++at] ?? 0) {
+      value = 10 * value + digit - 48;
+    }
     return value;
   };
   const width = number(), height = number(), stride = Math.ceil(width / 8);

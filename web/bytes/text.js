@@ -20,7 +20,7 @@ export function latin1(bytes) {
 
 /** @param {Uint8Array} bytes */
 function isAscii(bytes) {
-  for (let at = 0; at < bytes.length; at++) if (bytes[at] > 127) return false;
+  for (let at = 0; at < bytes.length; at++) if ((bytes[at] ?? 0) > 127) return false;
   return true;
 }
 

@@ -85,8 +85,9 @@ const MOST_TRIED = 32;
 export function waysToConvert(askedBy) {
   /** @type {Chosen[]} */
   const ways = [], tried = [{}];
-  for (let at = 0; at < tried.length && at < MOST_TRIED; at++) {
-    const choices = tried[at];
+  let count = 0;
+  for (const choices of tried) {
+    if (count++ >= MOST_TRIED) break;
     const asked = askedBy(choices);
     if (asked === null) {
       ways.push(choices);

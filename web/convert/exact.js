@@ -77,9 +77,10 @@ export function decimal(text) {
   if (found === null) {
     return null;
   }
-  const [whole, fraction = ""] = found[2].split(".");
+  const [, sign, size = ""] = found;
+  const [whole, fraction = ""] = size.split(".");
   const digits = BigInt(whole + fraction);
-  return rational(found[1] === "-" ? -digits : digits, 10n ** BigInt(fraction.length));
+  return rational(sign === "-" ? -digits : digits, 10n ** BigInt(fraction.length));
 }
 
 /**

@@ -71,8 +71,7 @@ export function toldChanges(changes) {
  * @returns {string}
  */
 function linesText(lines) {
-  const first = lines[0];
-  const last = lines[lines.length - 1];
+  const [first = 0] = lines, last = lines.at(-1) ?? first;
   if (lines.length === 1) {
     return `line ${first}`;
   }

@@ -86,9 +86,9 @@ export function turnOf(degrees) {
   let turn = known.get(key);
   if (turn === undefined) {
     const { cos, sin } = firstQuarter(modulo(angle, 90n));
-    turn = [{ cos, sin }, { cos: -sin, sin: cos }, { cos: -cos, sin: -sin }, { cos: sin, sin: -cos }][
-      Number(angle.n / (90n * angle.d))
-    ];
+    const quarter = angle.n / (90n * angle.d);
+    turn = quarter === 0n ? { cos, sin } : quarter === 1n ? { cos: -sin, sin: cos } : quarter === 2n ? { cos: -cos, sin: -sin }
+      : { cos: sin, sin: -cos };
     if (known.size > 10_000) {
       known.clear();
     }

@@ -18,5 +18,7 @@ export function digitsOf(text) {
  */
 export function toolOf(word, shown) {
   const found = /^T?0*(\d{1,4})=(\d+\.?\d*|\.\d+)(mm|inch|in|mil)?$/.exec(word);
-  return found && { number: Number(found[1]), size: found[2], unit: found[3] ?? null, shown };
+  if (!found) return null;
+  const [, number, size = "", unit = null] = found;
+  return { number: Number(number), size, unit, shown };
 }

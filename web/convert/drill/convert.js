@@ -14,6 +14,8 @@ import { Reader } from "./reader.js";
 import { allowedDiameter } from "./tools.js";
 import { xncBytes } from "./write.js";
 
+/** @typedef {import("./lengths.js").Unit} Unit */
+
 /**
  * What is known beside the file; all may be missing.
  * @typedef {object} DrillOptions
@@ -35,6 +37,7 @@ import { xncBytes } from "./write.js";
  */
 
 // The file without a byte order mark, the leader of a tape and what old systems put behind the end.
+/** @param {Uint8Array} bytes @param {Changes} changes */
 function cleaned(bytes, changes) {
   let start = 0, end = bytes.length;
   if (hasByteOrderMark(bytes)) {
@@ -48,6 +51,7 @@ function cleaned(bytes, changes) {
   return bytes.subarray(start, end);
 }
 
+/** @param {DrillOptions["report"]} report */
 function hintsOf(report) {
   const hints = new Hints();
   if (!report) return hints;
@@ -56,8 +60,9 @@ function hintsOf(report) {
   return hints;
 }
 
+/** @param {NonNullable<DrillOptions["tools"]>} tools @param {Unit} unit */
 function givenTools(tools, unit) {
-  const given = new Map();
+  const given = new Map(/** @type {[number, number][]} */ ([]));
   for (const tool of tools) {
     try {
       given.set(tool.number, allowedDiameter(sizeOf(tool.size, tool.unit ?? unit, unit), unit, "it"));
@@ -70,13 +75,16 @@ function givenTools(tools, unit) {
 }
 
 // What the text that is to be written does: read with points alone, and nothing given.
+/** @param {Uint8Array} bytes @param {Unit} unit */
 function readBack(bytes, unit) {
   const reader = new Reader(unit, null, null, new Map(), new Map());
   reader.read(linesOf(bytes));
-  if (reader.refusals.length) throw new Error(`the text that was made does not read: ${reader.refusals[0].what}`);
+  const [refusal] = reader.refusals;
+  if (refusal) throw new Error(`the text that was made does not read: ${refusal.what}`);
   return reader.drilling;
 }
 
+/** @param {number[]} values @param {Unit} unit */
 function rangeText(values, unit) {
   let least = Infinity, most = -Infinity;
   for (const value of values) {
@@ -86,8 +94,9 @@ function rangeText(values, unit) {
   return `${micrometres(least, unit)} to ${micrometres(most, unit)}`;
 }
 
+/** @param {import("./drilling.js").Drilling} read @param {Hints} hints */
 function looksOf(read, hints) {
-  const counts = new Map();
+  const counts = new Map(/** @type {[number, number][]} */ ([]));
   for (const tool of read.itemTools) counts.set(tool, (counts.get(tool) ?? 0) + 1);
   return [...hints.tools].sort(([one], [other]) => one - other)
     .filter(([number, told]) => told.count !== null && told.count !== (counts.get(number) ?? 0))
@@ -96,6 +105,13 @@ function looksOf(read, hints) {
     });
 }
 
+/**
+ * @param {Reader} reader
+ * @param {import("../report.js").Change[]} changes
+ * @param {import("./drilling.js").Drilling} again
+ * @param {Form} form
+ * @param {Hints} hints
+ */
 function accountOf(reader, changes, again, form, hints) {
   const { drilling: read, machine: { slots: byG85 } } = reader;
   const slots = byG85 ? `${read.routs} (${byG85} by G85, ${read.routs - byG85} by M15)` : `${read.routs}`;
@@ -111,6 +127,7 @@ function accountOf(reader, changes, again, form, hints) {
   ];
 }
 
+/** @param {import("../report.js").Refusal[]} refusals @returns {Converted} */
 function refused(refusals) {
   return { bytes: null, refusals, changes: [], account: [] };
 }
@@ -124,13 +141,16 @@ function refused(refusals) {
  * @throws {Failure} where an option cannot be used
  */
 export function convertDrill(bytes, options = {}) {
-  const changes = new Changes(), refusals = [];
+  const changes = new Changes();
+  /** @type {import("../report.js").Refusal[]} */
+  const refusals = [];
   const lines = linesOf(cleaned(bytes, changes));
   const hints = hintsOf(options.report);
   hints.join(hintsIn(lines, refusals));
   for (const source of hints.incremental) {
     refusals.push({ place: source, what: "coordinates are incremental: choose absolute ones" });
   }
+  /** @type {Form | null} */
   let form = null;
   try {
     form = new Form(options, hints, lines);
@@ -139,7 +159,7 @@ export function convertDrill(bytes, options = {}) {
     if (!(fault instanceof Unsaid)) throw fault;
     refusals.push({ place: "form", what: fault.message });
   }
-  if (refusals.length) return refused(refusals);
+  if (form === null || refusals.length) return refused(refusals);
   const unit = form.unit.value, given = givenTools(options.tools ?? [], unit);
   const reader = new Reader(unit, form.digits?.value ?? null, form.zeros?.value ?? null, given, hints.tools);
   reader.read(lines);

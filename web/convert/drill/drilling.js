@@ -62,10 +62,11 @@ export class Drilling {
   isSame(other) {
     return this.unit === other.unit && this.diameters.size === other.diameters.size
       && [...this.diameters].every(([number, diameter]) => other.diameters.get(number) === diameter)
-      && ["itemTools", "pointCounts", "xs", "ys"].every((column) => areSame(this[column], other[column]));
+      && areSame(this.itemTools, other.itemTools) && areSame(this.pointCounts, other.pointCounts)
   }
 }
 
+/** @param {number[]} one @param {number[]} other */
 function areSame(one, other) {
   if (one.length !== other.length) return false;
   for (let at = 0; at < one.length; at++) if (one[at] !== other[at]) return false;

@@ -5,38 +5,53 @@ import { Unsaid } from "../report.js";
 import { DEFAULT_DIGITS } from "./hints.js";
 import { BOTH, LEADING, MM, TRAILING } from "./lengths.js";
 
+/** @typedef {import("./lengths.js").Digits} Digits */
+/** @typedef {import("./lengths.js").Unit} Unit */
+/** @typedef {import("./lengths.js").Zeros} Zeros */
+
 /**
  * Digits as `2:4`.
- * @param {import("./lengths.js").Digits} digits
+ * @param {Digits} digits
  */
 function digitsText({ whole, decimals }) {
   return `${whole}:${decimals}`;
 }
 
+/** @type {Record<string, string>} */
 const ZEROS_WORDS = {
   [LEADING]: "leading ones are written, trailing ones left out",
   [TRAILING]: "trailing ones are written, leading ones left out",
   [BOTH]: "all are written",
 };
 
+/** @param {import("./hints.js").Told<string | Digits>} told */
 function toldText({ value, source }) {
   return `${typeof value === "string" ? ZEROS_WORDS[value] ?? value : digitsText(value)} (${source})`;
 }
 
+/** @param {string | Digits} one @param {string | Digits} other */
 function isSame(one, other) {
-  return typeof one === "string" ? one === other : digitsText(one) === digitsText(other);
+  return typeof one === "string" || typeof other === "string" ? one === other : digitsText(one) === digitsText(other);
 }
 
-// The option's value, else what all sources agree on; null where there is none.
+/**
+ * The option's value, else what all sources agree on; null where there is none.
+ * @template {string | Digits} T
+ * @param {string} kind
+ * @param {T | null | undefined} chosen
+ * @param {import("./hints.js").Told<T>[]} told
+ * @param {string} option
+ * @returns {import("./hints.js").Told<T> | null}
+ */
 function settled(kind, chosen, told, option) {
   if (chosen) return { value: chosen, source: option };
   const definite = told.filter(({ value }) => value !== BOTH);
-  const found = definite.length ? definite : told;
-  const other = found.find(({ value }) => !isSame(value, found[0].value));
-  if (other) {
-    throw new Unsaid(`the ${kind} is given in two ways, ${toldText(found[0])} and ${toldText(other)}: choose one by ${option}`);
+  const [first = null, ...others] = definite.length ? definite : told;
+  const other = first && others.find(({ value }) => !isSame(value, first.value));
+  if (first && other) {
+    throw new Unsaid(`the ${kind} is given in two ways, ${toldText(first)} and ${toldText(other)}: choose one by ${option}`);
   }
-  return found[0] ?? null;
+  return first;
 }
 
 /**
@@ -45,6 +60,7 @@ function settled(kind, chosen, told, option) {
  */
 
 // Whether the line that begins there does so with a code and not with a word.
+/** @param {string} text @param {number} start */
 function isCoded(text, start) {
   const first = text.charCodeAt(start), second = text.charCodeAt(start + 1);
   const isDigit = second >= 48 && second <= 57;
@@ -54,12 +70,13 @@ function isCoded(text, start) {
 
 // Calls `each(start, end, line)` with each run of digits that is a coordinate without a point and is not 0, of lines that
 // begin with a code and not with a word.
+/** @param {import("./lines.js").Lines} lines @param {(start: number, end: number, line: number) => void} each */
 function forEachPointless(lines, each) {
   const { text } = lines;
   for (let line = 0; line < lines.count; line++) {
-    const last = lines.endOf(line);
-    if (!isCoded(text, lines.starts[line])) continue;
-    for (let at = lines.starts[line]; at < last; at++) {
+    const first = lines.startOf(line), last = lines.endOf(line);
+    if (!isCoded(text, first)) continue;
+    for (let at = first; at < last; at++) {
       const letter = text.charCodeAt(at);
       if (letter !== 88 && letter !== 89) continue;
       const sign = text.charCodeAt(at + 1);
@@ -79,6 +96,7 @@ function forEachPointless(lines, each) {
  * @returns {Pointless[]}
  */
 function pointlessIn(lines) {
+  /** @type {Pointless[]} */
   const found = [], seen = new Set(), { text } = lines;
   forEachPointless(lines, (start, end, line) => {
     const key = 4 * (end - start) + (text.charCodeAt(start) === 48 ? 2 : 0) + (text.charCodeAt(end - 1) === 48 ? 1 : 0);
@@ -90,6 +108,7 @@ function pointlessIn(lines) {
 }
 
 // The first coordinate that has a zero which the others leave out, so that these zeros may be the wrong ones.
+/** @param {Pointless[]} numbers @param {Digits} digits @param {Zeros} zeros */
 function oddZeros(numbers, { whole, decimals }, zeros) {
   const all = whole + decimals;
   if (zeros === LEADING) {
@@ -100,12 +119,14 @@ function oddZeros(numbers, { whole, decimals }, zeros) {
 }
 
 // The zeros that are written, where the coordinates themselves leave one choice.
+/** @param {Pointless[]} numbers @param {Digits} digits @returns {import("./hints.js").Told<Zeros>} */
 function zerosThatFit(numbers, digits) {
   const all = digits.whole + digits.decimals;
   if (numbers.every((number) => number.digits.length === all)) {
     return { value: BOTH, source: `every coordinate has all ${all} digits` };
   }
   const noLeading = oddZeros(numbers, digits, LEADING), noTrailing = oddZeros(numbers, digits, TRAILING);
+  /** @type {(odd: Pointless, what: string) => string} */
   const source = (odd, what) => `worked out: ${odd.digits} on line ${odd.line} has a ${what} zero`;
   if (noLeading && !noTrailing) return { value: TRAILING, source: source(noLeading, "trailing") };
   if (noTrailing && !noLeading) return { value: LEADING, source: source(noTrailing, "leading") };
@@ -114,6 +135,7 @@ function zerosThatFit(numbers, digits) {
 }
 
 // Whether a coordinate of so many digits can stand in this form; with trailing zeros the board's limit judges instead.
+/** @param {number} length @param {Digits} digits @param {Zeros} zeros */
 function fits(length, { whole, decimals }, zeros) {
   const all = whole + decimals;
   if (zeros === BOTH) return length === all;
@@ -125,7 +147,7 @@ const LENGTH = /[XYT]\d|[XY][+\-.]/;
 /** The unit, digits and zeros of a file, each with where it comes from; digits and zeros are null where none is needed. */
 export class Form {
   /**
-   * @param {{unit?: string | null, digits?: import("./lengths.js").Digits | null, zeros?: string | null}} options
+   * @param {Pick<import("./convert.js").DrillOptions, "unit" | "digits" | "zeros">} options
    * @param {import("./hints.js").Hints} hints
    * @param {import("./lines.js").Lines} lines
    * @throws {Unsaid} where the unit or the zeros are not told, or something is given in two ways
@@ -134,7 +156,10 @@ export class Form {
     this.lines = lines;
     this.numbers = pointlessIn(lines);
     this.unit = settled("unit", options.unit, hints.units, "--unit") ?? this.unitOfNothing();
-    this.digits = this.zeros = null;
+    /** @type {import("./hints.js").Told<Digits> | null} */
+    this.digits = null;
+    /** @type {import("./hints.js").Told<Zeros> | null} */
+    this.zeros = null;
     if (this.numbers.length) {
       this.digits = settled("number of digits", options.digits, hints.digits, "--format")
         ?? { value: DEFAULT_DIGITS[this.unit.value], source: `assumed: what Excellon machines take in ${this.unit.value}` };
@@ -143,6 +168,7 @@ export class Form {
     }
   }
 
+  /** @returns {import("./hints.js").Told<Unit>} */
   unitOfNothing() {
     if (this.numbers.length || LENGTH.test(this.lines.text)) {
       throw new Unsaid("the unit is not given: give --unit mm or --unit inch");
@@ -152,8 +178,9 @@ export class Form {
 
   /** The coordinates that have more digits, or fewer, than the form allows. */
   refusals() {
+    /** @type {import("../report.js").Refusal[]} */
     const refusals = [];
-    if (!this.numbers.length) return refusals;
+    if (!this.digits || !this.zeros) return refusals;
     const digits = this.digits.value, zeros = this.zeros.value;
     if (this.numbers.every((number) => fits(number.digits.length, digits, zeros))) return refusals;
     forEachPointless(this.lines, (start, end, line) => {
@@ -166,7 +193,7 @@ export class Form {
 
   /** What is told of the form, line by line. */
   told() {
-    if (!this.numbers.length) {
+    if (!this.digits || !this.zeros) {
       return [`unit: ${toldText(this.unit)}`, "digits and zeros: not needed, each coordinate has a point or is 0"];
     }
     const odd = oddZeros(this.numbers, this.digits.value, this.zeros.value);

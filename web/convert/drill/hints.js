@@ -37,7 +37,10 @@ export class Hints {
    * @param {Hints} other
    */
   join(other) {
-    for (const kind of ["units", "digits", "zeros", "incremental"]) this[kind].push(...other[kind]);
+    this.units.push(...other.units);
+    this.digits.push(...other.digits);
+    this.zeros.push(...other.zeros);
+    this.incremental.push(...other.incremental);
     for (const [number, tool] of other.tools) this.tools.set(number, tool);
   }
 
@@ -47,19 +50,25 @@ export class Hints {
   }
 
   /** Adds digits, given as numbers or as their texts. */
+  /**
+   * @param {number | string} whole
+   * @param {number | string} decimals
+   * @param {string} source
+   */
   addDigits(whole, decimals, source) {
     this.digits.push({ value: { whole: Number(whole), decimals: Number(decimals) }, source });
   }
 
   /** Adds a source that tells of incremental coordinates, where its word is not "absolute". */
+  /** @param {string} mode @param {string} source */
   addMode(mode, source) {
     if (mode.toLowerCase() !== "absolute") this.incremental.push(source);
   }
 }
 
-const UNITS = { METRIC: MM, INCH, M71: MM, M72: INCH };
 const HEADER_UNIT = /^(METRIC|INCH|M71|M72)((?:,[^,]*)*)$/;
-const HEADER_ZEROS = { LZ: LEADING, TZ: TRAILING };
+/** @type {Map<string, import("./lengths.js").Zeros>} */
+const HEADER_ZEROS = new Map([["LZ", LEADING], ["TZ", TRAILING]]);
 const HEADER_DIGITS = /^(0+)\.(0+)$/;
 
 /**
@@ -72,12 +81,12 @@ const HEADER_DIGITS = /^(0+)\.(0+)$/;
 export function unitHints(code, line) {
   const found = HEADER_UNIT.exec(code);
   if (!found) return null;
-  const hints = new Hints(), source = `${code} on line ${line}`;
-  hints.units.push({ value: UNITS[found[1]], source });
-  for (const word of found[2].split(",").slice(1)) {
-    const digits = HEADER_DIGITS.exec(word);
-    if (Object.hasOwn(HEADER_ZEROS, word)) hints.zeros.push({ value: HEADER_ZEROS[word], source });
-    else if (digits) hints.addDigits(digits[1].length, digits[2].length, source);
+  const [, name, words = ""] = found, hints = new Hints(), source = `${code} on line ${line}`;
+  hints.units.push({ value: name === "METRIC" || name === "M71" ? MM : INCH, source });
+  for (const word of words.split(",").slice(1)) {
+    const digits = HEADER_DIGITS.exec(word), zeros = HEADER_ZEROS.get(word);
+    if (zeros) hints.zeros.push({ value: zeros, source });
+    else if (digits) hints.addDigits(digits[1]?.length ?? 0, digits[2]?.length ?? 0, source);
     else throw new Unsaid(`${code}: ${word || "nothing"} after a comma is not known: choose METRIC or INCH, LZ or TZ`);
   }
   return hints;
@@ -87,7 +96,8 @@ export function unitHints(code, line) {
 const COMMENT = 500;
 const ALTIUM_FORMAT = /FILE_FORMAT=(\d):(\d)/;
 const KICAD_FORMAT = /FORMAT=\{([\d-]):([\d-])\s*\/\s*(\w+)\s*\/\s*(\w+)\s*\/\s*([\w ]+?)\s*\}/i;
-const KICAD_ZEROS = { "suppress leading zeros": TRAILING, "suppress trailing zeros": LEADING, "keep zeros": BOTH };
+/** @type {Map<string, import("./lengths.js").Zeros>} */
+const KICAD_ZEROS = new Map([["suppress leading zeros", TRAILING], ["suppress trailing zeros", LEADING], ["keep zeros", BOTH]]);
 const MENTOR_FORMAT = /Format\s*:\s*(\d)\.(\d)\s*\/\s*(\w+)\s*\/\s*(MM|INCH)\b/i;
 const ALLEGRO_TOOL = new RegExp("(?:T(\\d+)\\s+)?Holesize\\s+(\\d+)\\.?\\s*=\\s*([\\d.]+)\\b.*\\b(MILS|INCHES|MM|MICRONS)\\b"
   + "(?:\\s+Quantity\\s*=\\s*(\\d+))?", "i");
@@ -95,17 +105,17 @@ const ALLEGRO_TOOL = new RegExp("(?:T(\\d+)\\s+)?Holesize\\s+(\\d+)\\.?\\s*=\\s*
 /** @param {RegExpExecArray} found @param {number} line */
 function kicadHints(found, line) {
   const hints = new Hints(), source = `the comment FORMAT={..} on line ${line}`;
-  const [, whole, decimals, mode, unit, zeros] = found;
+  const [, whole = "", decimals = "", mode = "", unit = "", zeros = ""] = found;
   if (whole !== "-" && decimals !== "-") hints.addDigits(whole, decimals, source);
   hints.units.push({ value: unit.toLowerCase() === "metric" ? MM : INCH, source });
   hints.addMode(mode, source);
-  const value = KICAD_ZEROS[zeros.toLowerCase()];
+  const value = KICAD_ZEROS.get(zeros.toLowerCase());
   if (value) hints.zeros.push({ value, source });
   return hints;
 }
 
 /** @param {RegExpExecArray} found @param {number} line */
-function mentorHints([, whole, decimals, mode, unit], line) {
+function mentorHints([, whole = "", decimals = "", mode = "", unit = ""], line) {
   const hints = new Hints(), source = `the comment Format : .. on line ${line}`;
   hints.addDigits(whole, decimals, source);
   hints.units.push({ value: unitOf(unit), source });
@@ -124,21 +134,24 @@ export function commentHints(comment, line) {
   const hints = new Hints();
   const altium = ALTIUM_FORMAT.exec(comment), kicad = KICAD_FORMAT.exec(comment), mentor = MENTOR_FORMAT.exec(comment);
   if (altium) {
-    hints.addDigits(altium[1], altium[2], `${altium[0]} in the comment on line ${line}`);
+    const [shown, whole = "", decimals = ""] = altium;
+    hints.addDigits(whole, decimals, `${shown} in the comment on line ${line}`);
     return hints;
   }
   if (kicad) return kicadHints(kicad, line);
   if (mentor) return mentorHints(mentor, line);
   const tool = ALLEGRO_TOOL.exec(comment);
   if (tool) {
-    const count = tool[5] === undefined ? null : Number(tool[5]);
-    hints.tools.set(Number(tool[1] ?? tool[2]),
-      { diameter: tool[3], unit: tool[4], count, source: `the comment on line ${line}` });
+    const [, number, byHole, diameter = "", unit = "", quantity] = tool;
+    const count = quantity === undefined ? null : Number(quantity);
+    hints.tools.set(Number(number ?? byHole),
+      { diameter, unit, count, source: `the comment on line ${line}` });
   }
   return hints;
 }
 
 /** Whether a comment is about digits or zeros, which the XNC file no longer has. */
+/** @param {string} comment */
 export function tellsForm(comment) {
   return comment.length <= COMMENT && [ALTIUM_FORMAT, KICAD_FORMAT, MENTOR_FORMAT].some((form) => form.test(comment));
 }
@@ -157,32 +170,38 @@ const ALLEGRO_WORD = /^[ \t]*([A-Z][A-Z-]+)[ \t]+(\S+)[ \t]*$/gm;
 export function reportHints(text, name) {
   const found = EAGLE_UNITS.exec(text);
   if (!found) {
-    const words = new Map([...text.matchAll(ALLEGRO_WORD)].map(([, word, value]) => [word, value.toUpperCase()]));
+    const words = new Map([...text.matchAll(ALLEGRO_WORD)].map(([, word = "", value = ""]) => [word, value.toUpperCase()]));
     return allegroHints(words, name);
   }
-  const hints = new Hints(), unit = unitOf(found[2]);
-  const source = `${found[0].trim().split(/\s+/).join(" ")} in ${name}`;
+  const [shown = "", scale = "", itsName = ""] = found;
+  const hints = new Hints(), unit = unitOf(itsName);
+  const source = `${shown.trim().split(/\s+/).join(" ")} in ${name}`;
   hints.units.push({ value: unit, source });
-  hints.addDigits(DEFAULT_DIGITS[unit].whole, found[1].length - 1, source);
+  hints.addDigits(DEFAULT_DIGITS[unit].whole, scale.length - 1, source);
   hints.zeros.push({ value: TRAILING, source });
-  const mode = EAGLE_MODE.exec(text);
-  if (mode) hints.addMode(mode[1], `Data Mode in ${name}`);
-  for (const [, number, diameter, itsUnit, count] of text.matchAll(EAGLE_TOOL)) {
+  const mode = EAGLE_MODE.exec(text)?.[1];
+  if (mode !== undefined) hints.addMode(mode, `Data Mode in ${name}`);
+  for (const [, number, diameter = "", itsUnit = "", count] of text.matchAll(EAGLE_TOOL)) {
     hints.tools.set(Number(number), { diameter, unit: itsUnit, count: Number(count), source: name });
   }
   return hints;
 }
 
-const ALLEGRO_ZEROS = { "NO NO": BOTH, "YES NO": TRAILING, "NO YES": LEADING };
+/** @type {Map<string, import("./lengths.js").Zeros>} */
+const ALLEGRO_ZEROS = new Map([["NO NO", BOTH], ["YES NO", TRAILING], ["NO YES", LEADING]]);
 
+/** @type {Map<string, import("./lengths.js").Unit>} */
+const ALLEGRO_UNITS = new Map([["ENGLISH", INCH], ["METRIC", MM]]);
+
+/** @param {Map<string, string>} words @param {string} name */
 function allegroHints(words, name) {
   const hints = new Hints();
   const digits = /^(\d)\.(\d)$/.exec(words.get("FORMAT") ?? "");
-  if (digits) hints.addDigits(digits[1], digits[2], `FORMAT in ${name}`);
-  const unit = { ENGLISH: INCH, METRIC: MM }[words.get("OUTPUT-UNITS")];
+  if (digits) hints.addDigits(digits[1] ?? "", digits[2] ?? "", `FORMAT in ${name}`);
+  const unit = ALLEGRO_UNITS.get(words.get("OUTPUT-UNITS") ?? "");
   if (unit) hints.units.push({ value: unit, source: `OUTPUT-UNITS in ${name}` });
   hints.addMode(words.get("COORDINATES") ?? "ABSOLUTE", `COORDINATES in ${name}`);
-  const zeros = ALLEGRO_ZEROS[`${words.get("SUPPRESS-LEAD-ZEROES")} ${words.get("SUPPRESS-TRAIL-ZEROES")}`];
+  const zeros = ALLEGRO_ZEROS.get(`${words.get("SUPPRESS-LEAD-ZEROES")} ${words.get("SUPPRESS-TRAIL-ZEROES")}`);
   if (zeros) hints.zeros.push({ value: zeros, source: `SUPPRESS-..-ZEROES in ${name}` });
   return hints;
 }

@@ -10,6 +10,8 @@ export const ONE = 1e9;
 // Whole parts of more digits than these are past every limit of a drill file.
 const WHOLE_DIGITS = 6;
 const POWERS = Array.from({ length: MOST_DECIMALS + 1 }, (_, exponent) => 10 ** exponent);
+/** @type {(exponent: number) => number} the power of ten, at most of as many places as camplot reads */
+const power = (exponent) => /** @type {number} */ (POWERS[exponent]);
 const NUMBER = /^[+-]*(?:(\d+)(?:\.(\d*))?|\.(\d+))$/;
 
 /** The units of lengths. */
@@ -47,6 +49,7 @@ function partsOf(text, digits, zeros) {
   return { isNegative: text.startsWith("-"), whole: whole.replace(/^0+/, ""), decimals: withoutLastZeros(decimals) };
 }
 
+/** @param {string} digits */
 function withoutLastZeros(digits) {
   let end = digits.length;
   while (end > 0 && digits.charCodeAt(end - 1) === 48) end--;
@@ -81,7 +84,7 @@ export function lengthOf(text, digits, zeros) {
       + "choose fewer");
   }
   if (whole.length > WHOLE_DIGITS) return isNegative ? -Infinity : Infinity;
-  const value = Number(whole + decimals) * POWERS[MOST_DECIMALS - decimals.length];
+  const value = Number(whole + decimals) * power(MOST_DECIMALS - decimals.length);
   return isNegative && value ? -value : value;
 }
 
@@ -108,8 +111,8 @@ export function quickReader(digits, zeros) {
     }
     if (value === 0) return point >= 0 && to - start === 1 ? NaN : 0;
     const decimals = point >= 0 ? to - 1 - point : zeros === LEADING ? to - start - whole : places;
-    if (!(decimals >= 0 && decimals <= MOST_DECIMALS) || value >= 1e6 * POWERS[decimals]) return NaN;
-    return value * (isNegative ? -POWERS[MOST_DECIMALS - decimals] : POWERS[MOST_DECIMALS - decimals]);
+    if (!(decimals >= 0 && decimals <= MOST_DECIMALS) || value >= 1e6 * power(decimals)) return NaN;
+    return value * (isNegative ? -power(MOST_DECIMALS - decimals) : power(MOST_DECIMALS - decimals));
   };
 }
 
@@ -131,10 +134,21 @@ export function lengthText(length) {
   return `${length < 0 ? "-" : ""}${whole}.${String(rest).padStart(places, "0")}`;
 }
 
-const FACTORS = {
-  mm: [MM, 0], micron: [MM, 3], microns: [MM, 3],
-  inch: [INCH, 0], inches: [INCH, 0], in: [INCH, 0], mil: [INCH, 3], mils: [INCH, 3],
-};
+/** @type {Map<string, [unit: Unit, places: number]>} */
+const FACTORS = new Map([
+  ["mm", [MM, 0]], ["micron", [MM, 3]], ["microns", [MM, 3]],
+  ["inch", [INCH, 0]], ["inches", [INCH, 0]], ["in", [INCH, 0]], ["mil", [INCH, 3]], ["mils", [INCH, 3]],
+]);
+
+/**
+ * What a name of a unit stands for: a unit, and how many decimal places below it.
+ * @param {string} name
+ */
+function factorOf(name) {
+  const factor = FACTORS.get(name.toLowerCase());
+  if (!factor) throw new Unsaid(`${name} is no unit: write mm, inch or mil`);
+  return factor;
+}
 
 /**
  * A length with the name of its unit, as `12` and `mil`, in the unit that is wanted.
@@ -145,7 +159,7 @@ const FACTORS = {
  * @throws {Unsaid} where it is no such decimal, or has no exact decimals in that unit
  */
 export function sizeOf(number, name, wanted) {
-  const [unit, places] = FACTORS[name.toLowerCase()];
+  const [unit, places] = factorOf(name);
   const parts = partsOf(/\./.test(number) ? number : `${number}.`, null, null);
   const whole = parts.whole.padStart(places, "0");
   const at = whole.length - places;
@@ -163,7 +177,7 @@ export function sizeOf(number, name, wanted) {
  * @returns {"mm" | "inch"}
  */
 export function unitOf(name) {
-  return FACTORS[name.toLowerCase()][0];
+  return factorOf(name)[0];
 }
 
 /**

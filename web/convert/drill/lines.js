@@ -25,11 +25,19 @@ export class Lines {
   }
 
   /**
+   * Where a line begins, counted from 0, in the text.
+   * @param {number} at
+   */
+  startOf(at) {
+    return /** @type {number} */ (this.starts[at]);
+  }
+
+  /**
    * Where a line ends, counted from 0, in the text.
    * @param {number} at
    */
   endOf(at) {
-    return this.starts[at + 1] - 1;
+    return this.startOf(at + 1) - 1;
   }
 
   /**
@@ -37,11 +45,12 @@ export class Lines {
    * @param {number} at the line, from 0
    */
   code(at) {
-    return this.text.slice(this.starts[at], this.endOf(at));
+    return this.text.slice(this.startOf(at), this.endOf(at));
   }
 }
 
 // Where each line begins, and one place past the end.
+/** @param {string} text */
 function startsOf(text) {
   let count = 1;
   for (let at = text.indexOf("\n"); at >= 0; at = text.indexOf("\n", at + 1)) count++;
@@ -54,9 +63,10 @@ function startsOf(text) {
   return starts;
 }
 
+/** @param {string} text @param {Map<number, string>} comments */
 function withoutComments(text, comments) {
   let line = 1, start = 0;
-  return text.replace(/;([^\n]*)/g, (_, comment, at) => {
+  return text.replace(/;([^\n]*)/g, (_, /** @type {string} */ comment, /** @type {number} */ at) => {
     for (let end = text.indexOf("\n", start); end >= 0 && end < at; end = text.indexOf("\n", start)) {
       line++;
       start = end + 1;
@@ -89,7 +99,7 @@ export function linesOf(bytes) {
 export function hintsIn(lines, refusals) {
   const hints = new Hints();
   for (let at = 0; at < lines.count; at++) {
-    const first = lines.text.charCodeAt(lines.starts[at]);
+    const first = lines.text.charCodeAt(lines.startOf(at));
     if (first !== 73 && first !== 77) continue;
     try {
       const found = unitHints(lines.code(at), at + 1);
@@ -111,12 +121,12 @@ export function hintsIn(lines, refusals) {
 export function numberForZero(lines) {
   let most = 0, hasZero = false;
   for (let at = 0; at < lines.count; at++) {
-    if (lines.text.charCodeAt(lines.starts[at]) !== 84) continue;
+    if (lines.text.charCodeAt(lines.startOf(at)) !== 84) continue;
     const found = /^T(\d{1,4})([^XY]*)/.exec(lines.code(at));
     if (!found) continue;
     const number = Number(found[1]);
     most = Math.max(most, number);
-    hasZero ||= number === 0 && found[2].includes("C");
+    hasZero ||= number === 0 && (found[2] ?? "").includes("C");
   }
   return hasZero ? most + 1 : 0;
 }

@@ -33,6 +33,7 @@ export class Machine {
     /** @type {number | null} */
     this.tool = null;
     this.x = this.y = 0;
+    /** @type {[number, number][]} */
     this.rout = [];
     this.slots = 0;
   }
@@ -109,7 +110,7 @@ export class Machine {
 
   /** M16: ends the rout. */
   raise() {
-    this.drilling.rout(this.tool, this.rout);
+    this.drilling.rout(this.needTool(), this.rout);
     this.height = RAISED;
   }
 
@@ -127,9 +128,9 @@ export class Machine {
       /** @type {[number, number]} */
       const start = [this.x, this.y];
       this.goTo(codes.slice(half + 1));
-      this.needTool();
+      const tool = this.needTool();
       this.slots++;
-      this.drilling.rout(this.tool, [start, [this.x, this.y]]);
+      this.drilling.rout(tool, [start, [this.x, this.y]]);
     } else if (this.isLowered && this.hasCut && half < 0) {
       this.cutTo(codes);
     } else {
@@ -138,23 +139,27 @@ export class Machine {
     }
   }
 
+  /** @param {number} x @param {number} y */
   hit(x, y) {
     this.x = x;
     this.y = y;
-    this.needTool();
-    this.drilling.hit(this.tool, x, y);
+    this.drilling.hit(this.needTool(), x, y);
   }
 
-  // Goes to the point of X and Y; what is missing is as it was last.
+  /**
+   * Goes to the point of X and Y; what is missing is as it was last.
+   * @param {Code[]} codes
+   */
   goTo(codes) {
-    const texts = new Map(codes), isAxis = ([letter]) => letter === "X" || letter === "Y";
+    const texts = new Map(codes), isAxis = (/** @type {Code} */ [letter]) => letter === "X" || letter === "Y";
     if (codes.length === 0 || texts.size !== codes.length || !codes.every(isAxis)) {
       const shown = codes.map(([letter, text]) => letter + text).join("");
       const why = codes.map(([letter]) => whyNotLetter(letter)).find((found) => found);
       throw new Unsaid(`${shown || "nothing"} is ${why ?? "no point: write one X and one Y"}`);
     }
-    const x = texts.has("X") ? this.coordinate(texts.get("X")) : this.x;
-    const y = texts.has("Y") ? this.coordinate(texts.get("Y")) : this.y;
+    const xText = texts.get("X"), yText = texts.get("Y");
+    const x = xText === undefined ? this.x : this.coordinate(xText);
+    const y = yText === undefined ? this.y : this.coordinate(yText);
     this.x = x;
     this.y = y;
   }
@@ -167,6 +172,7 @@ export class Machine {
     return lengthOf(text, this.digits, this.zeros);
   }
 
+  /** @param {string} text */
   coordinate(text) {
     const { unit } = this.drilling, value = this.length(text);
     if (Math.abs(inMm(value, unit)) < BOARD_MM) return value;
@@ -174,7 +180,9 @@ export class Machine {
       + "the unit, the digits or the zeros by --unit mm or inch, --format 2.4 or --zeros leading or trailing");
   }
 
+  /** The tool that makes a hole. */
   needTool() {
     if (this.tool === null) throw new Unsaid("a hole before any tool is selected: add the T that is missing before it");
+    return this.tool;
   }
 }

@@ -13,6 +13,8 @@ const CODE = new RegExp(`([A-Z])(${NUMBER})`, "g");
 const CODES = new RegExp(`^(?:[A-Z]${NUMBER})+$`);
 const LENGTH = /[XYT]\d|[XY][+\-.]/;
 
+/** @typedef {import("./machine.js").Code} Code */
+
 /** What the lines before have told. */
 export class Reader {
   /**
@@ -32,6 +34,7 @@ export class Reader {
     // Comments, and the numbers of tools, in their order.
     /** @type {(string | number)[]} */
     this.header = [];
+    /** @type {Set<number>} */
     this.declared = new Set();
     this.hasHeader = this.isInHeader = this.isFormatOne = false;
     // The line of the end, once it is read.
@@ -66,18 +69,21 @@ export class Reader {
     }
   }
 
+  /** @param {string} what */
   change(what) {
     this.changes.add(what, this.line);
   }
 
+  /** @param {import("./lines.js").Lines} lines @param {number} at */
   readLine(lines, at) {
-    const start = lines.starts[at], end = lines.endOf(at);
+    const start = lines.startOf(at), end = lines.endOf(at);
     if (this.ended) this.checkBehindEnd(lines.code(at));
     else if (start < end && !this.machine.isPlainHit(lines.text, start, end)) this.readCode(lines.code(at));
     const comment = lines.comments.get(at + 1);
     if (comment !== undefined) this.keepComment(comment);
   }
 
+  /** @param {string} code */
   checkBehindEnd(code) {
     if (LENGTH.test(code)) {
       throw new Unsaid(`${code.slice(0, 40)} stands after the end on line ${this.ended}: cut the file there, or take `
@@ -85,12 +91,14 @@ export class Reader {
     }
   }
 
+  /** @param {string} comment */
   keepComment(comment) {
     if (tellsForm(comment)) this.change("the comment on digits and zeros is left out");
     else if (this.isInHeader || !(this.hasHeader || this.drilling.itemTools.length)) this.header.push(`;${comment}`);
     else this.change("the comment after the header is left out");
   }
 
+  /** @param {string} code */
   readCode(code) {
     if (code === "M48") {
       this.hasHeader = this.isInHeader = true;
@@ -110,6 +118,7 @@ export class Reader {
     }
   }
 
+  /** @param {string} code */
   endHeader(code) {
     if (this.isInHeader) this.isInHeader = false;
     else this.change(`${code} is left out where no header ends`);
@@ -117,10 +126,12 @@ export class Reader {
 
   /** @param {import("./machine.js").Code[]} codes */
   readCodes(codes) {
-    const [letter, text] = codes[0], rest = codes.slice(1);
+    const [first, ...rest] = codes;
+    if (!first) return;
+    const [letter, text] = first;
     if (letter === "N") {
       this.change("line numbers (N) are left out");
-      if (rest.length) this.readCodes(rest);
+      this.readCodes(rest);
     } else if (letter === "T") {
       this.nameTool(text, rest);
     } else if (letter === "G" || letter === "M") {
@@ -135,8 +146,9 @@ export class Reader {
     }
   }
 
+  /** @param {number} number @param {Code[]} rest */
   preparatory(number, rest) {
-    const { machine } = this, isZero = ([, text]) => machine.length(text) === 0;
+    const { machine } = this, isZero = (/** @type {Code} */ [, text]) => machine.length(text) === 0;
     if (number === 5 || number === 81) {
       machine.raisedOnly(`G${padded(number)}`);
       if (number === 81) this.change("G81 is written as G05");
@@ -155,6 +167,7 @@ export class Reader {
     }
   }
 
+  /** @param {number} number @param {Code[]} rest */
   miscellaneous(number, rest) {
     const isAlone = rest.length === 0;
     if (isAlone && number === 15) this.machine.lower();
@@ -163,6 +176,7 @@ export class Reader {
     else this.neutralOnly("M", number, rest);
   }
 
+  /** @param {string} letter @param {number} number @param {Code[]} rest */
   neutralOnly(letter, number, rest) {
     const shown = letter + padded(number);
     if (rest.length || !isNeutralCode(letter, number)) {
@@ -171,6 +185,7 @@ export class Reader {
     this.change(`${shown} is left out: it moves no hole`);
   }
 
+  /** @param {number} number */
   raise(number) {
     if (!this.machine.isLowered) {
       this.change(`M${number} is left out where the tool is up`);
@@ -180,6 +195,7 @@ export class Reader {
     this.machine.raise();
   }
 
+  /** @param {number} number */
   end(number) {
     const shown = `M${padded(number)}`;
     this.machine.raisedOnly(shown);
@@ -187,14 +203,17 @@ export class Reader {
     this.ended = this.line;
   }
 
-  // Declares a tool in the header, and selects one in the body, which may declare it first.
-  /** @param {string} text @param {import("./machine.js").Code[]} rest */
+  /**
+   * Declares a tool in the header, and selects one in the body, which may declare it first.
+   * @param {string} text
+   * @param {Code[]} rest
+   */
   nameTool(text, rest) {
     const own = toolNumber(text), number = own || this.toolZero;
     if (!own && number) this.change(`T${text} is written as T${number}: in XNC T0 selects no tool`);
-    let count = 0;
-    const sizes = new Map();
-    for (; count < rest.length && (rest[count][0] === "C" || FEEDS.has(rest[count][0])); count++) sizes.set(...rest[count]);
+    const first = rest.findIndex(([letter]) => letter !== "C" && !FEEDS.has(letter));
+    const count = first < 0 ? rest.length : first;
+    const sizes = new Map(rest.slice(0, count));
     const places = rest.slice(count);
     if (sizes.size < count || places.some(([letter]) => letter === "C" || FEEDS.has(letter))) {
       throw new Unsaid(`T${text}: parameters that are not known: leave them out, but the diameter`);
@@ -207,13 +226,15 @@ export class Reader {
     if (number && (this.isInHeader || sizes.has("C") || !this.drilling.diameters.has(number))) {
       this.declare(number, sizes.get("C"));
     }
-    if (places.length === 1 && places[0][0] === "M" && Number(places[0][1]) === 6) {
+    const [place] = places;
+    if (places.length === 1 && place?.[0] === "M" && Number(place[1]) === 6) {
       this.change("M06 is left out: it moves no hole");
-    } else if (places.length) {
+    } else {
       this.readCodes(places);
     }
   }
 
+  /** @param {number} number @param {string | undefined} size */
   declare(number, size) {
     const { diameters, unit } = this.drilling;
     // A tool without a diameter is told once.
@@ -244,12 +265,13 @@ export class Reader {
  */
 function cut(code) {
   if (!CODES.test(code) || /^[A-Z]{2}/.test(code)) {
-    throw new Unsaid(`${code.slice(0, 40)} is ${whyNotWord(/^[A-Z]*/.exec(code)[0])}`);
+    throw new Unsaid(`${code.slice(0, 40)} is ${whyNotWord(/^[A-Z]*/.exec(code)?.[0] ?? "")}`);
   }
-  return [...code.matchAll(CODE)].map(([, letter, text]) => [letter, text]);
+  return [...code.matchAll(CODE)].map(([, letter = "", text = ""]) => [letter, text]);
 }
 
 // A code's number as it is mostly written.
+/** @param {number} number */
 function padded(number) {
   return String(number).padStart(2, "0");
 }

@@ -62,6 +62,7 @@ export function whyNotCode(letter, number) {
 }
 
 /** Why a letter is refused where a coordinate or a code should stand; undefined where that is not known. */
+/** @param {string} letter */
 export function whyNotLetter(letter) {
   return REFUSED_LETTERS.get(letter);
 }

@@ -14,6 +14,7 @@ class Bytes {
     this.length = 0;
   }
 
+  /** @param {number} count */
   reserve(count) {
     if (this.length + count <= this.bytes.length) return;
     const grown = new Uint8Array(2 * (this.bytes.length + count));
@@ -21,17 +22,20 @@ class Bytes {
     this.bytes = grown;
   }
 
+  /** @param {string} text */
   text(text) {
     this.reserve(text.length);
     for (let at = 0; at < text.length; at++) this.bytes[this.length++] = text.charCodeAt(at);
   }
 
+  /** @param {string} text */
   line(text) {
     this.text(text);
     this.text("\n");
   }
 
   // Digits of a number below 10^9, at least so many.
+  /** @param {number} number @param {number} least */
   digits(number, least) {
     let count = 1;
     for (let rest = number; rest >= 10; rest = Math.floor(rest / 10)) count++;
@@ -45,6 +49,7 @@ class Bytes {
   }
 
   // A length, as `lengthText` gives it.
+  /** @param {number} length */
   decimal(length) {
     const size = Math.abs(length), whole = Math.floor(size / ONE);
     let rest = size - whole * ONE, places = 9;
@@ -58,6 +63,7 @@ class Bytes {
     this.digits(rest, places);
   }
 
+  /** @param {string} front @param {number} x @param {number} y */
   point(front, x, y) {
     this.text(front);
     this.reserve(2 * ROOM);
@@ -69,22 +75,25 @@ class Bytes {
   }
 }
 
+/** @param {Bytes} bytes @param {import("./drilling.js").Drilling} drilling */
 function writeItems(bytes, { itemTools, pointCounts, xs, ys }) {
+  /** @type {(front: string, at: number) => void} */
+  const point = (front, at) => bytes.point(front, /** @type {number} */ (xs[at]), /** @type {number} */ (ys[at]));
   let tool = null, drills = true, at = 0;
   for (let item = 0; item < itemTools.length; item++) {
     if (itemTools[item] !== tool) {
       tool = itemTools[item];
       bytes.line(`T${tool}`);
     }
-    const count = pointCounts[item];
+    const count = /** @type {number} */ (pointCounts[item]);
     if (count === 0) {
       if (!drills) bytes.line("G05");
-      bytes.point("", xs[at], ys[at]);
+      point("", at);
       at++;
     } else {
-      bytes.point("G00", xs[at], ys[at]);
+      point("G00", at);
       bytes.line("M15");
-      for (let cut = 1; cut < count; cut++) bytes.point("G01", xs[at + cut], ys[at + cut]);
+      for (let cut = 1; cut < count; cut++) point("G01", at + cut);
       bytes.line("M16");
       at += count;
     }
@@ -102,7 +111,7 @@ export function xncBytes(header, drilling) {
   const bytes = new Bytes();
   for (const line of ["M48", unitLine(drilling.unit)]) bytes.line(line);
   for (const entry of header) {
-    bytes.line(typeof entry === "string" ? entry : declarationText(entry, drilling.diameters.get(entry)));
+    bytes.line(typeof entry === "string" ? entry : declarationText(entry, /** @type {number} */ (drilling.diameters.get(entry))));
   }
   for (const line of ["%", "G05"]) bytes.line(line);
   writeItems(bytes, drilling);

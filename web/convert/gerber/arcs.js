@@ -12,7 +12,14 @@ const ANGLE_SLACK = 0.02;
 const CLOSE_STEPS = 3;
 const ADVICE = "have arcs written under G75";
 
-/** The angle from start to end about (0, 0), from 0 to a full turn. */
+/** @typedef {[number, number]} Pair */
+
+/**
+ * The angle from start to end about (0, 0), from 0 to a full turn.
+ * @param {Pair} start
+ * @param {Pair} end
+ * @param {boolean} isClockwise
+ */
 function sweepOf(start, end, isClockwise) {
   const angle = Math.atan2(end[1], end[0]) - Math.atan2(start[1], start[0]);
   const turn = 2 * Math.PI;
@@ -36,29 +43,38 @@ export function offsetsThatFit(start, end, offsets, isClockwise, step) {
     return "that ends where it starts";
   }
   const radius = Math.hypot(...offsets);
+  /** @type {{off: number, signed: Pair}[]} */
   const fits = [];
-  const signsOf = (offset) => (offset === 0 ? [1] : [1, -1]);
+  const signsOf = (/** @type {number} */ offset) => (offset === 0 ? [1] : [1, -1]);
   for (const a of signsOf(offsets[0])) {
     for (const b of signsOf(offsets[1])) {
       /** @type {[number, number]} */
       const signed = [a * offsets[0], b * offsets[1]];
-      const [first, last] = [start, end].map((place) => place.map((value, axis) => value - start[axis] - signed[axis]));
-      if (sweepOf(first, last, isClockwise) <= QUARTER + ANGLE_SLACK) {
+      /** @type {(place: Pair) => Pair} */
+      const about = ([x, y]) => [x - start[0] - signed[0], y - start[1] - signed[1]];
+      const last = about(end);
+      if (sweepOf(about(start), last, isClockwise) <= QUARTER + ANGLE_SLACK) {
         fits.push({ off: Math.abs(Math.hypot(...last) - radius), signed });
       }
     }
   }
   fits.sort((one, other) => one.off - other.off);
   const close = CLOSE_STEPS * step;
-  if (fits.length === 0 || fits[0].off > close || (fits.length > 1 && fits[1].off <= 2 * close)) {
+  const [best, second] = fits;
+  if (best === undefined || best.off > close || (second !== undefined && second.off <= 2 * close)) {
     return "whose ends do not determine its centre";
   }
-  return fits[0].signed;
+  return best.signed;
 }
 
 /**
  * The same, where there have to be some.
- * @returns {[number, number]}
+  * @param {[number, number]} start
+  * @param {[number, number]} end
+  * @param {[number, number]} offsets
+  * @param {boolean} isClockwise
+  * @param {number} step
+  * @returns {[number, number]}
  * @throws {Unsaid} where there are none
  */
 export function signedOffsets(start, end, offsets, isClockwise, step) {

@@ -43,7 +43,7 @@ export function convertGerber(bytes, options = {}) {
   const state = rewritten(source, options, changes);
   const { said } = state;
   const operations = { count: said.count, flashes: said.flashes, draws: said.draws };
-  const refusals = state.refusals.sort((a, b) => a.line - b.line);
+  const refusals = state.refusals.sort((a, b) => (a.line ?? 0) - (b.line ?? 0));
   const told = changes.list.sort((a, b) => a.line - b.line);
   if (refusals.length > 0) {
     return { bytes: null, changes: told, refusals, operations };
@@ -55,6 +55,7 @@ export function convertGerber(bytes, options = {}) {
   return { bytes: written, changes: told, refusals, operations };
 }
 
+/** @param {Uint8Array} bytes @param {Changes} changes */
 function withoutMark(bytes, changes) {
   const [first, second] = bytes;
   if ((first === 0xff && second === 0xfe) || (first === 0xfe && second === 0xff)) {
@@ -67,7 +68,11 @@ function withoutMark(bytes, changes) {
   return bytes.subarray(3);
 }
 
-/** Reads what was written: nothing of it may need a change, and its operations have to be the same numbers. */
+/**
+ * Reads what was written: nothing of it may need a change, and its operations have to be the same numbers.
+ * @param {Uint8Array} written
+ * @param {State["said"]} said
+ */
 function checkAgain(written, said) {
   const again = rewritten(written, {}, new Changes());
   const [change, refusal] = [again.changes.list[0], again.refusals[0]];
@@ -78,6 +83,9 @@ function checkAgain(written, said) {
 
 /**
  * Goes through a file.
+  * @param {Uint8Array} bytes
+  * @param {Options} options
+  * @param {Changes} changes
  * @returns {State} what it told, and what is written
  */
 function rewritten(bytes, options, changes) {
@@ -101,7 +109,10 @@ function rewritten(bytes, options, changes) {
   return state;
 }
 
-/** Leaves control characters before a command out. */
+/**
+ * Leaves control characters before a command out.
+ * @param {State} state
+ */
 function cleanGap(state) {
   const { cutter, bytes } = state;
   for (let at = cutter.gap; at < cutter.start; at++) {
@@ -117,6 +128,7 @@ function cleanGap(state) {
 
 /**
  * Writes a command that may not stay as it stands.
+  * @param {State} state
  * @returns {boolean} whether it ends the file
  */
 function rewriteCommand(state) {
@@ -139,6 +151,7 @@ function rewriteCommand(state) {
   }
 }
 
+/** @param {State} state @param {string} raw */
 function comment(state, raw) {
   const clean = raw.replace(CONTROLS, "");
   if (clean !== raw) {
@@ -147,17 +160,24 @@ function comment(state, raw) {
   return { pieces: [clean], isEnd: false };
 }
 
-/** Pieces with a line end between two of them; the text of a slot has its own. */
+/**
+ * Pieces with a line end between two of them; the text of a slot has its own.
+ * @param {import("./words.js").Piece[]} pieces
+ */
 function withLineEnds(pieces) {
   return pieces.flatMap((piece, place) => (place === 0 ? [piece] : ["\n", piece]));
 }
 
-/** What is said of a file that ends before its M02. */
+/**
+ * What is said of a file that ends before its M02.
+ * @param {Uint8Array} bytes
+ * @param {State["cutter"]} cutter
+ */
 function missingEnd(bytes, cutter) {
   const at = cutter.start;
   if (at >= bytes.length) {
     return { line: cutter.line, what: "M02* is missing: the file was cut short; if it is whole, add it" };
   }
-  const word = latin1(bytes.subarray(at, at + 200)).split(/[ \t\r\n]/)[0].slice(0, 30);
-  return { line: cutter.line, what: `${word}: a command without its end` };
+  const [word = ""] = latin1(bytes.subarray(at, at + 200)).split(/[ \t\r\n]/);
+  return { line: cutter.line, what: `${word.slice(0, 30)}: a command without its end` };
 }

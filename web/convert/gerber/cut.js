@@ -8,8 +8,11 @@ const LF = 10, SPACE = 32, PERCENT = 37, STAR = 42, DELETE = 127;
 const SKIPPED = /[ \t\r\n]/g;
 const COMMENT = /^[ \t\r\n]*[Gg][ \t\r\n]*0*4(?!\d)/;
 
-/** @returns {boolean} whether a byte may stand in the gap before a command: what is skipped, and control characters */
-const isGap = (byte) => byte <= SPACE || byte === DELETE;
+/**
+ * Whether a byte may stand in the gap before a command: what is skipped, and control characters.
+ * @type {(byte: number | undefined) => boolean}
+ */
+const isGap = (byte) => byte !== undefined && (byte <= SPACE || byte === DELETE);
 
 /** Goes from command to command: a word up to its `*`, or what stands from one `%` to the next. */
 export class Cutter {
@@ -86,6 +89,7 @@ export class Cutter {
     return this.textOf(this.gap, this.start);
   }
 
+  /** @param {number} start @param {number} end */
   textOf(start, end) {
     if (start < this.pieceAt || end > this.pieceAt + this.piece.length) {
       this.piece = latin1(this.bytes.subarray(start, Math.max(end, start + PIECE)));
@@ -98,9 +102,9 @@ export class Cutter {
 /** Control characters that are no blanks; a character of a text is a byte. */
 export const CONTROLS = /[^\t\n\r -~\x80-\xff]/g;
 
-/** @returns {boolean} whether a word is a comment */
+/** @type {(text: string) => boolean} whether a word is a comment */
 export const isComment = (text) => COMMENT.test(text);
-/** @returns {string} a text without skipped bytes */
+/** @type {(text: string) => string} a text without skipped bytes */
 export const packed = (text) => text.replace(SKIPPED, "");
 
 const MACRO = /^[ \t\r\n]*[Aa][ \t\r\n]*[Mm]/;
@@ -114,16 +118,17 @@ const WORD = /^[GDMXY][-+.\d]/;
  */
 export function commandsIn(text) {
   const parts = text.slice(1, -1).split("*");
-  const lacksEnd = parts[parts.length - 1].trim() !== "";
+  const lacksEnd = parts.at(-1)?.trim() !== "";
   if (!lacksEnd) {
     parts.pop();
   }
+  /** @type {string[]} */
   const commands = [];
   for (const part of parts) {
-    const last = commands.length - 1;
-    const isInMacro = last >= 0 && MACRO.test(commands[last]) && !NEXT_COMMAND.test(part.trim());
+    const last = commands.at(-1);
+    const isInMacro = last !== undefined && MACRO.test(last) && !NEXT_COMMAND.test(part.trim());
     if (isInMacro && !isWordIn(part)) {
-      commands[last] += `*${part}`;
+      commands[commands.length - 1] = `${last}*${part}`;
     } else if (part.trim() !== "") {
       commands.push(part.replace(/^[ \t\r\n]+|[ \t\r\n]+$/g, ""));
     }
@@ -131,7 +136,7 @@ export function commandsIn(text) {
   return { commands, lacksEnd };
 }
 
-/** @returns {boolean} whether a command between two `%` is a word that stands there by mistake */
+/** @type {(command: string) => boolean} whether a command between two `%` is a word that stands there by mistake */
 export const isWordIn = (command) => WORD.test(packed(command).toUpperCase());
 
 /**

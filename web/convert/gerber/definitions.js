@@ -11,6 +11,8 @@ import { isOneSided, refusal } from "./refused_apertures.js";
 import { macroTexts, placedParts } from "./shapes_written.js";
 import { missingUnit } from "./front.js";
 
+/** @typedef {import("./state.js").State} State */
+
 /** EAGLE's octagon, whose factor is itself rounded to five decimals. */
 const OCTAGON = /^5,1,8,0(\.0*)?,0(\.0*)?,1\.08239X\$1,22\.5$/i;
 const STANDARD = ["C", "R", "O", "P"];
@@ -57,18 +59,18 @@ export function defineAperture(state, packed) {
     throw new Unsaid(`%${packed.slice(0, 30)}*% defines no aperture, which has a number and a template: ${ANEW}`);
   }
   const before = missingUnit(state);
-  const [, digits, name, parameters] = found;
+  const [, digits = "", name = "", parameters] = found;
   const texts = parametersOf(state, packed, parameters);
   const template = templateOf(state, packed, name);
-  const macro = STANDARD.includes(template) ? null : dictionary.macros.get(template);
-  const sizes = texts.map(decimal);
-  const isKnown = !sizes.includes(null);
-  const unsaid = refusal({ template, macro, sizes: isKnown ? sizes : null }, state.lengthUnit);
+  const macro = STANDARD.includes(template) ? null : dictionary.macros.get(template) ?? null;
+  const read = texts.map(decimal);
+  const sizes = read.includes(null) ? null : /** @type {import("../exact.js").Rational[]} */ (read);
+  const unsaid = refusal({ template, macro, sizes }, state.lengthUnit);
   const fileNumber = Number(digits);
-  const isSquare = isKnown && isOneSided(template, sizes);
+  const isSquare = sizes !== null && isOneSided(template, sizes);
   const aperture = new Aperture({ number: fileNumber, template, macro, text: packed, line: state.line, unsaid,
-    sizes: isSquare ? [sizes[0], sizes[0]] : isKnown ? sizes : [] });
-  if (!isKnown) {
+    sizes: sizes === null ? [] : isSquare ? [...sizes, ...sizes] : sizes });
+  if (sizes === null) {
     aperture.key = packed;
   }
   const old = dictionary.of(fileNumber);
@@ -82,13 +84,13 @@ export function defineAperture(state, packed) {
   }
   dictionary.apertures.set(fileNumber, aperture);
   state.refresh();
-  before.push(...movedMacro(state, template, macro));
+  before.push(...movedMacro(macro));
   const number = old === null ? digits : aperture.number;
   if (unsaid !== "") {
-    aperture.slot = { text: "" };
+    const slot = { text: "" };
     aperture.square = isSquare ? `%ADD${number}${template},${texts[0]}X${texts[0]}*%` : "";
-    dictionary.waiting.push(aperture);
-    return [...before, aperture.slot];
+    dictionary.waiting.push({ aperture, slot });
+    return [...before, slot];
   }
   const rest = parameters === undefined ? "" : `,${texts.join("X")}`;
   const written = `ADD${number}${macro?.name ?? template}${rest}`;
@@ -98,6 +100,7 @@ export function defineAperture(state, packed) {
   return [...before, `%${written}*%`];
 }
 
+/** @param {State} state @param {string} packed @param {string | undefined} parameters */
 function parametersOf(state, packed, parameters) {
   const texts = parameters === undefined ? [] : parameters.split(/[xX]/);
   if (texts.length > 1 && texts[texts.length - 1] === "") {
@@ -107,7 +110,12 @@ function parametersOf(state, packed, parameters) {
   return texts;
 }
 
-/** The template's name, in capitals but for a macro's; a macro that stands later is told. */
+/**
+ * The template's name, in capitals but for a macro's; a macro that stands later is told.
+ * @param {State} state
+ * @param {string} packed
+ * @param {string} name
+ */
 function templateOf(state, packed, name) {
   const { dictionary } = state;
   if (dictionary.macros.has(name) || STANDARD.includes(name)) {
@@ -127,8 +135,11 @@ function templateOf(state, packed, name) {
   return later.macro.name;
 }
 
-/** The text of a macro that the file defines too late, where it is named first. */
-function movedMacro(state, template, macro) {
+/**
+ * The text of a macro that the file defines too late, where it is named first.
+ * @param {import("./macros.js").Macro | null} macro
+ */
+function movedMacro(macro) {
   if (!macro?.isMoved || macro.isWritten || macro.unreadable() !== null) {
     return [];
   }
@@ -156,11 +167,14 @@ export function partsOf({ template, macro, sizes, text }) {
   }
 }
 
-/** Settles, at the end of a file, what is written of the apertures that camplot refuses. */
+/**
+ * Settles, at the end of a file, what is written of the apertures that camplot refuses.
+ * @param {State} state
+ */
 export function settleApertures(state) {
-  for (const aperture of state.dictionary.waiting) {
-    const { text, line, unsaid, slot } = aperture;
-    const why = unsaid.split(":")[0].replace(/ \(.*/, "");
+  for (const { aperture, slot } of state.dictionary.waiting) {
+    const { text, line, unsaid } = aperture;
+    const why = unsaid.replace(/:.*/s, "").replace(/ \(.*/, "");
     if (!aperture.isUsed) {
       const reason = aperture.isReplaced ? "others are written for it" : `nothing is painted with it (${why})`;
       state.changes.add(`%${text.slice(0, 60)}*% is left out: ${reason}`, line);
@@ -177,13 +191,17 @@ export function settleApertures(state) {
   }
 }
 
-/** Writes the selections of an aperture whose definition is written. */
+/**
+ * Writes the selections of an aperture whose definition is written.
+ * @param {Aperture} aperture
+ */
 function selectAgain({ selections }) {
   for (const { slot, text } of selections) {
     slot.text = text;
   }
 }
 
+/** @param {State} state @param {Aperture} aperture @param {string} why */
 function nearestText(state, aperture, why) {
   const rounding = new Rounding();
   try {

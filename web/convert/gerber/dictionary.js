@@ -11,7 +11,8 @@ import { macroOf } from "./macros.js";
 
 const PREFIX = "Nearest";
 /** Which parameter is the first of a hole. */
-const HOLE_AT = { C: 1, R: 2, O: 2, P: 3 };
+/** @type {Map<string, number>} */
+const HOLE_AT = new Map([["C", 1], ["R", 2], ["O", 2], ["P", 3]]);
 const D_CAPITAL = 68, D_SMALL = 100, ZERO = 48, NINE = 57;
 const GREATEST_NUMBER = 2_147_483_647;
 
@@ -42,13 +43,11 @@ export class Aperture {
     this.isUsed = false;
     /** Whether other apertures are written for some of what is painted with it. */
     this.isReplaced = false;
-    /** @type {Slot | null} where its definition is written, once it is known that it is used */
-    this.slot = null;
     /** What is written of one that has one side alone; nothing of another. */
     this.square = "";
     /** @type {{slot: Slot, text: string}[]} where it is selected */
     this.selections = [];
-    this.hasHole = sizes.slice(HOLE_AT[template] ?? sizes.length).some((size) => size.n !== 0n);
+    this.hasHole = sizes.slice(HOLE_AT.get(template) ?? sizes.length).some((size) => size.n !== 0n);
     this.isSolidCircle = template === "C" && !this.hasHole;
     this.isSolidRectangle = template === "R" && !this.hasHole;
     /** What tells whether two definitions are the same. */
@@ -65,17 +64,18 @@ export class Dictionary {
     this.apertures = new Map();
     /** @type {Map<string, import("./macros.js").Macro>} by the names of the file */
     this.macros = new Map();
-    /** @type {Map<string, Aperture>} those that were made, by what they are made of */
+    /** @type {Map<string, number>} the numbers of those that were made, by what they are made of */
     this.made = new Map();
-    /** @type {Aperture[]} those whose definitions are settled at the end */
+    /** @type {{aperture: Aperture, slot: Slot}[]} those whose definitions are settled at the end, and where */
     this.waiting = [];
     /** @type {Map<string, {macro: import("./macros.js").Macro, line: number}[]> | null} */
     this.later = null;
     this.lastNumber = 0;
+    /** @type {Set<string>} */
     this.takenNames = new Set();
   }
 
-  /** @returns {Aperture | null} what a number of the file is now */
+  /** @param {number} number @returns {Aperture | null} what a number of the file is now */
   of(number) {
     return this.apertures.get(number) ?? null;
   }
@@ -89,7 +89,7 @@ export class Dictionary {
     return this.lastNumber;
   }
 
-  /** @returns {string} a macro's name that the file does not have */
+  /** @param {string} wanted @returns {string} a macro's name that the file does not have */
   freeName(wanted) {
     let name = wanted;
     while (this.takenNames.has(name) || this.macros.has(name) || this.laterMacros().has(name)) {
@@ -99,7 +99,7 @@ export class Dictionary {
     return name;
   }
 
-  /** @returns {string} the name of a macro that is made for an aperture */
+  /** @param {number} number @returns {string} the name of a macro that is made for an aperture */
   nameFor(number) {
     return this.freeName(`${PREFIX}${number}`);
   }
@@ -130,14 +130,17 @@ export class Dictionary {
   }
 }
 
-/** The greatest number that stands behind a D and leaves room for a million more. */
+/**
+ * The greatest number that stands behind a D and leaves room for a million more.
+ * @param {Uint8Array} bytes
+ */
 function greatestNumber(bytes) {
   let greatest = 0;
   for (let at = 0; at < bytes.length; at++) {
     if (bytes[at] === D_CAPITAL || bytes[at] === D_SMALL) {
       let value = 0;
-      for (let digit = at + 1; bytes[digit] >= ZERO && bytes[digit] <= NINE; digit++) {
-        value = 10 * value + bytes[digit] - ZERO;
+      for (let digit = at + 1, byte = bytes[digit] ?? 0; byte >= ZERO && byte <= NINE; byte = bytes[++digit] ?? 0) {
+        value = 10 * value + byte - ZERO;
       }
       if (value > greatest && value < GREATEST_NUMBER - 1_000_000) {
         greatest = value;

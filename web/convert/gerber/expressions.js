@@ -37,20 +37,28 @@ export function valueOf(text, variables) {
 }
 
 class Reader {
+  /** @param {string[]} tokens @param {Map<number, Rational>} variables */
   constructor(tokens, variables) {
     this.tokens = tokens;
     this.variables = variables;
     this.place = 0;
   }
 
-  /** Whether the next token is one of these, which is then passed. */
+  /**
+   * Whether the next token is one of these, which is then passed.
+   * @param {string} signs
+   * @returns {string} the token; nothing where it is none of them
+   */
   passes(signs) {
     const token = this.tokens[this.place];
-    const isOne = token !== undefined && signs.includes(token);
-    this.place += isOne ? 1 : 0;
-    return isOne ? token : "";
+    if (token === undefined || !signs.includes(token)) {
+      return "";
+    }
+    this.place += 1;
+    return token;
   }
 
+  /** @param {number} depth @returns {Rational} */
   sum(depth) {
     let total = this.product(depth);
     for (let sign = this.passes("+-"); sign !== ""; sign = this.passes("+-")) {
@@ -60,6 +68,7 @@ class Reader {
     return total;
   }
 
+  /** @param {number} depth @returns {Rational} */
   product(depth) {
     let total = this.factor(depth);
     for (let sign = this.passes("xX/"); sign !== ""; sign = this.passes("xX/")) {
@@ -72,6 +81,7 @@ class Reader {
     return total;
   }
 
+  /** @param {number} depth @returns {Rational} */
   factor(depth) {
     let isNegative = false;
     for (let sign = this.passes("+-"); sign !== ""; sign = this.passes("+-")) {
@@ -81,6 +91,7 @@ class Reader {
     return isNegative ? negate(value) : value;
   }
 
+  /** @param {number} depth @returns {Rational} */
   atom(depth) {
     const token = this.tokens[this.place++];
     if (token === "(" && depth < MOST_PARENTHESES) {
@@ -101,7 +112,7 @@ class Reader {
   }
 }
 
-/** @returns {boolean} whether a text is an expression, whatever its variables are */
+/** @param {string} text @returns {boolean} whether a text is an expression, whatever its variables are */
 export function isExpression(text) {
   try {
     valueOf(text, new Map());

@@ -12,6 +12,7 @@ import { rewriteWord } from "./words.js";
 
 const KEPT = ["TF", "TA", "TO", "TD", "IN", "LN"];
 const READ = ["AB", "LM", "LP", "LS", "SR"];
+/** @type {Record<string, string>} */
 const REFUSED = {
   IF: "a file that is to be read in its place: plot all in one file",
   IJ: "a justified image: plot it without justification",
@@ -28,8 +29,14 @@ const REFUSED = {
 };
 const HEADS = [...KEPT, ...READ, "AD", "AM", "FS", "LR", "MO", "PF", ...Object.keys(REFUSED)];
 /** What an image command says where it changes nothing, for A and B alike. */
+/** @type {Record<string, bigint>} */
 const NEUTRAL = { MI: 0n, OF: 0n, IO: 0n, SF: 1n };
 const ONE = rational(1n);
+/** @type {import("./placing.js").Mirror[]} */
+const MIRRORS = ["N", "X", "Y", "XY"];
+
+/** @typedef {import("./state.js").State} State */
+/** @typedef {import("./words.js").Piece} Piece */
 
 /**
  * @param {import("./state.js").State} state
@@ -47,6 +54,7 @@ export function rewriteExtended(state, raw) {
   if (commands.length === 0) {
     state.change("%% without a command is left out");
   }
+  /** @type {Piece[]} */
   const pieces = [];
   let isEnd = false;
   for (const command of commands) {
@@ -63,6 +71,7 @@ export function rewriteExtended(state, raw) {
   return { pieces: staysSo ? [raw] : pieces, isEnd };
 }
 
+/** @param {State} state @param {string} command @returns {Piece[]} */
 function rewriteCommand(state, command) {
   const text = packed(command);
   const head = text.slice(0, 2).toUpperCase();
@@ -85,11 +94,16 @@ function rewriteCommand(state, command) {
   return setting(state, capitals === text ? command : capitals, capitals, head);
 }
 
-/** A definition that stays but for skipped bytes is written as it stands. */
+/**
+ * A definition that stays but for skipped bytes is written as it stands.
+ * @param {string} command
+ * @param {Piece[]} pieces
+ */
 function keptSo(command, pieces) {
   return pieces.map((piece) => (typeof piece === "string" && piece === `%${packed(command)}*%` ? `%${command}*%` : piece));
 }
 
+/** @param {State} state @param {string} command */
 function attribute(state, command) {
   const clean = command.replace(CONTROLS, "");
   const written = clean.slice(0, 2).toUpperCase() + clean.slice(2);
@@ -99,6 +113,7 @@ function attribute(state, command) {
   return written;
 }
 
+/** @param {State} state @param {string} command @param {string} text @param {string} head @returns {string[]} */
 function setting(state, command, text, head) {
   if (isLeftOut(text, head)) {
     state.change(`%${text}*% is left out: it changes no image`);
@@ -127,12 +142,16 @@ function setting(state, command, text, head) {
   }
 }
 
-/** @returns {boolean} whether camplot reads an image command as it stands: it changes nothing */
+/** @param {string} text @returns {boolean} whether camplot reads an image command as it stands: it changes nothing */
 function isRead(text) {
   return /^(IPPOS|ASAXBY|IR0(\.0*)?|(MI|OF)(A0(\.0*)?)?(B0(\.0*)?)?|SF(A1(\.0*)?)?(B1(\.0*)?)?)$/.test(text);
 }
 
-/** @returns {boolean} whether a command changes no image, by value, and has no form that camplot reads */
+/**
+ * @param {string} text
+ * @param {string} head
+ * @returns {boolean} whether a command changes no image, by value, and has no form that camplot reads
+ */
 function isLeftOut(text, head) {
   if (head === "PF" || text === "ICAS") {
     return true;
@@ -141,10 +160,11 @@ function isLeftOut(text, head) {
     const angle = decimal(text.slice(2));
     return angle !== null && !isRead(text) && isZero(modulo(angle, 360n));
   }
-  if (NEUTRAL[head] === undefined || isRead(text)) {
+  const neutral = NEUTRAL[head];
+  if (neutral === undefined || isRead(text)) {
     return false;
   }
-  const wanted = rational(NEUTRAL[head]);
+  const wanted = rational(neutral);
   const values = text.slice(2).match(/[AB][^AB]*/g) ?? [];
   return values.join("") === text.slice(2) && values.every((value) => {
     const number = decimal(value.slice(1));
@@ -152,6 +172,7 @@ function isLeftOut(text, head) {
   });
 }
 
+/** @param {State} state @param {string} command @param {string} text */
 function format(state, command, text) {
   const form = formOf(text, state.givenForm);
   if (state.givenForm !== null && !state.givenForm.equals(form)) {
@@ -169,6 +190,7 @@ function format(state, command, text) {
   return `%${form.target}*%`;
 }
 
+/** @param {State} state @param {string} command @param {string} text */
 function unit(state, command, text) {
   if (text !== "MOMM" && text !== "MOIN") {
     throw new Unsaid(`%${text}*% is no unit: write MM or IN`);
@@ -177,16 +199,23 @@ function unit(state, command, text) {
   return `%${command}*%`;
 }
 
+/** @param {State} state @param {string} command @param {string} text */
 function mirror(state, command, text) {
-  if (!/^LM(N|X|Y|XY)$/.test(text)) {
+  const mirror = MIRRORS.find((known) => text === `LM${known}`);
+  if (mirror === undefined) {
     throw new Unsaid(`%${text}*% is no mirror: write N, X, Y or XY`);
   }
-  state.mirror = state.writtenMirror = text.slice(2);
+  state.mirror = state.writtenMirror = mirror;
   state.refresh();
   return `%${command}*%`;
 }
 
-/** A turn; of one beyond quarters they are written, and the rest goes with each aperture under it. */
+/**
+ * A turn; of one beyond quarters they are written, and the rest goes with each aperture under it.
+ * @param {State} state
+ * @param {string} command
+ * @param {string} text
+ */
 function turn(state, command, text) {
   const angle = decimal(text.slice(2) || "0");
   if (angle === null) {
@@ -207,6 +236,7 @@ function turn(state, command, text) {
   return `%LR${90n * quarter}*%`;
 }
 
+/** @param {State} state @param {string} command @param {string} text */
 function scale(state, command, text) {
   const factor = decimal(text.slice(2) || "1");
   if (factor === null || factor.n <= 0n) {
@@ -224,16 +254,22 @@ function scale(state, command, text) {
   return "%LS1*%";
 }
 
-/** A block's begin or end. A number that was defined before gets a number of its own. */
+/**
+ * A block's begin or end. A number that was defined before gets a number of its own.
+ * @param {State} state
+ * @param {string} command
+ * @param {string} text
+ */
 function block(state, command, text) {
   const { dictionary } = state;
   const found = /^ABD(\d+)$/.exec(text);
   if (found === null) {
     return `%${command}*%`;
   }
-  const number = Number(found[1]);
+  const [, digits = ""] = found;
+  const number = Number(digits);
   const old = dictionary.of(number);
-  const aperture = new Aperture({ number, template: "AB", sizes: [], text: found[1], line: state.line });
+  const aperture = new Aperture({ number, template: "AB", sizes: [], text: digits, line: state.line });
   aperture.key = `block on line ${state.line}`;
   dictionary.apertures.set(number, aperture);
   state.refresh();

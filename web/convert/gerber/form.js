@@ -8,6 +8,7 @@ const WITHOUT_ZEROS = /^FSA(?:N\d)?(?:G\d)?X(\d)(\d)Y\1\2(?:D\d)?(?:M\d)?$/;
 const MOST_DIGITS = 15;
 
 /** What `--zeros` calls those that are written, by the letter of those that are left out. */
+/** @type {Record<string, string>} */
 const WRITTEN = { L: "trailing", T: "leading" };
 
 export class Form {
@@ -41,6 +42,7 @@ export class Form {
     return x !== y || zeros === undefined ? "" : `--format ${x}${zeros === "trailing" ? "" : ` --zeros ${zeros}`}`;
   }
 
+  /** @param {Form} other */
   equals(other) {
     return this.omits === other.omits && `${this.whole} ${this.decimals}` === `${other.whole} ${other.decimals}`;
   }
@@ -56,9 +58,10 @@ export class Form {
     if (fraction >= 0) {
       return this.targetDecimals - fraction;
     }
-    const left = this.targetDecimals - this.decimals[axis];
+    const [whole, decimals] = axis === 0 ? [this.whole[0], this.decimals[0]] : [this.whole[1], this.decimals[1]];
+    const left = this.targetDecimals - decimals;
     if (this.omits === "T") {
-      const missing = this.whole[axis] + this.decimals[axis] - count;
+      const missing = whole + decimals - count;
       return missing < 0 ? -1 : left + missing;
     }
     return this.omits === "D" ? -1 : left;
@@ -87,7 +90,14 @@ export class Form {
     return text.startsWith("-") && size !== 0 ? -size : size;
   }
 
-  /** All digits of a coordinate without a point. */
+  /**
+   * All digits of a coordinate without a point.
+   * @param {string} letter
+   * @param {string} text
+   * @param {string} body
+   * @param {number} whole
+   * @param {number} decimals
+   */
   digits(letter, text, body, whole, decimals) {
     if (this.omits === "T") {
       if (body.length > whole + decimals) {
@@ -103,9 +113,13 @@ export class Form {
   }
 }
 
-/** The digits of a decimal with so many behind its point; null where it has more. */
+/**
+ * The digits of a decimal with so many behind its point; null where it has more.
+ * @param {string} body
+ * @param {number} decimals
+ */
 function pointed(body, decimals) {
-  const [whole, fraction] = body.split(".");
+  const [whole = "", fraction = ""] = body.split(".");
   const kept = fraction.slice(0, decimals).padEnd(decimals, "0");
   return /[1-9]/.test(fraction.slice(decimals)) ? null : whole + kept;
 }
@@ -130,7 +144,7 @@ export function formOf(command, given = null) {
   const found = FORMAT.exec(command);
   const digits = found === null ? WITHOUT_ZEROS.exec(command) : null;
   if (digits !== null && given !== null) {
-    const [whole, decimals] = digits.slice(1).map(Number);
+    const [whole = 0, decimals = 0] = digits.slice(1).map(Number);
     return new Form(given.omits, [whole, whole], [decimals, decimals]);
   }
   if (digits !== null) {
@@ -142,12 +156,13 @@ export function formOf(command, given = null) {
     throw new Unsaid(`%${command}*% is a format that is not known: choose leading or trailing zeros omitted (L, ` +
       "T), absolute coordinates (A), and the digits of X and Y");
   }
-  if (found[2] === "I") {
+  const [, omits = "", way, ...counts] = found;
+  if (way === "I") {
     throw new Unsaid(`%${command}*% means incremental coordinates: choose absolute ones`);
   }
-  const [wholeX, decimalsX, wholeY, decimalsY] = found.slice(3, 7).map(Number);
+  const [wholeX = 0, decimalsX = 0, wholeY = 0, decimalsY = 0] = counts.map(Number);
   if (Math.max(decimalsX, decimalsY) > 6) {
     throw new Unsaid(`%${command}*% has more than 6 decimals: choose fewer`);
   }
-  return new Form(found[1], [wholeX, wholeY], [decimalsX, decimalsY]);
+  return new Form(omits, [wholeX, wholeY], [decimalsX, decimalsY]);
 }

@@ -9,8 +9,15 @@ const ANY_FORM = formOfOptions({ whole: 6, decimals: 6 }, "trailing");
 const QUADRANTS = /G7[45](?!\d)/;
 const OFFSETS = /[IJ][-+.0-9]/;
 const SIGNED = /[IJ]-0*[1-9]/;
+/** @typedef {import("./state.js").State} State */
+/** @typedef {"mm" | "inch"} Unit */
 
-/** Where a file tells its unit, from the command on that the cutter stands at. */
+
+/**
+ * Where a file tells its unit, from the command on that the cutter stands at.
+ * @param {State} state
+ * @returns {{unit: Unit, line: number} | null}
+ */
 function toldUnit(state) {
   const { cutter, bytes } = state;
   for (const { text, line, isExtended } of commandsFrom(bytes, cutter.start, cutter.line)) {
@@ -46,7 +53,10 @@ export function missingUnit(state) {
   return [];
 }
 
-/** The format that a file has from the command on that the cutter stands at; null where it has none. */
+/**
+ * The format that a file has from the command on that the cutter stands at; null where it has none.
+ * @param {State} state
+ */
 function toldForm(state) {
   const { cutter, bytes } = state;
   for (const { text, line, isExtended } of commandsFrom(bytes, cutter.start, cutter.line, true)) {
@@ -68,17 +78,19 @@ export function missingForm(state) {
   if (state.form !== null) {
     return [];
   }
-  if (state.givenForm === null) {
+  const { givenForm } = state;
+  if (givenForm === null) {
     const told = toldForm(state);
     state.refuse(`a coordinate before the format (%FS..*%)${formAdvice(told)}`);
     state.tellForm(told?.form ?? ANY_FORM);
     return [];
   }
-  state.tellForm(state.givenForm);
-  state.change(`%${state.form.target}*% is written before it, as --format gives it`);
-  return [`%${state.form.target}*%`];
+  state.tellForm(givenForm);
+  state.change(`%${givenForm.target}*% is written before it, as --format gives it`);
+  return [`%${givenForm.target}*%`];
 }
 
+/** @param {ReturnType<typeof toldForm>} told */
 function formAdvice(told) {
   const choose = "choose RS-274X, or give the digits before and after the point as --format 2.4, with --zeros leading " +
     "where trailing zeros are left out";
@@ -87,6 +99,7 @@ function formAdvice(told) {
       : `give ${told.form.options} where that holds here too`}`;
 }
 
+/** @param {State} state @param {Unit} unit @param {string} why */
 function written(state, unit, why) {
   state.tellUnit(unit);
   state.change(`${UNIT_COMMANDS[unit]} is written before it, ${why}`);
@@ -104,6 +117,7 @@ export function missingQuadrants(state, word) {
     return [];
   }
   state.areQuadrantsSought = true;
+  /** @type {{text: string, line: number} | null} */
   let signed = null;
   for (const { text, line, isExtended } of commandsFrom(state.bytes, state.cutter.start, state.cutter.line)) {
     const capitals = text.toUpperCase();

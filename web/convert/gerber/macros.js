@@ -41,31 +41,35 @@ export class Macro {
    */
   primitives(parameters) {
     const variables = new Map(parameters.map((value, place) => [place + 1, value]));
+    /** @type {Primitive[]} */
     const primitives = [];
     for (const part of this.parts) {
       const found = VARIABLE.exec(part);
       if (found !== null) {
-        variables.set(Number(found[1]), valueOf(found[2], variables));
+        const [, number, expression = ""] = found;
+        variables.set(Number(number), valueOf(expression, variables));
       } else {
-        const [code, ...fields] = part.split(",");
+        const [code = "", ...fields] = part.split(",");
         primitives.push({ code: code.replace(/^0+(?=\d)/, ""), fields: fields.map((field) => valueOf(field, variables)) });
       }
     }
     return primitives;
   }
 
-  /** @returns {Macro} the same under another name */
+  /** @param {string} name @returns {Macro} the same under another name */
   named(name) {
     return new Macro(name, this.parts, this.text.replace(/^AM[^*]*/, () => `AM${name}`));
   }
 }
 
+/** @param {string} part */
 function isPart(part) {
   const found = VARIABLE.exec(part);
   if (found !== null) {
-    return Number(found[1]) >= 1 && Number(found[1]) <= 9999 && isExpression(found[2]);
+    const [, number, expression = ""] = found;
+    return Number(number) >= 1 && Number(number) <= 9999 && isExpression(expression);
   }
-  const [code, ...fields] = part.split(",");
+  const [code = "", ...fields] = part.split(",");
   return /^\d+$/.test(code) && fields.every(isExpression);
 }
 
@@ -76,7 +80,7 @@ function isPart(part) {
  * @returns {Macro}
  */
 export function macroOf(command, change) {
-  const [name, ...parts] = command.split("*").map((part) =>
+  const [name = "", ...parts] = command.split("*").map((part) =>
     part.trim().startsWith("0") ? part.replace(/^[ \t\r\n]+|[ \t\r\n]+$/g, "") : part.replace(SKIPPED, ""));
   const clean = parts.map((part) => (part.startsWith("0") ? part.replace(ODD, "") : without22(part)));
   if (parts.some((part) => part.startsWith("22,"))) {
@@ -90,7 +94,11 @@ export function macroOf(command, change) {
   return new Macro(name.slice(2), clean.filter((part) => part !== "" && !part.startsWith("0")), text);
 }
 
-/** The expression of a centre, half a side from where it starts: its value where both are plain numbers. */
+/**
+ * The expression of a centre, half a side from where it starts: its value where both are plain numbers.
+ * @param {string} start
+ * @param {string} side
+ */
 function halfSum(start, side) {
   const from = decimal(start);
   const length = decimal(side);
@@ -102,13 +110,16 @@ function halfSum(start, side) {
   return decimalText(nearest(multiply(sum, rational(10n ** BigInt(decimals)))), decimals);
 }
 
-/** The primitive 22, a rectangle from its lower left, as the same rectangle about its centre, 21. */
+/**
+ * The primitive 22, a rectangle from its lower left, as the same rectangle about its centre, 21.
+ * @param {string} part
+ */
 function without22(part) {
   const fields = part.split(",");
   if (fields[0] !== "22" || (fields.length !== 6 && fields.length !== 7)) {
     return part;
   }
-  const [, exposure, width, height, x, y, ...rotation] = fields;
+  const [, exposure, width = "", height = "", x = "", y = "", ...rotation] = fields;
   return ["21", exposure, width, height, halfSum(x, width), halfSum(y, height), ...rotation].join(",");
 }
 

@@ -41,14 +41,13 @@ export class Operations {
   }
 
   grow() {
-    for (const name of ["kinds", "apertures", "numbers"]) {
-      const grown = new this[name].constructor(2 * this[name].length);
-      grown.set(this[name]);
-      this[name] = grown;
-    }
+    const room = 2 * this.count;
+    this.kinds = grown(this.kinds, new Int32Array(room));
+    this.apertures = grown(this.apertures, new Int32Array(room));
+    this.numbers = grown(this.numbers, new Float64Array(4 * room));
   }
 
-  /** @returns {boolean} whether both lists say the same */
+  /** @param {Operations} other @returns {boolean} whether both lists say the same */
   equals(other) {
     if (this.count !== other.count) {
       return false;
@@ -65,4 +64,14 @@ export class Operations {
     }
     return true;
   }
+}
+
+/**
+ * @template {Int32Array | Float64Array} T
+ * @param {T} from
+ * @param {T} to  with more room
+ */
+function grown(from, to) {
+  to.set(from);
+  return to;
 }

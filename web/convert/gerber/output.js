@@ -13,32 +13,37 @@ export class Output {
     this.length = 0;
     /** Where the part of the source begins that is not copied yet. */
     this.copied = 0;
-    /** @type {{at: number, text: string}[]} */
+    /** @type {{at: number, slot: import("./dictionary.js").Slot}[]} */
     this.slots = [];
     this.isChanged = false;
   }
 
-  /** Writes a text, or a slot's place, for the source from start to end; what lies before it stays. */
+  /**
+   * Writes a text, or a slot's place, for the source from start to end; what lies before it stays.
+   * @param {number} start
+   * @param {number} end
+   * @param {import("./words.js").Piece[]} pieces
+   */
   replace(start, end, pieces) {
     this.copyTo(start);
     for (const piece of pieces) {
       if (typeof piece === "string") {
         this.putText(piece);
       } else {
-        piece.at = this.length;
-        this.slots.push(piece);
+        this.slots.push({ at: this.length, slot: piece });
       }
     }
     this.copied = end;
     this.isChanged = true;
   }
 
+  /** @param {number} end */
   copyTo(end) {
     const { source, copied } = this;
     this.makeRoom(end - copied);
     if (end - copied < FEW) {
       for (let at = copied; at < end; at++) {
-        this.bytes[this.length++] = source[at];
+        this.bytes[this.length++] = /** @type {number} */ (source[at]);
       }
     } else {
       this.bytes.set(source.subarray(copied, end), this.length);
@@ -47,6 +52,7 @@ export class Output {
     this.copied = end;
   }
 
+  /** @param {string} text */
   putText(text) {
     this.makeRoom(text.length);
     for (let at = 0; at < text.length; at++) {
@@ -54,6 +60,7 @@ export class Output {
     }
   }
 
+  /** @param {number} more */
   makeRoom(more) {
     if (this.length + more > this.bytes.length) {
       const grown = new Uint8Array(2 * (this.length + more));
@@ -68,17 +75,17 @@ export class Output {
       return this.source;
     }
     this.copyTo(this.source.length);
-    const texts = this.slots.map((slot) => latin1Bytes(slot.text));
-    const whole = new Uint8Array(texts.reduce((sum, text) => sum + text.length, this.length));
+    const texts = this.slots.map(({ at, slot }) => ({ at, text: latin1Bytes(slot.text) }));
+    const whole = new Uint8Array(texts.reduce((sum, { text }) => sum + text.length, this.length));
     let from = 0;
     let to = 0;
-    this.slots.forEach((slot, place) => {
-      whole.set(this.bytes.subarray(from, slot.at), to);
-      to += slot.at - from;
-      whole.set(texts[place], to);
-      to += texts[place].length;
-      from = slot.at;
-    });
+    for (const { at, text } of texts) {
+      whole.set(this.bytes.subarray(from, at), to);
+      to += at - from;
+      whole.set(text, to);
+      to += text.length;
+      from = at;
+    }
     whole.set(this.bytes.subarray(from, this.length), to);
     return whole;
   }

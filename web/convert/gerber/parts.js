@@ -15,6 +15,8 @@
  * @typedef {{kind: "moire" | "thermal", parts: Shape[]}} Composite  shapes that take away from one another alone
  * @typedef {Shape | Composite} Part
  * @typedef {"C" | "R" | "O" | "P"} Template  of the standard: circle, rectangle, obround, polygon
+  * @typedef {[Rational, Rational, Rational, Rational, Rational, Rational, Rational, Rational]} Fields  so many of them as a
+  *   primitive of this code has
  */
 
 import { Unsaid } from "../report.js";
@@ -27,6 +29,7 @@ const MOST_RINGS = 1000n;
 const MOST_CORNERS = 5000n;
 
 /** How many fields each primitive has without the rotation, which may be missing, behind its code. */
+/** @type {Record<string, number>} */
 const FIELDS = { 1: 4, 2: 6, 20: 6, 21: 5, 5: 5, 6: 8, 7: 5 };
 
 /**
@@ -46,15 +49,17 @@ export function partOf({ code, fields }) {
   if (fields.length !== count && fields.length !== count + 1) {
     throw new Unsaid(`primitive ${code} with ${fields.length} values after its code`);
   }
+  // (the count was compared with what the code has)
+  const values = /** @type {Fields} */ (fields);
   const turn = fields[count] ?? ZERO;
   if (code === "6") {
-    return moire(fields, turn);
+    return moire(values, turn);
   }
   if (code === "7") {
-    return thermal(fields, turn);
+    return thermal(values, turn);
   }
-  const on = isOn(code, fields[0]);
-  const [, a, b, c, d, e] = fields;
+  const on = isOn(code, values[0]);
+  const [, a, b, c, d, e] = values;
   switch (code) {
     case "1":
       return { kind: "disc", on, diameter: a, at: [b, c], turn };
@@ -78,7 +83,7 @@ function isOn(code, exposure) {
 /** @param {Rational[]} fields @returns {Outline} */
 function outlineOf(fields) {
   const [exposure, count, ...rest] = fields;
-  if (count === undefined || count.d !== 1n || count.n < 1n || count.n > MOST_CORNERS) {
+  if (exposure === undefined || count === undefined || count.d !== 1n || count.n < 1n || count.n > MOST_CORNERS) {
     throw new Unsaid("primitive 4 with a number of points that is not from 1 to 5000");
   }
   const needed = 2 * Number(count.n) + 2;
@@ -88,7 +93,7 @@ function outlineOf(fields) {
   /** @type {Point[]} */
   const points = [];
   for (let place = 0; place < needed - 2; place += 2) {
-    points.push([rest[place], rest[place + 1]]);
+    points.push(/** @type {Point} */ (rest.slice(place, place + 2)));
   }
   return { kind: "outline", on: isOn("4", exposure), points, turn: rest[needed] ?? ZERO };
 }
@@ -117,7 +122,7 @@ const rectangle = (on, width, height, at, turn) => ({ kind: "rectangle", on, wid
 
 /**
  * Rings, each a disc on and a smaller one off, and the two bars of a cross over them.
- * @param {Rational[]} fields
+ * @param {Fields} fields
  * @param {Rational} turn
  * @returns {Composite}
  */
@@ -143,7 +148,7 @@ function moire([x, y, outer, thickness, gap, most, crossWidth, crossLength], tur
 
 /**
  * A ring with four gaps: a disc on, a smaller one off, and two bars off, longer than the ring is wide.
- * @param {Rational[]} fields
+ * @param {Fields} fields
  * @param {Rational} turn
  * @returns {Composite}
  */
@@ -190,22 +195,25 @@ export function partsOfTemplate(template, sizes) {
   if (sizes.length < own || sizes.length > holeAt + 2) {
     throw new Unsaid(`${template} with ${sizes.length} parameters`);
   }
+  // A circle has the first of these alone.
+  const [size, other, direction = ZERO] = /** @type {[Rational, Rational, Rational?]} */ (sizes);
   /** @type {Record<Template, () => Shape>} */
   const shapes = {
-    C: () => disc(true, sizes[0], NO_PLACE, ZERO),
-    R: () => rectangle(true, sizes[0], sizes[1], NO_PLACE, ZERO),
-    O: () => obround(sizes[0], sizes[1]),
-    P: () => polygon(true, sizes[1], sizes[0], NO_PLACE, sizes[2] ?? ZERO, ZERO),
+    C: () => disc(true, size, NO_PLACE, ZERO),
+    R: () => rectangle(true, size, other, NO_PLACE, ZERO),
+    O: () => obround(size, other),
+    P: () => polygon(true, other, size, NO_PLACE, direction, ZERO),
   };
-  return [shapes[template](), ...holeOf(sizes.slice(holeAt), template === "P" ? sizes[2] ?? ZERO : ZERO)];
+  return [shapes[template](), ...holeOf(sizes.slice(holeAt), template === "P" ? direction : ZERO)];
 }
 
 /** The hole, turned as a polygon is, of which the standard says that it is the aperture's rotation.
  * @param {Rational[]} sides @param {Rational} turn @returns {Shape[]} */
 function holeOf(sides, turn) {
-  if (sides.length === 0 || sides.every(isZero)) {
+  const [side, other] = sides;
+  if (side === undefined || sides.every(isZero)) {
     return [];
   }
-  return [sides.length === 1 ? disc(false, sides[0], NO_PLACE, ZERO)
-    : rectangle(false, sides[0], sides[1], NO_PLACE, turn)];
+  return [other === undefined ? disc(false, side, NO_PLACE, ZERO)
+    : rectangle(false, side, other, NO_PLACE, turn)];
 }

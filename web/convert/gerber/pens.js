@@ -19,7 +19,7 @@ import { add, multiply, negate } from "../exact.js";
  */
 export function penOf(parts, placing) {
   const [part] = parts;
-  if (parts.length !== 1 || "parts" in part || !part.on) {
+  if (part === undefined || parts.length !== 1 || "parts" in part || !part.on) {
     throw new Unsaid(parts.some((shape) => "on" in shape && !shape.on) ? "has a hole" : `is made of ${parts.length} shapes`);
   }
   if (part.kind === "outline" && !isConvex(part.points)) {
@@ -57,11 +57,19 @@ export function hullOf({ points, diameter }, [dx, dy]) {
   }
   /** @type {Placed[]} */
   const sides = corners.map((from, place) => ({ code: 20, on: true, width: diameter, from,
-    to: corners[(place + 1) % corners.length] }));
+    to: following(corners, place) }));
   /** @type {Placed[]} */
   const ends = corners.map((at) => ({ code: 1, on: true, diameter, at }));
   return [...core, ...(corners.length > 2 ? sides : sides.slice(0, corners.length - 1)), ...ends];
 }
+
+/**
+ * What stands behind a place of a closed list.
+ * @template T
+ * @param {T[]} list
+ * @param {number} place
+ */
+const following = (list, place) => /** @type {T} */ (list[(place + 1) % list.length]);
 
 /** @type {(o: Place, a: Place, b: Place) => bigint} */
 const cross = (o, a, b) => (a[0] - o[0]) * (b[1] - o[1]) - (a[1] - o[1]) * (b[0] - o[0]);
@@ -73,22 +81,24 @@ const cross = (o, a, b) => (a[0] - o[0]) * (b[1] - o[1]) - (a[1] - o[1]) * (b[0]
 function hull(points) {
   /** @type {(a: Place, b: Place) => number} */
   const order = (a, b) => (a[0] === b[0] ? (a[1] < b[1] ? -1 : a[1] > b[1] ? 1 : 0) : a[0] < b[0] ? -1 : 1);
-  const sorted = [...points].sort(order).filter((point, place, all) => place === 0 || order(point, all[place - 1]) !== 0);
-  if (sorted.length < 3) {
-    return sorted;
+  const sorted = [...points].sort(order);
+  const places = sorted.filter((point, place) => place === 0 || order(point, following(sorted, place - 2 + sorted.length)) !== 0);
+  if (places.length < 3) {
+    return places;
   }
   const chain = (/** @type {Place[]} */ list) => {
     /** @type {Place[]} */
     const corners = [];
     for (const point of list) {
-      while (corners.length > 1 && cross(corners[corners.length - 2], corners[corners.length - 1], point) <= 0n) {
+      for (let last = corners.at(-1), before = corners.at(-2); last && before && cross(before, last, point) <= 0n;
+        last = corners.at(-1), before = corners.at(-2)) {
         corners.pop();
       }
       corners.push(point);
     }
     return corners.slice(0, -1);
   };
-  return [...chain(sorted), ...chain(sorted.reverse())];
+  return [...chain(places), ...chain(places.reverse())];
 }
 
 /**
@@ -97,15 +107,15 @@ function hull(points) {
  */
 function isConvex(points) {
   const steps = points.map((point, place) => {
-    const next = points[(place + 1) % points.length];
-    return [add(next[0], negate(point[0])), add(next[1], negate(point[1]))];
+    const next = following(points, place);
+    return /** @type {import("./parts.js").Point} */ ([add(next[0], negate(point[0])), add(next[1], negate(point[1]))]);
   }).filter(([x, y]) => x.n !== 0n || y.n !== 0n);
   const turns = steps.map(([x, y], place) => {
-    const [nextX, nextY] = steps[(place + 1) % steps.length];
+    const [nextX, nextY] = following(steps, place);
     return Number(sign(add(multiply(x, nextY), negate(multiply(y, nextX)))));
   });
   const isOneWay = !(turns.some((turn) => turn > 0) && turns.some((turn) => turn < 0));
-  return isOneWay && [0, 1].every((axis) => changesOf(steps.map((step) => sign(step[axis]))) <= 2);
+  return isOneWay && changesOf(steps.map(([x]) => sign(x))) <= 2 && changesOf(steps.map(([, y]) => sign(y))) <= 2;
 }
 
 /** @type {(value: Rational) => -1 | 0 | 1} */
@@ -117,5 +127,5 @@ const sign = ({ n }) => (n > 0n ? 1 : n < 0n ? -1 : 0);
  */
 function changesOf(signs) {
   const told = signs.filter((value) => value !== 0);
-  return told.filter((value, place) => value !== told[(place + 1) % told.length]).length;
+  return told.filter((value, place) => value !== following(told, place)).length;
 }

@@ -25,9 +25,17 @@ export function writeOperation(state, places, given, mode) {
 }
 
 class Operation {
+  /**
+   * @param {import("./state.js").State} state
+   * @param {[string, string][]} places
+   * @param {number} given
+   * @param {number} mode
+   */
   constructor(state, places, given, mode) {
     this.state = state;
     this.mode = mode;
+    /** Whether it is an arc of radius 0 that is written as a line. */
+    this.isLine = false;
     /** The numbers as they are written, and by value, by their letters. */
     /** @type {Record<string, string>} */
     this.texts = {};
@@ -42,6 +50,7 @@ class Operation {
     this.end = [this.values.X ?? state.x, this.values.Y ?? state.y];
   }
 
+  /** @param {string} letter @param {string} text */
   read(letter, text) {
     const { state } = this;
     if (this.values[letter] !== undefined) {
@@ -50,10 +59,11 @@ class Operation {
     if (!NUMBER.test(text)) {
       throw new Unsaid(`${letter}${text} is no number: ${ANEW}`);
     }
-    const value = state.form.steps(letter, text);
+    const form = state.toldForm;
+    const value = form.steps(letter, text);
     this.values[letter] = value;
-    const staysSo = state.form.isRead && /^[+-]?\d{1,15}$/.test(text);
-    if (state.form.isRead && text.includes(".")) {
+    const staysSo = form.isRead && /^[+-]?\d{1,15}$/.test(text);
+    if (form.isRead && text.includes(".")) {
       state.change("coordinates with a point are written in the format");
     }
     this.texts[letter] = staysSo ? text : String(value);
@@ -105,9 +115,14 @@ class Operation {
     return true;
   }
 
-  /** A draw with an aperture that camplot draws with, or a segment of a region. */
+  /**
+   * A draw with an aperture that camplot draws with, or a segment of a region.
+   * @param {number} number
+   * @param {string[]} before
+   */
   drawn(number, before) {
     const { state } = this;
+    /** @type {string[]} */
     let front = [];
     if (state.mode !== 1) {
       front = this.arc();
@@ -144,18 +159,22 @@ class Operation {
 
   /** Gives the offsets of an arc of one quadrant the signs that they have under G75. */
   sign() {
-    const { state, end } = this;
-    const { form } = state;
+    const { state, end, values } = this;
+    const form = state.toldForm;
     const step = 10 ** (form.targetDecimals - Math.min(...form.decimals));
-    const offsets = [this.values.I ?? 0, this.values.J ?? 0];
-    const signed = signedOffsets([state.x, state.y], end, offsets, state.mode === 2, step);
-    ["I", "J"].forEach((letter, axis) => {
-      if (this.values[letter] !== undefined) {
-        this.values[letter] = signed[axis];
-        this.texts[letter] = (signed[axis] < 0 ? "-" : "") + this.texts[letter].replace(/^[+-]/, "");
-      }
-    });
+    const [i, j] = signedOffsets([state.x, state.y], end, [values.I ?? 0, values.J ?? 0], state.mode === 2, step);
+    this.giveSign("I", i);
+    this.giveSign("J", j);
     state.change(SIGNED);
+  }
+
+  /** @param {"I" | "J"} letter @param {number} value */
+  giveSign(letter, value) {
+    const text = this.texts[letter];
+    if (text !== undefined) {
+      this.values[letter] = value;
+      this.texts[letter] = (value < 0 ? "-" : "") + text.replace(/^[+-]/, "");
+    }
   }
 
   /** The mirror and the turn of flashes, where others are in force in what is written. */
@@ -164,6 +183,7 @@ class Operation {
     return settingsOf(state, state.mirror, state.quarters);
   }
 
+  /** @param {number} number */
   selection(number) {
     const { state } = this;
     if (number === state.writtenAperture) {
@@ -174,7 +194,10 @@ class Operation {
     return [`D${number}*`];
   }
 
-  /** The operation's own word. */
+  /**
+   * The operation's own word.
+   * @param {number} number
+   */
   word(number) {
     const { state, texts, values, code } = this;
     const mode = this.isLine ? 1 : state.mode;
@@ -222,14 +245,20 @@ class Operation {
    * @param {number} steps
    */
   nm(steps) {
-    const { form, lengthUnit } = this.state;
+    const { toldForm: form, lengthUnit } = this.state;
     const size = lengthUnit === "mm" ? 1_000_000n : 25_400_000n;
     return nearest(rational(BigInt(steps) * size, 10n ** BigInt(form.targetDecimals)));
   }
 }
 
-/** The commands that put another mirror and turn in force in what is written. */
+/**
+ * The commands that put another mirror and turn in force in what is written.
+ * @param {import("./state.js").State} state
+ * @param {import("./placing.js").Mirror} mirror
+ * @param {number} quarters
+ */
 function settingsOf(state, mirror, quarters) {
+  /** @type {string[]} */
   const commands = [];
   if (state.writtenMirror !== mirror) {
     commands.push(`%LM${mirror}*%`);

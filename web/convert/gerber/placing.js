@@ -5,6 +5,7 @@
  * @typedef {import("../exact.js").Rational} Rational
  * @typedef {import("./parts.js").Shape} Shape
  * @typedef {import("./parts.js").Point} Point
+  * @typedef {"N" | "X" | "Y" | "XY"} Mirror
  * @typedef {[bigint, bigint]} Place  whole nm
  * @typedef {[bigint, bigint]} Real  a place in nm, as reals in fixed point
  * @typedef {{code: 1, on: boolean, diameter: bigint, at: Place}
@@ -32,8 +33,9 @@ export class Rounding {
 
   /** @returns {string | undefined} what was rounded, and by how much at most */
   told() {
-    const words = [[this.corners, "corner"], [this.centres, "centre"]].filter(([count]) => count > 0)
-      .map(([count, word]) => `${count} ${word}${count > 1 ? "s" : ""}`);
+    const words = [{ count: this.corners, word: "corner" }, { count: this.centres, word: "centre" }]
+      .filter(({ count }) => count > 0)
+      .map(({ count, word }) => `${count} ${word}${count > 1 ? "s" : ""}`);
     return words.length === 0 ? undefined : `${words.join(" and ")}, by at most ${this.worst.toFixed(2)} nm`;
   }
 }
@@ -42,10 +44,10 @@ export class Rounding {
 export class Placing {
   /**
    * @param {"mm" | "inch"} unit
-   * @param {{turn?: Rational, scale?: Rational, mirror?: string}} settings  the mirror is N, X (x is negated), Y or XY
+   * @param {{turn?: Rational, scale?: Rational, mirror?: Mirror}} settings  the mirror is N, X (x is negated), Y or XY
    * @param {Rounding} [rounding]
    */
-  constructor(unit, { turn = ZERO, scale = rational(1n), mirror = "N" } = {}, rounding = new Rounding()) {
+  constructor(unit, { turn = ZERO, scale = rational(1n), mirror = /** @type {Mirror} */ ("N") } = {}, rounding = new Rounding()) {
     this.factor = multiply(NM[unit], scale);
     this.turn = turn;
     this.mirror = mirror;
@@ -104,7 +106,7 @@ export class Placing {
     return this.rounded(this.turned(this.real(at), turn), "centres");
   }
 
-  /** @param {Shape} part @returns {Placed[]} */
+  /** @param {Shape} part @returns {[Placed, ...Placed[]]} */
   placed(part) {
     const turn = this.turnOfPart(part.turn);
     const isQuarter = turn.d === 1n && turn.n % QUARTER === 0n;
@@ -138,7 +140,7 @@ export class Placing {
    * Discs at both ends, and between their centres as they were rounded a bar that touches them.
    * @param {import("./parts.js").Bar} part
    * @param {Rational} turn
-   * @returns {Placed[]}
+   * @returns {[Placed, ...Placed[]]}
    */
   capsule(part, turn) {
     const bar = this.bar(part, turn);
@@ -149,15 +151,16 @@ export class Placing {
 
   /** @param {import("./parts.js").Rectangle} part @param {Rational} turn @returns {Placed & {code: 21}} */
   rectangle({ on, width, height, at }, turn) {
-    const sides = [this.length(width), this.length(height)];
-    const [across, up] = turn.n % (2n * QUARTER) === 0n ? sides : [sides[1], sides[0]];
-    return { code: 21, on, width: across, height: up, at: this.centre(at, turn) };
+    const [wide, high] = [this.length(width), this.length(height)];
+    const isUpright = turn.n % (2n * QUARTER) === 0n;
+    return { code: 21, on, width: isUpright ? wide : high, height: isUpright ? high : wide, at: this.centre(at, turn) };
   }
 
   /** @param {import("./parts.js").Rectangle} part @returns {Real[]} */
   cornersOfRectangle({ width, height, at }) {
     const [x, y] = this.real(at);
-    const [a, b] = [width, height].map((side) => fixed(half(multiply(side, this.factor))));
+    const side = (/** @type {Rational} */ length) => fixed(half(multiply(length, this.factor)));
+    const a = side(width), b = side(height);
     return [[x - a, y - b], [x + a, y - b], [x + a, y + b], [x - a, y + b]];
   }
 
@@ -168,16 +171,17 @@ export class Placing {
    */
   cornersOfBar({ width, from, to }) {
     const [start, end] = [this.real(from), this.real(to)];
-    const [dx, dy] = [0, 1].map((axis) => add(to[axis], negate(from[axis])));
+    const dx = add(to[0], negate(from[0])), dy = add(to[1], negate(from[1]));
     const length = squareRoot(add(multiply(dx, dx), multiply(dy, dy)));
     if (length === 0n) {
       return [start, end, end, start];
     }
     const reach = half(multiply(width, this.factor));
-    const sides = [dy, dx].map((side) => (fixed(multiply(side, reach)) << BITS) / length);
-    const across = [this.mirror.includes("X") ? sides[0] : -sides[0], this.mirror.includes("Y") ? -sides[1] : sides[1]];
+    const across = (/** @type {Rational} */ side) => (fixed(multiply(side, reach)) << BITS) / length;
+    const aside = this.mirror.includes("X") ? across(dy) : -across(dy);
+    const up = this.mirror.includes("Y") ? -across(dx) : across(dx);
     /** @type {(end: Real, sign: bigint) => Real} */
-    const beside = ([x, y], sign) => [x + sign * across[0], y + sign * across[1]];
+    const beside = ([x, y], sign) => [x + sign * aside, y + sign * up];
     return [beside(start, 1n), beside(end, 1n), beside(end, -1n), beside(start, -1n)];
   }
 

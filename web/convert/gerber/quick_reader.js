@@ -38,18 +38,20 @@ let digits = 0;
 
 /**
  * Reads digits.
+  * @param {Uint8Array} bytes
  * @returns {number} how many; 0 where there are more than 15
  */
 function readDigits(bytes) {
   const first = at;
   digits = 0;
-  for (let digit = bytes[at] - ZERO; digit >= 0 && digit <= 9; digit = bytes[at] - ZERO) {
+  for (let digit = (bytes[at] ?? 0) - ZERO; digit >= 0 && digit <= 9; digit = (bytes[at] ?? 0) - ZERO) {
     digits = 10 * digits + digit;
     at += 1;
   }
   return at - first <= MOST_DIGITS ? at - first : 0;
 }
 
+/** @param {Uint8Array} bytes @param {number} axis */
 function readPlace(bytes, axis) {
   if (word.places[axis] !== 0) {
     return false;
@@ -63,7 +65,7 @@ function readPlace(bytes, axis) {
   let value = 0;
   let fraction = -1;
   for (;; at++) {
-    const digit = bytes[at] - ZERO;
+    const digit = (bytes[at] ?? 0) - ZERO;
     if (digit >= 0 && digit <= 9) {
       value = 10 * value + digit;
     } else if (bytes[at] === POINT && fraction < 0) {
@@ -73,13 +75,15 @@ function readPlace(bytes, axis) {
       break;
     }
   }
+  const count = at - first - (fraction < 0 ? 0 : 1);
   word.digits[axis] = value;
-  word.counts[axis] = at - first - (fraction < 0 ? 0 : 1);
+  word.counts[axis] = count;
   word.fractions[axis] = fraction < 0 ? -1 : at - fraction;
   word.ends[axis] = at;
-  return word.counts[axis] >= 1 && word.counts[axis] <= MOST_DIGITS;
+  return count >= 1 && count <= MOST_DIGITS;
 }
 
+/** @param {Uint8Array} bytes */
 function readGeneral(bytes) {
   if (readDigits(bytes) === 0) {
     return false;
@@ -93,6 +97,7 @@ function readGeneral(bytes) {
   return isMode;
 }
 
+/** @param {Uint8Array} bytes */
 function readD(bytes) {
   if (readDigits(bytes) === 0) {
     return false;
@@ -107,7 +112,11 @@ function readD(bytes) {
   return isOperation;
 }
 
-/** Reads the word that begins at a place; false where it holds more than is known here. */
+/**
+ * Reads the word that begins at a place; false where it holds more than is known here.
+ * @param {Uint8Array} bytes
+ * @param {number} start
+ */
 export function read(bytes, start) {
   word.hasNumber = word.has54 = word.hasPlaces = word.hasPoint = word.hasSmall = word.isSigned = false;
   word.mode = word.selection = word.code = 0;
@@ -116,7 +125,7 @@ export function read(bytes, start) {
   at = start;
   let last = -1;
   for (;;) {
-    let letter = bytes[at++];
+    let letter = bytes[at++] ?? 0;
     if (letter >= SMALL_A && letter <= SMALL_Z) {
       letter -= TO_CAPITAL;
       word.hasSmall = true;

@@ -10,17 +10,27 @@
 import { SIGNED, offsetsThatFit } from "./arcs.js";
 import { read, word } from "./quick_reader.js";
 
-const LETTERS = ["X", "Y", "I", "J"];
+const LETTERS = "XYIJ";
 const POWERS = Array.from({ length: 32 }, (_, power) => 10 ** power);
+
+/** @typedef {import("./state.js").State} State */
+/** @typedef {import("./form.js").Form} Form */
 const LIMIT = 10 ** 15;
 
-/** Finds the values of the places; false where one does not fit the format. */
+/** @type {(axis: number) => number} the value of a place */
+const valueOf = (axis) => /** @type {number} */ (word.values[axis]);
+
+
+/**
+ * Finds the values of the places; false where one does not fit the format.
+ * @param {Form} form
+ */
 function scale(form) {
   for (let axis = 0; axis < 4; axis++) {
     if (word.places[axis] !== 0) {
-      const more = form.isRead && word.fractions[axis] < 0 ? 0
-        : form.zerosBehind(axis % 2, word.counts[axis], word.fractions[axis]);
-      const value = more < 0 ? LIMIT : word.digits[axis] * POWERS[more];
+      const fraction = word.fractions[axis] ?? -1;
+      const more = form.isRead && fraction < 0 ? 0 : form.zerosBehind(axis % 2, word.counts[axis] ?? 0, fraction);
+      const value = more < 0 ? LIMIT : (word.digits[axis] ?? 0) * (POWERS[more] ?? LIMIT);
       if (value >= LIMIT) {
         return false;
       }
@@ -56,7 +66,7 @@ export function passQuickWord(state) {
     state.mode = state.writtenMode = word.mode;
   }
   const isChosenToo = word.selection !== 0 && hasOperation;
-  const isRewritten = word.hasPlaces && (word.hasPoint || !state.form.isRead);
+  const isRewritten = word.hasPlaces && (word.hasPoint || !state.form?.isRead);
   if (word.hasNumber || word.hasSmall || word.isSigned || isChosenToo || isRewritten || !word.isOrdered) {
     state.line = cutter.line;
     write(state, hasOperation);
@@ -67,37 +77,45 @@ export function passQuickWord(state) {
   return true;
 }
 
-/** Does what an operation says, where it can be written without more; else answers false. */
+/**
+ * Does what an operation says, where it can be written without more; else answers false.
+ * @param {State} state
+ */
 function operate(state) {
   const code = word.code === 0 && state.lastCode === 1 && state.writtenCode === 1 ? 1 : word.code;
   if (state.form === null || state.unit === null || code === 0 || !scale(state.form)) {
     return false;
   }
-  if (state.quadrants === 0 && (word.places[2] + word.places[3] > 0)) {
+  if (state.quadrants === 0 && (word.places[2] !== 0 || word.places[3] !== 0)) {
     return false;
   }
   const mode = word.mode === 0 ? state.mode : word.mode;
   const isUnsigned = code === 1 && mode !== 1 && state.quadrants === 74 && state.writtenQuadrants === 75;
-  if (isUnsigned && !sign(state, mode) || !mayStay(state, code, mode, isUnsigned)) {
+  if (isUnsigned && !sign(state, state.form, mode) || !mayStay(state, code, mode, isUnsigned)) {
     return false;
   }
   if (word.mode !== 0) {
     state.mode = state.writtenMode = mode;
   }
-  state.x = word.places[0] !== 0 ? word.values[0] : state.x;
-  state.y = word.places[1] !== 0 ? word.values[1] : state.y;
+  state.x = word.places[0] !== 0 ? valueOf(0) : state.x;
+  state.y = word.places[1] !== 0 ? valueOf(1) : state.y;
   state.lastCode = state.writtenCode = code;
   const aperture = code === 2 || state.inRegion ? 0 : state.writtenAperture;
-  state.said.add(code, mode, aperture, state.x, state.y, word.values[2], word.values[3]);
+  state.said.add(code, mode, aperture, state.x, state.y, valueOf(2), valueOf(3));
   return true;
 }
 
-/** Gives the offsets of an arc of one quadrant their signs; false where `words.js` has to tell why it cannot. */
-function sign(state, mode) {
+/**
+ * Gives the offsets of an arc of one quadrant their signs; false where `words.js` has to tell why it cannot.
+ * @param {State} state
+ * @param {Form} form
+ * @param {number} mode
+ */
+function sign(state, form, mode) {
   /** @type {[number, number]} */
-  const end = [word.places[0] !== 0 ? word.values[0] : state.x, word.places[1] !== 0 ? word.values[1] : state.y];
-  const step = POWERS[state.form.targetDecimals - Math.min(...state.form.decimals)];
-  const signed = offsetsThatFit([state.x, state.y], end, [word.values[2], word.values[3]], mode === 2, step);
+  const end = [word.places[0] !== 0 ? valueOf(0) : state.x, word.places[1] !== 0 ? valueOf(1) : state.y];
+  const step = 10 ** (form.targetDecimals - Math.min(...form.decimals));
+  const signed = offsetsThatFit([state.x, state.y], end, [valueOf(2), valueOf(3)], mode === 2, step);
   if (typeof signed === "string") {
     return false;
   }
@@ -106,6 +124,7 @@ function sign(state, mode) {
   return true;
 }
 
+/** @param {State} state @param {number} code @param {number} mode @param {boolean} isSigned */
 function mayStay(state, code, mode, isSigned) {
   if (code !== 1) {
     return code === 2 || state.inRegion || state.plainFlash || state.readyFlash === state.writtenAperture;
@@ -120,6 +139,7 @@ function mayStay(state, code, mode, isSigned) {
   return isRead && (word.values[2] !== 0 || word.values[3] !== 0) && (state.inRegion || state.plainArc);
 }
 
+/** @param {State} state @param {boolean} hasOperation */
 function write({ form, output, cutter }, hasOperation) {
   output.copyTo(cutter.start);
   if (word.selection !== 0) {
@@ -129,11 +149,11 @@ function write({ form, output, cutter }, hasOperation) {
     output.putText(word.mode === 0 ? "" : `G0${word.mode}`);
     for (let axis = 0; axis < 4; axis++) {
       if (word.places[axis] !== 0) {
-        output.putText(LETTERS[axis]);
-        if (form.isRead && word.fractions[axis] < 0) {
+        output.putText(LETTERS.charAt(axis));
+        if (form?.isRead && (word.fractions[axis] ?? -1) < 0) {
           copyNumber(output, axis);
         } else {
-          output.putText(`${word.values[axis]}`);
+          output.putText(`${valueOf(axis)}`);
         }
       }
     }
@@ -143,17 +163,23 @@ function write({ form, output, cutter }, hasOperation) {
   output.isChanged = true;
 }
 
-/** Writes a number as it stands, but for the sign of an offset that got one. */
+/**
+ * Writes a number as it stands, but for the sign of an offset that got one.
+ * @param {State["output"]} output
+ * @param {number} axis
+ */
 function copyNumber(output, axis) {
+  const start = word.starts[axis] ?? 0, end = word.ends[axis] ?? 0;
   const isSigned = word.isSigned && axis > 1;
-  if (isSigned && word.values[axis] < 0) {
+  if (isSigned && valueOf(axis) < 0) {
     output.putText("-");
   }
-  const hasSign = word.ends[axis] - word.starts[axis] > word.counts[axis];
-  output.copied = word.starts[axis] + (isSigned && hasSign ? 1 : 0);
-  output.copyTo(word.ends[axis]);
+  const hasSign = end - start > (word.counts[axis] ?? 0);
+  output.copied = start + (isSigned && hasSign ? 1 : 0);
+  output.copyTo(end);
 }
 
+/** @param {State} state @param {boolean} isChosenToo */
 function tell(state, isChosenToo) {
   if (word.hasSmall) {
     state.change("small letters are written as capitals");
@@ -172,7 +198,7 @@ function tell(state, isChosenToo) {
   if (word.isSigned) {
     state.change(SIGNED);
   }
-  if (word.hasPoint && state.form.isRead) {
+  if (word.hasPoint && state.form?.isRead) {
     state.change("coordinates with a point are written in the format");
   }
 }

@@ -131,7 +131,7 @@ export function macroTexts(number, name, placed, unit) {
       case 21:
         return [21, on, length(shape.width), length(shape.height), ...shape.at.map(length), 0];
       default:
-        return [4, on, shape.points.length, ...[...shape.points, shape.points[0]].flat().map(length), 0];
+        return [4, on, shape.points.length, ...[...shape.points, ...shape.points.slice(0, 1)].flat().map(length), 0];
     }
   });
   return [`%AM${name}*\n${lines.map((line) => `${line.join(",")}*`).join("\n")}%`, `%ADD${number}${name}*%`];

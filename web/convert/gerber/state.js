@@ -59,7 +59,7 @@ export class State {
     this.aperture = null;
     this.writtenAperture = 0;
     /** How flashes are mirrored, turned and scaled; the turn in quarters, as it is written, and what is left of it. */
-    this.mirror = this.writtenMirror = "N";
+    this.mirror = this.writtenMirror = /** @type {import("./placing.js").Mirror} */ ("N");
     this.quarters = this.writtenQuarters = 0;
     /** @type {Rational} */
     this.turnLeft = ZERO;
@@ -86,10 +86,11 @@ export class State {
     this.readsPlaces = this.form !== null && this.form.isRead && this.unit !== null;
     const isPlain = aperture !== null && this.writtenAperture === aperture.number && this.isUpright &&
       this.mirror === this.writtenMirror && this.quarters === this.writtenQuarters && !this.isOutdated;
-    this.plainFlash = isPlain && aperture.isKept;
-    this.plainDraw = this.plainFlash && (aperture.isSolidCircle || aperture.isSolidRectangle);
+    const isKept = isPlain && aperture.isKept;
+    this.plainFlash = isKept;
+    this.plainDraw = isKept && (aperture.isSolidCircle || aperture.isSolidRectangle);
     this.readyFlash = -1;
-    this.plainArc = this.plainFlash && aperture.isSolidCircle;
+    this.plainArc = isKept && aperture.isSolidCircle;
   }
 
   /** Whether the number that is selected was defined another way since. */
@@ -97,7 +98,10 @@ export class State {
     return this.aperture !== null && this.dictionary.of(this.selected) !== this.aperture;
   }
 
-  /** Selects an aperture by a word that stays; false where it cannot. */
+  /**
+   * Selects an aperture by a word that stays; false where it cannot.
+   * @param {number} number
+   */
   selectPlain(number) {
     const aperture = this.dictionary.of(number);
     if (aperture === null || aperture.number !== number || !aperture.isKept) {
@@ -141,5 +145,13 @@ export class State {
   /** The unit of lengths, mm where a refusal told that it is missing. */
   get lengthUnit() {
     return this.unit ?? "mm";
+  }
+
+  /** The format, which a coordinate has made sure of: without one a draw that is written by its place cannot be. */
+  get toldForm() {
+    if (this.form === null) {
+      throw new Unsaid("a draw before the format (%FS..*%): choose RS-274X");
+    }
+    return this.form;
   }
 }

@@ -21,7 +21,7 @@ const CODE = /([A-Z])([+-]?[0-9.]*)/g;
 export function rewriteWord(state, raw) {
   const text = packed(raw.slice(0, -1));
   const capitals = text.toUpperCase();
-  const codes = [...capitals.matchAll(CODE)].map(([, letter, number]) => [letter, number]);
+  const codes = [...capitals.matchAll(CODE)].map(([, letter = "", number = ""]) => /** @type {Code} */ ([letter, number]));
   if (codes.map(([letter, number]) => letter + number).join("") !== capitals) {
     throw new Unsaid(`${text.slice(0, 40)}* is no command that is known: ${ANEW}`);
   }
@@ -34,10 +34,11 @@ export function rewriteWord(state, raw) {
   const front = missingQuadrants(state, capitals);
   const word = new Word(state, withoutNumber(state, codes));
   const pieces = word.pieces();
-  const isSame = pieces.length === 1 && byValue(pieces[0]) === byValue(`${text}*`);
+  const isSame = pieces.length === 1 && byValue(pieces[0] ?? "") === byValue(`${text}*`);
   return { pieces: [...front, ...(isSame ? [raw] : pieces)], isEnd: word.isEnd };
 }
 
+/** @param {import("./state.js").State} state @param {Code[]} codes */
 function withoutNumber(state, codes) {
   if (codes[0]?.[0] !== "N") {
     return codes;
@@ -46,7 +47,10 @@ function withoutNumber(state, codes) {
   return codes.slice(1);
 }
 
-/** A word with code numbers by value: `G01X5D01*` and `G1X5D1*` are the same. */
+/**
+ * A word with code numbers by value: `G01X5D01*` and `G1X5D1*` are the same.
+ * @param {Piece} word
+ */
 function byValue(word) {
   return typeof word === "string" ? word.replace(/([GDM])0+(?=\d)/g, "$1") : "";
 }
@@ -63,10 +67,12 @@ class Word {
   /** The words that its codes become: general codes, the choice of an aperture, the operation, the end. */
   pieces() {
     const places = this.codes.filter(([letter]) => "XYIJ".includes(letter));
+    /** @type {{G: number[], D: number[], M: number[]}} */
     const numbers = { G: [], D: [], M: [] };
     for (const [letter, text] of this.codes) {
       if (!"XYIJ".includes(letter)) {
-        (numbers[letter] ?? this.unknown(letter, text)).push(this.codeNumber(letter, text));
+        const same = letter === "G" || letter === "D" || letter === "M" ? numbers[letter] : this.unknown(letter, text);
+        same.push(this.codeNumber(letter, text));
       }
     }
     const apertures = numbers.D.filter((number) => number > 9);
@@ -78,6 +84,7 @@ class Word {
     const front = isFirst ? [...missingForm(this.state), ...missingUnit(this.state)] : [];
     const { words, mode } = this.general(numbers.G, hasOperation);
     const standsAlone = this.codes.length === 2 && numbers.G[0] === 54;
+    /** @type {Piece[]} */
     const pieces = [...front, ...words.map((word) => `${word}*`), ...this.selection(apertures, standsAlone)];
     if (hasOperation) {
       pieces.push(...writeOperation(this.state, places, operations[0] ?? 0, mode));
@@ -87,14 +94,17 @@ class Word {
     return pieces;
   }
 
+  /** @param {string} letter @param {string} text @returns {never} */
   unknown(letter, text) {
     throw new Unsaid(`${letter}${text} is no code that is known: ${ANEW}`);
   }
 
+  /** @param {string} letter @param {string} text */
   codeNumber(letter, text) {
     return /^\d+$/.test(text) ? Number(text) : this.unknown(letter, text);
   }
 
+  /** @param {number[]} apertures @param {number[]} operations @param {number[]} ends @param {Code[]} places */
   check(apertures, operations, ends, places) {
     const isMany = operations.length > 1 || apertures.length > 1 || ends.length > 1;
     if (isMany || operations.some((number) => number < 1 || number > 3)) {
@@ -106,9 +116,14 @@ class Word {
     }
   }
 
-  /** The words of the G codes, and the mode that is written in the operation's own word. */
+  /**
+   * The words of the G codes, and the mode that is written in the operation's own word.
+   * @param {number[]} codes
+   * @param {boolean} hasOperation
+   */
   general(codes, hasOperation) {
     const { state } = this;
+    /** @type {string[]} */
     const words = [];
     let mode = 0;
     for (const number of codes) {
@@ -134,6 +149,7 @@ class Word {
     return { words, mode };
   }
 
+  /** @param {number} number */
   obey(number) {
     const { state } = this;
     if (number === 36 || number === 37) {
@@ -145,18 +161,24 @@ class Word {
     }
   }
 
-  /** The choice of an aperture; of one whose definition waits, a place that is settled with it. */
+  /**
+   * The choice of an aperture; of one whose definition waits, a place that is settled with it.
+   * @param {number[]} apertures
+   * @param {boolean} standsAlone
+   * @returns {Piece[]}
+   */
   selection(apertures, standsAlone) {
     const { state } = this;
-    if (apertures.length === 0) {
+    const [selected] = apertures;
+    if (selected === undefined) {
       return [];
     }
-    const aperture = state.dictionary.of(apertures[0]);
+    const aperture = state.dictionary.of(selected);
     if (aperture === null) {
-      throw new Unsaid(`aperture ${apertures[0]} is selected, and not defined before it: ${ANEW}, which has the apertures`);
+      throw new Unsaid(`aperture ${selected} is selected, and not defined before it: ${ANEW}, which has the apertures`);
     }
     const { number } = aperture;
-    state.selected = apertures[0];
+    state.selected = selected;
     state.aperture = aperture;
     state.writtenAperture = number;
     state.refresh();
@@ -169,29 +191,34 @@ class Word {
     return [slot];
   }
 
+  /** @param {number[]} ends */
   end(ends) {
     const { state } = this;
-    if (ends.length === 0) {
+    const [end] = ends;
+    if (end === undefined) {
       return [];
     }
-    if (ends[0] === 1) {
+    if (end === 1) {
       state.change("M01 is left out: it does nothing");
       return [];
     }
-    if (ends[0] !== 0 && ends[0] !== 2) {
-      this.unknown("M", String(ends[0]).padStart(2, "0"));
+    if (end !== 0 && end !== 2) {
+      this.unknown("M", String(end).padStart(2, "0"));
     }
-    if (ends[0] === 0) {
+    if (end === 0) {
       state.change("M00 is written as M02");
     }
     this.isEnd = true;
     return ["M02*"];
   }
 
-  /** Tells of a word that became several or none, or whose codes stood in another order. */
+  /**
+   * Tells of a word that became several or none, or whose codes stood in another order.
+   * @param {Piece[]} pieces
+   */
   tellOrder(pieces) {
     const { state, codes } = this;
-    const texts = pieces.filter((piece) => typeof piece === "string" && !piece.startsWith("%"));
+    const texts = pieces.flatMap((piece) => (typeof piece === "string" && !piece.startsWith("%") ? [piece] : []));
     const letters = codes.map(([letter]) => letter).join("");
     const kept = texts.join("").replace(/[^A-Z]/g, "");
     const hasChoice = codes.some(([letter, text]) => letter === "G" && Number(text) === 54);
@@ -199,7 +226,7 @@ class Word {
     if (hasChoice && !isWritten && !pieces.some((piece) => typeof piece !== "string")) {
       state.change("G54 is left out: the choice of an aperture means the same");
     }
-    const sorted = (text) => [...text].sort().join("");
+    const sorted = (/** @type {string} */ text) => [...text].sort().join("");
     const isSplit = pieces.filter((piece) => typeof piece !== "string" || !piece.startsWith("%")).length > 1;
     if (isSplit && letters.length >= kept.length) {
       state.change("several codes in one word are split");
