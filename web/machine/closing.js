@@ -4,7 +4,7 @@
 import { NO_STEPS, after, isGhost, isPlayed } from "./replay.js";
 import { DEPTH, layerOf } from "./state.js";
 import { Steps, firstWord, wordsOf } from "./steps.js";
-import { keepAnew } from "./keeping.js";
+import { filesNeeded, keepAnew } from "./keeping.js";
 import { plural } from "../board/index.js";
 
 const OF_LAYERS = new Set(["load", "plot", "write", "list", "insert", "delete", "move", "reorder", "aperture", "polarity", "tool",
@@ -37,21 +37,12 @@ export function without(told, name) {
   return left;
 }
 
-// The files that are still needed.
-/** @param {Machine.State} state @param {Machine.Told[]} told @param {Machine.Refused[]} refused @param {Machine.Picture[]} opened */
-function filesLeft({ files, queue }, told, refused, opened) {
-  /** @type {{ file?: string, files?: string[] }[]} */
-  const all = [...told, ...refused, ...opened, ...queue];
-  const used = new Set(all.flatMap(({ file, files: several = [] }) => [file, ...several]));
-  return Object.fromEntries(Object.entries(files).filter(([id]) => used.has(id)));
-}
-
 // Goes on with another script in another station.
 /** @param {Machine.Turn} turn @param {Machine.Told[]} told @param {Partial<Machine.State>} changes */
 function goOn(turn, told, changes) {
-  const { state } = turn, { refused, opened } = { ...state, ...changes };
-  turn.set({ ...changes, told, files: filesLeft(state, told, refused, opened), paths: {}, comparison: null, click: null,
-    station: { isOpen: false, why: null } });
+  const { state } = turn;
+  turn.set({ ...changes, told, paths: {}, comparison: null, click: null, station: { isOpen: false, why: null } });
+  turn.set({ files: filesNeeded(turn.state) });
   turn.send({ to: "page", kind: "start" });
   const { isOpen, isLost } = state.kept;
   if (!isOpen || isLost) return turn.finish({ isWell: true });

@@ -26,6 +26,7 @@ export { knowRefusals, refusalWords } from "./refusal_words.js";
 export { SCRIPT_SAVED, choices } from "./showing.js";
 export {
   DEPTH, drawnLayers, firstState, isBlank, isIdle, isMadeShown, isOpening, layerOf, scriptText, sessionOf, shownLayers,
+  waitsForStation,
 } from "./state.js";
 export { pileSeen } from "./seen_pile.js";
 export { step } from "./step.js";

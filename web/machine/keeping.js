@@ -30,6 +30,23 @@ export const looksOfState = ({ grid, unit, active, polarity, turn, direction, la
 /** @param {Machine.Keeping} kept */
 const isWritten = ({ isOpen, isLost }) => isOpen && !isLost;
 
+// The files that lines, refused files, pictures and what waits still need.
+/** @param {Machine.State} state */
+export function filesNeeded({ files, queue, told, refused, opened }) {
+  /** @type {{ file?: string, files?: string[] }[]} */
+  const all = [...told, ...refused, ...opened, ...queue];
+  const needed = new Set(all.flatMap(({ file, files: several = [] }) => [file, ...several]));
+  return Object.fromEntries(Object.entries(files).filter(([id]) => needed.has(id)));
+}
+
+// What was under way is over, and files of it were left closed: they are no part of the board, and what waits is kept without them.
+/** @param {Machine.Turn} turn */
+export function leaveClosed(turn) {
+  const files = filesNeeded(turn.state), { kept } = turn.state;
+  turn.set({ files, kept: { ...kept, files: kept.files.filter((id) => files[id]) } });
+  turn.first({ kind: "keep" });
+}
+
 // The files of what waits that are still to be kept: they go with the next write that has what waits, and wait no longer.
 /** @param {Machine.Turn} turn */
 function filesOnWay(turn) {

@@ -2,6 +2,7 @@
 
 import { change, conclude, lookOf } from "./opening.js";
 import { askWhenTried } from "./asking.js";
+import { leaveClosed } from "./keeping.js";
 import { readLater } from "./attributes.js";
 import { boxOf, boxOfWindow, joined } from "../board/index.js";
 import { firstWord } from "./steps.js";
@@ -44,7 +45,7 @@ export const load = {
     change(turn, gesture.opening, { leftClosed: 1 + turn.state.queue.filter(isOf).length });
     turn.set({ queue: turn.state.queue.filter((other) => !isOf(other)) });
     turn.finish();
-    return turn.first({ kind: "keep" });
+    return leaveClosed(turn);
   },
   answer(turn, gesture, { answers: [{ code, reply }] }) {
     const { line, path, look } = turn.state.work, entry = { line, reply };
@@ -93,7 +94,7 @@ export function breakOff(turn, { gesture, stage }, why) {
   const words = `${label} was not opened: the station stopped (${why}).`, before = turn.state.openings[gesture.opening];
   if (before) change(turn, gesture.opening, { faults: [...before.faults, words] });
   else turn.say(words, true);
-  turn.first({ kind: "keep" });
+  leaveClosed(turn);
 }
 
 // What was converted and is open stands no longer as refused.
@@ -160,7 +161,7 @@ function fault(turn, { opening, label }, why) {
   if (before) change(turn, opening, { faults: [...before.faults, `${label}: ${why}.`] });
   else turn.say(`${label}: ${why}.`, true);
   turn.finish();
-  turn.first({ kind: "keep" });
+  leaveClosed(turn);
 }
 
 // A picture beside the layers; one that is of a layer is not shown at once, but proposed for a comparison with it.

@@ -115,6 +115,11 @@ export const isOpening = ({ work, queue }) => ["load", "replay"].includes(work?.
 export const isIdle = ({ work, queue, station, openings }) => work === null && (queue.length === 0 || !station.isOpen)
   && !Object.values(openings).some(({ trying }) => trying > 0);
 
+// Whether lines or files wait for a station that stopped: they are kept nowhere, and are in this page alone.
+/** @param {Machine.State} state */
+export const waitsForStation = ({ queue, station }) => station.why !== null
+  && queue.some((gesture) => ["edit", "lines"].includes(gesture.kind) || gesture.kind === "keep" && gesture.files?.length > 0);
+
 // Whether nothing was done yet.
 /** @param {Machine.State} state */
 export const isBlank = (state) => state.work === null

@@ -4,11 +4,12 @@
 import { CLOSING_MS } from "./holding.js";
 import { Kept, TAKEN } from "./kept.js";
 import { nameOf } from "../board/index.js";
-import { firstState, isBlank, step } from "../machine/index.js";
+import { firstState, isBlank, step, waitsForStation } from "../machine/index.js";
 
 /** @typedef {import("./boards.js").Boards} Boards */
 
 const NOT_KEPT = "What was done to it in the other window is not kept, so it stays there: save it there.";
+const NOT_DONE = "Its station stopped in the other window, and what was done since waits there, so it stays there: open the station again there.";
 
 // Opens a board of the browser that no window has.
 /** @param {Boards} boards @param {string} key */
@@ -58,8 +59,9 @@ export function handOver(boards, key) {
     if (board === boards.shown && !await isSoonAtRest(boards)) {
       return "Something is under way with it in the other window, or asked there.";
     }
-    const { kept } = board === boards.shown ? boards.machine.state : board.state ?? firstState();
-    if (kept.why !== null || kept.isLost) return NOT_KEPT;
+    const state = board === boards.shown ? boards.machine.state : board.state ?? firstState();
+    if (waitsForStation(state)) return NOT_DONE;
+    if (state.kept.why !== null || state.kept.isLost) return NOT_KEPT;
     if (board === boards.shown) await leave(boards, board);
     if (board.state && (board.state.kept.why !== null || board.state.kept.isLost)) {
       await boards.change(board);
@@ -117,7 +119,7 @@ export function stolen(boards, key) {
       await leave(boards, board);
     }
     const after = now();
-    if (after === null || isAsItWas(after, before ?? board.kept.found) || await isThere(after, board.kept)) {
+    if (after === null || !waitsForStation(after) && (isAsItWas(after, before ?? board.kept.found) || await isThere(after, board.kept))) {
       boards.drop(board);
       boards.say(`${nameOf(board)} is open in another window now.`);
       return;

@@ -171,7 +171,8 @@ export class Kept {
     if (!answer.isKept) this.isLost ||= wasLost;
     // What changed of them meanwhile; the page is at rest only when that is written too.
     if (answer.isKept && this.looks) await this.keepLooks(this.looks);
-    return answer;
+    // (all of it may be deleted while that is written)
+    return answer.isKept && this.isLost && this.why === LOST ? { isKept: false, isLost: true, why: LOST } : answer;
   }
 
   // How the page looks: what is shown, colours, the view. The last of several is written. A board in which nothing was done yet is

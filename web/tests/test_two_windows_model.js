@@ -8,50 +8,12 @@ import { ModelBrowser } from "./windows/browser.js";
 import { ModelPage } from "./windows/page.js";
 import { FOUND } from "./windows_walk.js";
 import { WindowsWalk } from "./windows/walk.js";
+import { another, drop, titles, told, type, withTwo } from "./windows/hands.js";
 import { gerber } from "./world.js";
 import { putBase, rowsOf } from "./windows/database.js";
 
 const GESTURES = Number(process.env.GESTURES ?? 250);
 const SEEDS = process.env.SEED ? [Number(process.env.SEED)] : Array.from({ length: 40 }, (_, at) => at + 1);
-
-const told = ({ state }) => state.told.map(({ line }) => line);
-const titles = ({ boards }) => boards.list.map(({ title, number }) => title ?? `board ${number}`);
-
-// A browser with a page in it, which is at rest.
-async function begun(seed = 1) {
-  const browser = new ModelBrowser(chances(seed)), page = new ModelPage(browser);
-  await browser.rest(3000);
-  return { browser, page };
-}
-
-async function another(browser, session = null) {
-  const page = new ModelPage(browser, session);
-  await browser.rest(5000);
-  assert.deepEqual([page.isReady, page.faults], [true, []]);
-  return page;
-}
-
-async function drop(page, name, count) {
-  page.machine.send({ kind: "open", files: [{ name, bytes: gerber(count) }], token: "t" });
-  await page.browser.rest();
-}
-
-async function type(page, ...lines) {
-  for (const line of lines) page.machine.gesture({ kind: "lines", lines: [line] });
-  await page.browser.rest();
-}
-
-// A window with the boards lamp and radio, of which it shows lamp.
-async function withTwo() {
-  const { browser, page } = await begun();
-  await drop(page, "lamp.gtl", 3);
-  page.boards.add();
-  await browser.rest();
-  await drop(page, "radio.gtl", 5);
-  page.boards.show(page.boards.list[0]);
-  await browser.rest();
-  return { browser, page };
-}
 
 suite("two windows over one store", () => {
   test("new in the second one is no board of the first", async () => {

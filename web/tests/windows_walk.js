@@ -6,10 +6,10 @@ import { perform } from "../../tools/lib/command.js";
 import { resolve } from "node:path";
 
 // Seeds whose first 1,000 gestures found something, next to those from 1 on that the gate walks: boards that nobody told were
-// not kept (8), or deleted while they were read (10070, 10175), and boards that were taken and stayed once more (10262, 10779); and
-// what walks were wrong about: lines that were kept between two gestures (10015, 10018, 10168), and a board of before that was
-// closed at once (10024).
-export const FOUND = [8, 10015, 10018, 10024, 10070, 10168, 10175, 10262, 10779];
+// not kept (8), or deleted while they were read (10070, 10175) or written anew (40140), and boards that were taken and stayed once
+// more (10262, 10779), also with files that were left closed (40231); and what walks were wrong about: lines that were kept between
+// two gestures (10015, 10018, 10168), and a board of before that was closed at once (10024).
+export const FOUND = [8, 10015, 10018, 10024, 10070, 10168, 10175, 10262, 10779, 40140, 40231];
 
 const COMMAND = {
   tool: "web/tests/windows_walk.js",
