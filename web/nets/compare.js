@@ -1,6 +1,7 @@
 // What differs between the copper of a board and the points of its nets: opens, shorts, points without copper, copper
 // without a point.
 
+import { throughDisc } from "./measures.js";
 import { nearestParts, overlapOf } from "./nearest.js";
 import { placed } from "./points.js";
 import { Ways } from "./ways.js";
@@ -29,7 +30,7 @@ export const MOST_FULL = 20;
  *
  * @typedef {{kind: "open", net: string, parts: Part[], gaps: Gap[]}} Open
  * @typedef {{kind: "short", nets: {net: string, points: import("./points.js").NetPoint[]}[],
- *   touching: {nets: [string, string], place: Place, width: number}[]}} Short
+ *   touching: {nets: [string, string], place: Place, width: number, measure: import("./measures.js").Measure | null}[]}} Short
  * @typedef {{kind: "bare", point: import("./points.js").NetPoint}} Bare a point without copper
  * @typedef {{kind: "loose", copper: number, place: Place, area: number}} Loose copper without a point, and its mm²
  */
@@ -164,7 +165,8 @@ class Comparison {
       const tree = ways.tree(stretches);
       const place = covered && ways.narrowest(covered, tree);
       if (place) {
-        found.push({ nets: [nearestName(before), net], place: this.place(place), width: place.width * this.grid.pitch });
+        found.push({ nets: [nearestName(before), net], place: this.place(place), width: place.width * this.grid.pitch,
+          measure: place.disc ? this.grid.measureOf(throughDisc(place.disc, place.width)) : null });
       }
       covered = merged(covered, tree);
       before = [...before, net];

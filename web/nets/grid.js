@@ -44,6 +44,15 @@ export class Grid {
   placeOf(column, row) {
     return { x: this.xOf(column), y: this.yOf(row) };
   }
+
+  /**
+   * A measure of pixels in nm.
+   * @param {import("./measures.js").Measure} measure
+   * @returns {import("./measures.js").Measure}
+   */
+  measureOf([from, to]) {
+    return [this.placeOf(from.x, from.y), this.placeOf(to.x, to.y)];
+  }
 }
 
 /**

@@ -1,6 +1,7 @@
 // Rules of holes and pads: holes without a pad, pads without a hole, doubled hits, and holes that overlap.
 
 import { Around } from "./around.js";
+import { between, betweenRims, fromRim } from "./measures.js";
 import { nearHoles, segmentsOf } from "./strokes.js";
 
 /** @typedef {import("./strokes.js").Hole} Hole */
@@ -123,9 +124,10 @@ export class HoleCheck {
   padOn(hole, layer, limit) {
     const { grid } = this, near = this.nearestCopper(hole, layer, limit);
     if (near && near.distance * grid.pitch <= limit) return [];
-    const found = this.nearestCopper(hole, layer, FARTHEST), [[x, y]] = hole.line;
-    return [{ rule: "hole-pad", value: found ? Math.min(FARTHEST, found.distance * grid.pitch) : FARTHEST, within: this.within, layer, from: { x, y },
-      to: found && grid.placeOf(found.column, found.row), nets: [], sources: [hole.source] }];
+    const found = this.nearestCopper(hole, layer, FARTHEST), [[x, y]] = hole.line, to = found && grid.placeOf(found.column, found.row);
+    const value = found ? Math.min(FARTHEST, found.distance * grid.pitch) : FARTHEST;
+    return [{ rule: "hole-pad", value, within: this.within, layer, from: { x, y }, to, measure: to && fromRim(hole.line, hole.radius, to, value),
+      nets: [], sources: [hole.source] }];
   }
 
   /**
@@ -159,9 +161,9 @@ export class HoleCheck {
         if (!nearest || one.distance < nearest.distance) nearest = one;
       }
       if (nearest && nearest.distance <= limit) return [];
-      const told = net === null ? name : `${name} of ${net}`;
-      return [{ rule: "pad-hole", value: nearest ? nearest.distance : FARTHEST, within: EXACT, layer: layers[0], from: { x, y },
-        to: nearest && { x: nearest.x, y: nearest.y }, nets: [], sources: [], shown: [told] }];
+      const told = net === null ? name : `${name} of ${net}`, from = { x, y }, to = nearest && { x: nearest.x, y: nearest.y };
+      return [{ rule: "pad-hole", value: nearest ? nearest.distance : FARTHEST, within: EXACT, layer: layers[0], from, to,
+        measure: to && nearest && between(from, to, nearest.distance), nets: [], sources: [], shown: [told] }];
     });
   }
 
@@ -206,8 +208,9 @@ export class HoleCheck {
    * @returns {Breach}
    */
   pair(rule, value, one, other, from, to) {
-    return { rule, value, within: EXACT, layer: null, from: { x: from[0], y: from[1] }, to: { x: to[0], y: to[1] }, nets: [],
-      sources: [one.source, other.source] };
+    const ends = { from: { x: from[0], y: from[1] }, to: { x: to[0], y: to[1] } };
+    const measure = rule === "overlap" ? betweenRims(ends.from, ends.to, one.radius, -value) : between(ends.from, ends.to, value);
+    return { rule, value, within: EXACT, layer: null, ...ends, measure, nets: [], sources: [one.source, other.source] };
   }
 }
 

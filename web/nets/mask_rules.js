@@ -3,6 +3,7 @@
 
 import { common, difference, flatRows, runsOfFlat } from "./discs.js";
 import { inverse, websOf } from "./mask_webs.js";
+import { between, towards } from "./measures.js";
 import { netsOf } from "./nets.js";
 import { meetings, ownersOf, piecesOf } from "./overlaps.js";
 
@@ -54,21 +55,21 @@ export class MaskCheck {
   /**
    * @param {string} rule
    * @param {Side} side
-   * @param {{value: number, from: [number, number], to: [number, number] | null, nets?: number[]}} found in pixels
+   * @param {{value: number, from: [number, number], to: [number, number] | null, nets?: number[], measure?: import("./measures.js").Measure}} found in pixels
    * @param {string[]} shown of which layers, without the side's name
    * @returns {import("./rules.js").Breach}
    */
-  breach(rule, { name, layer }, { value, from, to, nets = [] }, shown) {
-    const { grid } = this;
-    return { rule, value: Math.max(-DEEPEST, value * grid.pitch), within: this.within, layer, from: grid.placeOf(...from),
-      to: to && grid.placeOf(...to), nets, sources: [], shown: shown.map((what) => `${name}-${what}`) };
+  breach(rule, { name, layer }, { value, from, to, nets = [], measure }, shown) {
+    const { grid } = this, ends = { from: grid.placeOf(...from), to: to && grid.placeOf(...to) }, length = Math.max(-DEEPEST, value * grid.pitch);
+    const drawn = measure ? grid.measureOf(measure) : ends.to && (length < 0 ? towards(ends.from, ends.to, -length) : between(ends.from, ends.to, length));
+    return { rule, value: length, within: this.within, layer, ...ends, measure: drawn, nets, sources: [], shown: shown.map((what) => `${name}-${what}`) };
   }
 
   /** @param {number} limit in nm @returns {import("./rules.js").Breach[]} */
   web(limit) {
     const most = limit / this.grid.pitch;
     return this.masked.flatMap((side) => websOf(side.openings, most)
-      .map(({ width, from, to }) => this.breach("mask-web", side, { value: width, from, to }, ["mask"])));
+      .map(({ width, from, to, measure }) => this.breach("mask-web", side, { value: width, from, to, measure }, ["mask"])));
   }
 
   /** @param {number} limit in nm @returns {import("./rules.js").Breach[]} */

@@ -2,13 +2,14 @@
 
 import { RowsMade, flatRows, runsOfFlat } from "./discs.js";
 import { nearPlaces } from "./clearances.js";
+import { across, throughDisc } from "./measures.js";
 import { netsOf } from "./nets.js";
 import { thinPlaces } from "./necks.js";
 import { Deepest } from "./overlaps.js";
 
 /**
- * A narrow place: `from` and, between two openings, `to` are pixels; in pixels.
- * @typedef {{width: number, from: [number, number], to: [number, number] | null}} Web
+ * A narrow place: `from` and, between two openings, `to` are pixels; within one `measure` leads from edge to edge; in pixels.
+ * @typedef {{width: number, from: [number, number], to: [number, number] | null, measure?: import("./measures.js").Measure}} Web
  *
  * An opening as the runs of its rows, [row, start, end, row, start, end ..].
  * @typedef {{left: number, right: number, top: number, bottom: number, runs: number[]}} Opening
@@ -121,7 +122,7 @@ function islandsOf(mask, width) {
   const found = new Map();
   mask.visit((net) => net !== outside, (_, row, start, end, net) => {
     const known = found.get(net), deeper = deepest.in(row, start, end, known ? (known.width + 1) / 2 : 0);
-    if (deeper) found.set(net, { width: 2 * deeper.depth - 1, from: deeper.at, to: null });
+    if (deeper) found.set(net, { width: 2 * deeper.depth - 1, from: deeper.at, to: null, measure: ofIsland(deeper) });
   });
   for (const [net, { width: own }] of found) if (own >= width) found.delete(net);
   return found;
@@ -136,8 +137,29 @@ function islandsOf(mask, width) {
 function websIn(opening, width) {
   const around = Math.ceil(width) + 4, mask = netsOf([inverse(pictureOf(opening), around)]), islands = islandsOf(mask, width);
   const thin = thinPlaces(mask, width).filter(({ net }) => !islands.has(net));
-  return [...islands.values(), ...thin.map(({ width: own, column, row }) => /** @type {Web} */ ({ width: own, from: [column, row], to: null }))]
-    .map(({ width: own, from: [column, row] }) => ({ width: own, from: [column - around, row - around], to: null }));
+  return [...islands.values(), ...thin.map(({ width: own, column, row, disc }) => /** @type {Web} */ ({ width: own, from: [column, row], to: null,
+    measure: throughDisc(disc, own) }))].map((web) => moved(web, -around, -around));
+}
+
+/**
+ * A place within one opening, so many columns and rows farther.
+ * @param {Web} web
+ * @param {number} columns
+ * @param {number} rows
+ * @returns {Web}
+ */
+function moved({ width, from: [column, row], measure }, columns, rows) {
+  const move = (/** @type {import("./measures.js").Spot} */ { x, y }) => ({ x: x + columns, y: y + rows });
+  return { width, from: [column + columns, row + rows], to: null, measure: measure && [move(measure[0]), move(measure[1])] };
+}
+
+/**
+ * The measure of the largest disc in an island.
+ * @param {{depth: number, at: [number, number], to: [number, number] | null}} deepest
+ */
+function ofIsland({ depth, at: [x, y], to }) {
+  const [right, down] = to ?? [x + 1, y];
+  return across({ x, y }, { x: right - x, y: down - y }, 2 * depth - 1);
 }
 
 /**
@@ -154,7 +176,7 @@ export function websOf(openings, width) {
     const { left, top, runs } = opening, key = runs.map((value, at) => value - (at % 3 ? left : top)).join(" ");
     const webs = known.get(key) ?? websIn(opening, width);
     known.set(key, webs);
-    return webs.map(({ width: own, from: [column, row] }) => /** @type {Web} */ ({ width: own, from: [column + left, row + top], to: null }));
+    return webs.map((web) => moved(web, left, top));
   });
   // What another opening lies in is no mask there.
   return [...between, ...within.filter(({ from: [column, row] }) => !openings.isBlack(column, row))]

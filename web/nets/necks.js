@@ -5,6 +5,11 @@ import { common, difference, flatRows, grown, runsOfFlat, shrunk } from "./discs
 import { netsOf } from "./nets.js";
 import { Widths } from "./widths.js";
 
+/**
+ * A thin place, in pixels.
+ * @typedef {import("./widths.js").Width & {layer: number, net: number}} Thinness
+ */
+
 /** Widths that differ by less, in pixels, are as narrow as one another. */
 const SAME = 0.5;
 
@@ -138,7 +143,7 @@ export function measured(widths, pixels, isLeast) {
  * Where copper is thinner than a width, thinnest first.
  * @param {import("./nets.js").Nets} nets
  * @param {number} width in pixels
- * @returns {{layer: number, net: number, column: number, row: number, width: number}[]}
+ * @returns {Thinness[]}
  */
 export function thinPlaces(nets, width) {
   // Where copper has this width, the white pixels' centres on both its sides are farther apart by two pixels at most.

@@ -5,6 +5,7 @@ import { Around } from "./around.js";
 import { nearPlaces } from "./clearances.js";
 import { thinPlaces } from "./necks.js";
 import { HOLE_RULES, HoleCheck } from "./hole_rules.js";
+import { between, betweenRims, fromRim, throughDisc } from "./measures.js";
 import { MASK_RULES, MaskCheck } from "./mask_rules.js";
 import { nearHoles, segmentsOf } from "./strokes.js";
 import { mm } from "./words.js";
@@ -45,6 +46,7 @@ const LONGEST = 1_000_000_000;
  * @property {number | null} layer of copper, by its place in the stack; null of holes alone
  * @property {{x: number, y: number}} from
  * @property {{x: number, y: number} | null} to where the measure ends
+ * @property {import("./measures.js").Measure | null} measure from edge to edge, as it is drawn; null where nothing is near enough
  * @property {number[]} nets of copper
  * @property {string[]} sources of holes, as `plated 3`
  * @property {string[]} [shown] the layers of mask, ink or paste, or the pad, that it is of
@@ -140,8 +142,9 @@ class Check {
       if (worst && worst.value <= value) continue;
       // Copper of the hole's net has to be there, at its rim or inside.
       if (!around.nearestCopper(stroke, 1, (other) => other === net)) continue;
-      worst = { rule: "ring", value, within: this.within, layer, from: { x: segment[0][0], y: segment[0][1] }, to: this.place(white.column, white.row),
-        nets: [net], sources: [hole.source] };
+      const to = this.place(white.column, white.row);
+      worst = { rule: "ring", value, within: this.within, layer, from: { x: segment[0][0], y: segment[0][1] }, to,
+        measure: fromRim(segment, hole.radius, to, value), nets: [net], sources: [hole.source] };
     }
     return worst && worst.value < most * pitch ? [worst] : [];
   }
@@ -162,8 +165,10 @@ class Check {
   /** @param {number} limit in nm @returns {Breach[]} */
   gap(limit) {
     const { pitch } = this.grid;
-    return nearPlaces(this.nets, limit / pitch).map(({ layer, nets, from, to, distance }) => ({ rule: "gap", value: distance * pitch,
-      within: this.within, layer, from: this.place(...from), to: this.place(...to), nets, sources: [] }));
+    return nearPlaces(this.nets, limit / pitch).map(({ layer, nets, from, to, distance }) => {
+      const ends = { from: this.place(...from), to: this.place(...to) }, value = distance * pitch;
+      return { rule: "gap", value, within: this.within, layer, ...ends, measure: between(ends.from, ends.to, value), nets, sources: [] };
+    });
   }
 
   /** @param {number} limit in nm @returns {Breach[]} */
@@ -179,9 +184,9 @@ class Check {
           if (found && (!nearest || found.distance < nearest.distance)) nearest = found;
         }
         if (!nearest || nearest.distance >= most) return [];
-        const [[x, y]] = hole.line;
-        return [{ rule: "hole-copper", value: Math.max(0, nearest.distance) * pitch, within: this.within, layer, from: { x, y },
-          to: this.place(nearest.column, nearest.row), nets: [nearest.net], sources: [hole.source] }];
+        const [[x, y]] = hole.line, to = this.place(nearest.column, nearest.row), value = Math.max(0, nearest.distance) * pitch;
+        return [{ rule: "hole-copper", value, within: this.within, layer, from: { x, y }, to,
+          measure: fromRim(hole.line, hole.radius, to, value), nets: [nearest.net], sources: [hole.source] }];
       });
     });
   }
@@ -197,22 +202,26 @@ class Check {
         if (found && (!nearest || found.distance < nearest.distance)) nearest = found;
       }
       if (!nearest || nearest.distance >= most) return [];
-      return [{ rule: "outline", value: Math.max(0, nearest.distance) * pitch, within: this.within, layer, from: this.place(nearest.column, nearest.row),
-        to: null, nets: [nearest.net], sources: [] }];
+      const from = this.place(nearest.column, nearest.row), value = Math.max(0, nearest.distance) * pitch;
+      return [{ rule: "outline", value, within: this.within, layer, from, to: null, measure: fromRim(line, 0, from, value), nets: [nearest.net],
+        sources: [] }];
     }));
   }
 
   /** @param {number} limit in nm @returns {Breach[]} */
   holeToHole(limit) {
-    return nearHoles(this.holes, limit).map(({ holes, distance, from, to }) => ({ rule: "hole-hole", value: distance, within: 1, layer: null,
-      from: { x: from[0], y: from[1] }, to: { x: to[0], y: to[1] }, nets: [], sources: holes.map(({ source }) => source) }));
+    return nearHoles(this.holes, limit).map(({ holes, distance, from, to }) => {
+      const ends = { from: { x: from[0], y: from[1] }, to: { x: to[0], y: to[1] } };
+      return { rule: "hole-hole", value: distance, within: 1, layer: null, ...ends, measure: betweenRims(ends.from, ends.to, holes[0].radius, distance),
+        nets: [], sources: holes.map(({ source }) => source) };
+    });
   }
 
   /** @param {number} limit in nm @returns {Breach[]} */
   width(limit) {
-    const { pitch } = this.grid;
-    return thinPlaces(this.nets, limit / pitch).map(({ layer, net, column, row, width }) => ({ rule: "width", value: width * pitch,
-      within: this.within, layer, from: this.place(column, row), to: null, nets: [net], sources: [] }));
+    const { grid } = this, { pitch } = grid;
+    return thinPlaces(this.nets, limit / pitch).map(({ layer, net, column, row, width, disc }) => ({ rule: "width", value: width * pitch,
+      within: this.within, layer, from: this.place(column, row), to: null, measure: grid.measureOf(throughDisc(disc, width)), nets: [net], sources: [] }));
   }
 }
 

@@ -175,8 +175,8 @@ export class Ways {
    * what the two lie on. Of several places as narrow as one another it is the middle one.
    * @param {Map<number, Stretch>} from
    * @param {Map<number, Stretch>} to
-   * @returns {{layer: number, column: number, row: number, width: number} | null} the middle of the copper there, and its
-   *   width in pixels
+   * @returns {{layer: number, column: number, row: number, width: number, disc?: import("./widths.js").Disc} | null} the middle of
+   *   the copper there, its width in pixels, and the disc that is as wide
    */
   narrowest(from, to) {
     const search = this.search(from, to);

@@ -15,8 +15,8 @@ const EDGES = 1;
 const MOST_STEPS = 200;
 
 /**
- * A width in pixels, and the pixel in its middle.
- * @typedef {{width: number, column: number, row: number}} Width
+ * A width in pixels, the pixel in its middle, and the disc that is as wide as the copper is there.
+ * @typedef {{width: number, column: number, row: number, disc: Disc}} Width
  *
  * A disc without a white centre inside; `across` leads from one of the whites on its rim that hold it to the other.
  * @typedef {{x: number, y: number, radius: number, across: [number, number]}} Disc
@@ -26,8 +26,8 @@ const MOST_STEPS = 200;
  * @param {Disc} disc
  * @returns {Width}
  */
-export function widthOf({ x, y, radius }) {
-  return { width: 2 * radius - EDGES, column: Math.round(x), row: Math.round(y) };
+export function widthOf(disc) {
+  return { width: 2 * disc.radius - EDGES, column: Math.round(disc.x), row: Math.round(disc.y), disc };
 }
 
 /** The widths of a layer's copper. A pixel's centre has its column and its row as coordinates; what is outside is white. */
