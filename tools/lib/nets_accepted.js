@@ -12,7 +12,8 @@ import { isStream } from "./whole.js";
 export const NAME = "nets.accepted";
 
 /** @param {import("../../web/nets/index.js").Kept} finding */
-const words = ({ kind, nets, layer, x, y, reason }) => `${kind}: ${nets.join(" and ")} at (${x.toFixed(3)}, ${y.toFixed(3)}) on ${layer}: ${reason}`;
+const words = ({ kind, nets, layer, x, y, reason, by }) => `${kind}: ${nets.join(" and ")} at (${x.toFixed(3)}, ${y.toFixed(3)}) on ${layer}: ${reason}${
+  by ? ` (${by})` : ""}`;
 
 export class Accepted {
   /**

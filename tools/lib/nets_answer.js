@@ -1,9 +1,8 @@
 // The nets of a board at one pitch, and what differs from those that it should have.
 
 import {
-  MOST_FULL, RULES, Report, breachesOf, compareNets, counted, mm, nearPlaces, placeWords, shareOf, thinPlaces,
+  Keeping, MOST_FULL, RULES, Report, breachWords, breachesOf, compareNets, counted, mm, nearPlaces, shareOf, thinPlaces,
 } from "../../web/nets/index.js";
-import { breachWords } from "./nets_rules.js";
 import { progress } from "./nets_progress.js";
 import { sidesOf, uncheckedOf } from "./nets_sides.js";
 
@@ -32,6 +31,7 @@ export class Answer {
     progress("comparing");
     this.found = truth.isNone ? NONE : compareNets(nets, grid, this.points, { apart, mayTouch });
     this.report = new Report(this.labels, window.pitch);
+    this.keeping = new Keeping(this.labels, this.found.names);
     if (gap !== null || neck !== null) progress("measuring gaps and widths");
     this.limits = limits;
     if (limits.size) progress("checking the rules");
@@ -62,9 +62,8 @@ export class Answer {
     return { layer, ...this.grid.placeOf(column, row) };
   }
 
-  // What people call a net of copper: the names of its points, else a place of it.
   nameOf(net, place) {
-    return this.found.names.get(net)?.join(" and ") ?? `copper at ${placeWords(place)}`;
+    return this.keeping.nameOf(net, place);
   }
 
   gapOf({ layer, nets, from, to, distance }) {
@@ -100,40 +99,32 @@ export class Answer {
       ...this.breaches.map((breach) => this.keptBreach(breach))];
   }
 
-  namesOf({ nets, from }) {
-    return nets.map((net) => this.nameOf(net, from));
+  namesOf(breach) {
+    return this.keeping.namesOf(breach);
   }
 
   keptBreach(breach) {
-    const { rule, sources, shown = [], layer, from: { x, y } } = breach;
-    return { kind: rule, nets: [...sources, ...shown, ...this.namesOf(breach)], layer: layer === null ? "holes" : this.labels[layer], x: x / 1e6, y: y / 1e6 };
+    return this.keeping.breach(breach);
   }
 
-  keep(kind, nets, { layer, x, y }) {
-    return { kind, nets, layer: this.labels[layer], x: x / 1e6, y: y / 1e6 };
+  keptOpen(open) {
+    return this.keeping.open(open);
   }
 
-  // A point of the part with the fewest points stands for an open.
-  keptOpen({ net, parts }) {
-    const [point] = parts[parts.length - 1].points;
-    return this.keep("open", [net], { ...point, layer: point.layers[0] });
+  keptShort(short) {
+    return this.keeping.short(short);
   }
 
-  keptShort({ nets, touching }) {
-    const [point] = nets[nets.length - 1].points;
-    return this.keep("short", nets.map(({ net }) => net), touching[0]?.place ?? { ...point, layer: point.layers[0] });
-  }
-
-  keptBare({ point }) {
-    return this.keep("no copper", [point.net ?? "N/C", point.name], { ...point, layer: point.layers[0] });
+  keptBare(bare) {
+    return this.keeping.bare(bare);
   }
 
   keptGap({ names, from }) {
-    return this.keep("gap", names, from);
+    return this.keeping.at("gap", names, from);
   }
 
   keptNeck({ name, place }) {
-    return this.keep("neck", [name], place);
+    return this.keeping.at("neck", [name], place);
   }
 
   /** The findings in lines for people: of each kind the first ones, and how many more there are. */

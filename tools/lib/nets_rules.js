@@ -2,7 +2,7 @@
 
 import { utf8 } from "../../web/bytes/index.js";
 import { refusalText } from "../../web/convert/index.js";
-import { RULES, mm, placeWords, readRules, takeRule } from "../../web/nets/index.js";
+import { RULES, mm, readRules, takeRule } from "../../web/nets/index.js";
 import { Call, Failure } from "./command.js";
 import { readBytes } from "./files.js";
 
@@ -20,14 +20,6 @@ export function limitsOf(path, words) {
     if (fault !== null) throw new Call(`--rule ${rule}: ${fault}`);
   }
   return limits;
-}
-
-/** A breach in a line, with names for its nets and labels for layers. */
-export function breachWords({ rule, value, within, layer, from, to, sources, shown = [] }, limit, names, labels) {
-  const what = [...sources, ...shown, ...names].join(" and "), where = `${placeWords(from)}${to ? ` and ${placeWords(to)}` : ""}`;
-  const exact = within > 1 ? ` (within ${mm(within)})` : "", doubled = rule === "hole-hole" && from.x === to.x && from.y === to.y;
-  return `${rule}: ${mm(value)} mm${exact}, ${RULES.get(rule).isMost ? "more" : "less"} than ${mm(limit)}: ${what} at ${where}${layer === null ? "" : ` on ${labels[layer]}`}${
-    doubled ? ": doubled" : ""}`;
 }
 
 /** How many places break each rule, in a line; `unchecked` has those that are not checked on some side. */

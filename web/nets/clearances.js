@@ -99,22 +99,29 @@ function columnsOf(start, end, otherStart, otherEnd) {
 }
 
 /**
+ * The places of one layer where two nets lie nearer than a gap.
+ * @param {import("./nets.js").Nets} nets
+ * @param {number} gap in pixels
+ * @param {number} layer
+ * @returns {Near[]}
+ */
+export function nearPlacesOn(nets, gap, layer) {
+  const rows = new Rows(nets, layer), places = new Places(layer, 2 * Math.ceil(gap) + 2), isSame = sameRows(rows);
+  for (let row = 0; row < rows.height; row++) {
+    lookAbove(rows, row, 0, gap, places);
+    // What is as near to a row as it is to one that is the same and lies between them is known from that one.
+    const last = isSame[row] ? 0 : Math.min(row, Math.ceil(gap));
+    for (let away = 1; away <= last; away++) if (!isSame[row - away + 1]) lookAbove(rows, row, away, gap, places);
+  }
+  return places.closed.map(({ best }) => best);
+}
+
+/**
  * The places where two nets lie nearer than a gap, nearest first.
  * @param {import("./nets.js").Nets} nets
  * @param {number} gap in pixels
  * @returns {Near[]}
  */
 export function nearPlaces(nets, gap) {
-  const found = [];
-  nets.copper.forEach((_, layer) => {
-    const rows = new Rows(nets, layer), places = new Places(layer, 2 * Math.ceil(gap) + 2), isSame = sameRows(rows);
-    for (let row = 0; row < rows.height; row++) {
-      lookAbove(rows, row, 0, gap, places);
-      // What is as near to a row as it is to one that is the same and lies between them is known from that one.
-      const last = isSame[row] ? 0 : Math.min(row, Math.ceil(gap));
-      for (let away = 1; away <= last; away++) if (!isSame[row - away + 1]) lookAbove(rows, row, away, gap, places);
-    }
-    found.push(...places.closed.map(({ best }) => best));
-  });
-  return found.sort((one, other) => one.distance - other.distance);
+  return nets.copper.flatMap((_, layer) => nearPlacesOn(nets, gap, layer)).sort((one, other) => one.distance - other.distance);
 }

@@ -1,7 +1,7 @@
 // The nets of a board that is edited: its pictures, what an edit changed in them, and what is asked of them.
 
 import { changesOf } from "./changes.js";
-import { compareNets, namesOf } from "./compare.js";
+import { namesOf } from "./compare.js";
 import { Grid } from "./grid.js";
 import { nearPlaces } from "./clearances.js";
 import { netsOf } from "./nets.js";
@@ -26,7 +26,6 @@ export class Desk {
     this.runs = this.pictures.map(runsOf);
     this.points = [];
     this.nets = null;
-    this.found = null;
   }
 
   get copperCount() {
@@ -55,13 +54,7 @@ export class Desk {
     const before = this.nets, count = this.copperCount;
     this.nets = netsOf(this.runs.slice(0, count), this.layers.slice(count).map(({ passes: [from, to] }, at) => ({
       runs: this.runs[count + at], from, to })));
-    this.found = null;
     return before && changesOf(before, this.nets);
-  }
-
-  /** The comparison with the points; once for each state. */
-  check() {
-    return this.found ??= compareNets(this.nets, this.grid, this.points);
   }
 
   /**
@@ -70,7 +63,6 @@ export class Desk {
    */
   compareWith(points) {
     this.points = points;
-    this.found = null;
   }
 
   /** The net at a place, on the first of some layers that is copper there; -1 where none is. */

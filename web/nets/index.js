@@ -11,13 +11,15 @@
 //     const copper = runsOf({ width: 8, height: 1, stride: 1, bits: Uint8Array.of(0b11000110) });
 //     netsOf([copper]).count; // 2
 
-export { isSame, lineOf, readAccepted } from "./accepted.js";
+export { AcceptedFindings, acceptedText, isAcceptedFile, isSame, lineOf, readAccepted } from "./accepted.js";
 export { alignmentOf, alignmentWords, copiesAt, isEnough, shifted } from "./alignment.js";
 export { copyName, pointsOfAttributes } from "./attribute_points.js";
 export { nearPlaces } from "./clearances.js";
 export { MOST_FULL, compareNets } from "./compare.js";
+export { coversInWindow, coversOf, neededBy, sidesOf, uncheckedOf, uncheckedWords } from "./covers.js";
 export { Desk } from "./desk.js";
 export { difference, flatRows, runsOfFlat, union } from "./discs.js";
+export { KINDS, Keeping, breachWords, findingsOf } from "./findings.js";
 export { flatItems } from "./flat_items.js";
 export { Grid, limitWords, limitsOf } from "./grid.js";
 export { isNetlist, readNetlist } from "./ipc.js";
@@ -28,7 +30,7 @@ export { closedLines, linesOfItem } from "./outline.js";
 export { pixelsOfLines } from "./outline_pixels.js";
 export { layerReader, numbersOf, pointsOfNetlist } from "./points.js";
 export { Report, pointNames } from "./report.js";
-export { RULES, breachesOf, readRules, takeRule } from "./rules.js";
+export { RULES, RuleCheck, breachesOf, inOrder, readRules, takeRule } from "./rules.js";
 export { runsOf } from "./runs.js";
 export { copiesOf, padsOf, saidItems } from "./said.js";
 export { shareOf } from "./shares.js";
@@ -40,11 +42,18 @@ export { counted, mm, placeWords } from "./words.js";
 /** @typedef {import("./accepted.js").Kept} Kept */
 /** @typedef {import("./alignment.js").Alignment} Alignment */
 /** @typedef {import("./compare.js").Bare} Bare */
+/** @typedef {import("./rules.js").Breach} Breach */
+/** @typedef {import("./rules.js").Checked} Checked */
 /** @typedef {import("./compare.js").Loose} Loose */
 /** @typedef {import("./compare.js").Open} Open */
 /** @typedef {import("./compare.js").Short} Short */
+/** @typedef {import("./covers.js").Unchecked} Unchecked */
+/** @typedef {import("./findings.js").Finding} Finding */
 /** @typedef {import("./ipc.js").Netlist} Netlist */
+/** @typedef {import("./measures.js").Measure} Measure */
 /** @typedef {import("./mask_rules.js").Side} Side */
 /** @typedef {import("./nets.js").Nets} Nets */
 /** @typedef {import("./points.js").NetPoint} NetPoint */
+/** @typedef {import("./runs.js").Runs} Runs */
+/** @typedef {import("./flat_items.js").SaidItems} SaidItems */
 /** @typedef {import("./strokes.js").Hole} Hole */

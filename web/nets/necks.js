@@ -146,10 +146,18 @@ export function measured(widths, pixels, isLeast) {
  * @returns {Thinness[]}
  */
 export function thinPlaces(nets, width) {
+  return nets.copper.flatMap((_, layer) => thinPlacesOn(nets, width, layer)).sort((one, other) => one.width - other.width);
+}
+
+/**
+ * The same of one layer, in no order.
+ * @param {import("./nets.js").Nets} nets
+ * @param {number} width in pixels
+ * @param {number} layer
+ * @returns {Thinness[]}
+ */
+export function thinPlacesOn(nets, width, layer) {
   // Where copper has this width, the white pixels' centres on both its sides are farther apart by two pixels at most.
-  const radius = width / 2 + 1;
-  return nets.copper.flatMap((runs, layer) => new Thin(runs, radius).find()
-    .filter((place) => place.width < width)
-    .map((place) => ({ layer, net: nets.netAt(layer, place.column, place.row), ...place })))
-    .sort((one, other) => one.width - other.width);
+  return new Thin(nets.copper[layer], width / 2 + 1).find().filter((place) => place.width < width)
+    .map((place) => ({ layer, net: nets.netAt(layer, place.column, place.row), ...place }));
 }

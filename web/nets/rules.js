@@ -2,8 +2,8 @@
 
 import { lengthOf } from "../board/index.js";
 import { Around } from "./around.js";
-import { nearPlaces } from "./clearances.js";
-import { thinPlaces } from "./necks.js";
+import { nearPlacesOn } from "./clearances.js";
+import { thinPlacesOn } from "./necks.js";
 import { HOLE_RULES, HoleCheck } from "./hole_rules.js";
 import { between, betweenRims, fromRim, throughDisc } from "./measures.js";
 import { MASK_RULES, MaskCheck } from "./mask_rules.js";
@@ -114,10 +114,10 @@ class Check {
     return Array.from({ length: to - from + 1 }, (_, at) => from + at);
   }
 
-  /** @param {number} limit in nm @returns {Breach[]} */
-  ring(limit) {
+  /** @param {number} limit in nm @param {import("./strokes.js").Hole[]} holes @returns {Breach[]} */
+  ring(limit, holes) {
     const most = limit / this.grid.pitch;
-    return this.holes.flatMap((hole) => {
+    return holes.flatMap((hole) => {
       const net = this.netOf(hole);
       if (net < 0) return [];
       return this.layersOf(hole).flatMap((layer) => this.ringOn(hole, net, layer, most));
@@ -162,19 +162,19 @@ class Check {
       && distanceTo(other, x, y) < radius - this.grid.pitch);
   }
 
-  /** @param {number} limit in nm @returns {Breach[]} */
-  gap(limit) {
+  /** @param {number} limit in nm @param {number} layer @returns {Breach[]} */
+  gap(limit, layer) {
     const { pitch } = this.grid;
-    return nearPlaces(this.nets, limit / pitch).map(({ layer, nets, from, to, distance }) => {
+    return nearPlacesOn(this.nets, limit / pitch, layer).map(({ nets, from, to, distance }) => {
       const ends = { from: this.place(...from), to: this.place(...to) }, value = distance * pitch;
       return { rule: "gap", value, within: this.within, layer, ...ends, measure: between(ends.from, ends.to, value), nets, sources: [] };
     });
   }
 
-  /** @param {number} limit in nm @returns {Breach[]} */
-  holeToCopper(limit) {
+  /** @param {number} limit in nm @param {import("./strokes.js").Hole[]} holes @returns {Breach[]} */
+  holeToCopper(limit, holes) {
     const { pitch } = this.grid, most = limit / pitch;
-    return this.holes.flatMap((hole) => {
+    return holes.flatMap((hole) => {
       const net = this.netOf(hole);
       return this.layersOf(hole).flatMap((layer) => {
         /** @type {(import("./around.js").Found & {net: number}) | null} */
@@ -191,10 +191,10 @@ class Check {
     });
   }
 
-  /** @param {number} limit in nm @returns {Breach[]} */
-  toOutline(limit) {
+  /** @param {number} limit in nm @param {number} layer @returns {Breach[]} */
+  toOutline(limit, layer) {
     const { pitch } = this.grid, most = limit / pitch;
-    return this.nets.copper.flatMap((_, layer) => this.outline.flatMap((line) => {
+    return this.outline.flatMap((line) => {
       /** @type {(import("./around.js").Found & {net: number}) | null} */
       let nearest = null;
       for (const segment of segmentsOf(line)) {
@@ -205,7 +205,7 @@ class Check {
       const from = this.place(nearest.column, nearest.row), value = Math.max(0, nearest.distance) * pitch;
       return [{ rule: "outline", value, within: this.within, layer, from, to: null, measure: fromRim(line, 0, from, value), nets: [nearest.net],
         sources: [] }];
-    }));
+    });
   }
 
   /** @param {number} limit in nm @returns {Breach[]} */
@@ -217,10 +217,10 @@ class Check {
     });
   }
 
-  /** @param {number} limit in nm @returns {Breach[]} */
-  width(limit) {
+  /** @param {number} limit in nm @param {number} layer @returns {Breach[]} */
+  width(limit, layer) {
     const { grid } = this, { pitch } = grid;
-    return thinPlaces(this.nets, limit / pitch).map(({ layer, net, column, row, width, disc }) => ({ rule: "width", value: width * pitch,
+    return thinPlacesOn(this.nets, limit / pitch, layer).map(({ net, column, row, width, disc }) => ({ rule: "width", value: width * pitch,
       within: this.within, layer, from: this.place(column, row), to: null, measure: grid.measureOf(throughDisc(disc, width)), nets: [net], sources: [] }));
   }
 }
@@ -236,6 +236,46 @@ function distanceTo([[x0, y0], [x1, y1]], x, y) {
   return Math.hypot(x - x0 - part * dx, y - y0 - part * dy);
 }
 
+/** So many holes are looked at as one part. */
+const SOME_HOLES = 500;
+
+/** A board whose rules are checked one after another, each in parts, so that a person may stop between two of them. */
+export class RuleCheck {
+  /** @param {Checked} checked */
+  constructor(checked) {
+    const check = new Check(checked), mask = new MaskCheck(checked), holes = new HoleCheck(checked);
+    const layers = checked.nets.copper.map((_, layer) => layer), count = Math.ceil(checked.holes.length / SOME_HOLES);
+    const some = Array.from({ length: count }, (_, at) => checked.holes.slice(at * SOME_HOLES, (at + 1) * SOME_HOLES));
+    /** @type {Record<string, ((limit: number) => Breach[])[]>} */
+    this.found = { ring: some.map((own) => (limit) => check.ring(limit, own)), gap: layers.map((layer) => (limit) => check.gap(limit, layer)),
+      "hole-copper": some.map((own) => (limit) => check.holeToCopper(limit, own)), outline: layers.map((layer) => (limit) => check.toOutline(limit, layer)),
+      "hole-hole": [(limit) => check.holeToHole(limit)], width: layers.map((layer) => (limit) => check.width(limit, layer)),
+      "mask-web": [(limit) => mask.web(limit)], "mask-bare": [(limit) => mask.bare(limit)], "silk-bare": [(limit) => mask.ink(limit)],
+      paste: [(limit) => mask.paste(limit)], "hole-pad": [(limit) => holes.holePad(limit)], "pad-hole": [(limit) => holes.padHole(limit)],
+      doubled: [(limit) => holes.doubled(limit)], overlap: [(limit) => holes.overlap(limit)] };
+  }
+
+  /**
+   * What breaks a rule, in parts that are no rule's whole answer.
+   * @param {string} rule
+   * @param {number} limit in nm
+   * @returns {Generator<Breach[]>}
+   */
+  * parts(rule, limit) {
+    for (const part of this.found[rule]) yield part(limit);
+  }
+}
+
+/**
+ * What breaks rules, from the parts of each: rule by rule, the worst place first, and a pair of holes once.
+ * @param {Map<string, Breach[]>} found by the rules' names
+ * @returns {Breach[]}
+ */
+export function inOrder(found) {
+  const worst = (/** @type {string} */ name) => (RULES.get(name)?.isMost ? -1 : 1);
+  return withoutRepeats([...RULES.keys()].flatMap((name) => [...found.get(name) ?? []].sort((one, other) => worst(name) * (one.value - other.value))));
+}
+
 /**
  * Where rules are broken, rule by rule, the worst place first.
  * @param {Checked} checked
@@ -243,16 +283,11 @@ function distanceTo([[x0, y0], [x1, y1]], x, y) {
  * @returns {Breach[]}
  */
 export function breachesOf(checked, limits) {
-  const check = new Check(checked), mask = new MaskCheck(checked), holes = new HoleCheck(checked);
-  /** @type {Record<string, (limit: number) => Breach[]>} */
-  const found = { ring: (limit) => check.ring(limit), gap: (limit) => check.gap(limit), "hole-copper": (limit) => check.holeToCopper(limit),
-    outline: (limit) => check.toOutline(limit), "hole-hole": (limit) => check.holeToHole(limit), width: (limit) => check.width(limit),
-    "mask-web": (limit) => mask.web(limit), "mask-bare": (limit) => mask.bare(limit), "silk-bare": (limit) => mask.ink(limit),
-    paste: (limit) => mask.paste(limit), "hole-pad": (limit) => holes.holePad(limit), "pad-hole": (limit) => holes.padHole(limit),
-    doubled: (limit) => holes.doubled(limit), overlap: (limit) => holes.overlap(limit) };
-  const worst = (/** @type {string} */ name) => (RULES.get(name)?.isMost ? -1 : 1);
-  return withoutRepeats([...RULES.keys()].filter((name) => limits.has(name))
-    .flatMap((name) => found[name](/** @type {number} */ (limits.get(name))).sort((one, other) => worst(name) * (one.value - other.value))));
+  const check = new RuleCheck(checked);
+  return inOrder(new Map([...RULES.keys()].flatMap((rule) => {
+    const limit = limits.get(rule);
+    return limit === undefined ? [] : [/** @type {[string, Breach[]]} */ ([rule, [...check.parts(rule, limit)].flat()])];
+  })));
 }
 
 /** Rules of two holes: a pair that breaks one of them is left out of those after it. */

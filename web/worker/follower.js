@@ -5,14 +5,15 @@ import { DRILL, HEAD, boxFrom, isInWindow, joined, recognise, windowAtPitch, win
 import { NotJoined, readAttributes } from "../attributes/index.js";
 import {
   Desk, alignmentOf, alignmentWords, isEnough, numbersOf, padsOf, placeWords, pointsOfAttributes, pointsOfNetlist, saidItems,
-  stackOf,
+  stackOf, toolsWithoutPlating,
 } from "../nets/index.js";
-import { linesOf } from "../station/index.js";
+import { headOf, linesOf } from "../station/index.js";
+import { latin1 } from "../bytes/index.js";
 import { pictureOf } from "./pictures.js";
 
 const text = new TextEncoder();
 // The most pixels of a side: a board that is larger has a coarser pitch.
-const MOST_SIDE = 8_000;
+export const MOST_SIDE = 8_000;
 const TILE = 64;
 // Lines that change nothing of the document; those of a page have its own window.
 const LOOKS = new Set(["plot", "write", "redraw", "list", "window"]);
@@ -65,6 +66,25 @@ export class Follower {
   }
 
   /**
+   * The canonical text of a layer as it is now.
+   * @param {string} name
+   */
+  textOf(name) {
+    const code = this.apply(`write ${name} view`);
+    if (code) throw new Error(`${name} cannot be written: refused ${code}`);
+    return this.station.file;
+  }
+
+  // The centres of holes without plating: of such layers, and of the tools that a drill file calls so.
+  unplatedCentres() {
+    return [...this.layers.values()].flatMap(({ layer, pads, items: { items, blocks } }) => {
+      if (layer.layerFunction.name === "nonplated") return pads;
+      const tools = layer.kind === DRILL ? toolsWithoutPlating(latin1(layer.file.bytes)) : new Set();
+      return tools.size ? padsOf({ items: items.filter(({ words }) => tools.has(headOf(words).number)), blocks }) : [];
+    });
+  }
+
+  /**
    * The netlist to compare with, or null.
    * @param {import("../nets/index.js").Netlist | null} netlist
    */
@@ -78,8 +98,8 @@ export class Follower {
     this.shift = { x: 0, y: 0 };
     this.misfit = null;
     if (!netlist) {
-      const unplated = [...this.layers.values()].filter(({ layer }) => layer.layerFunction.name === "nonplated").flatMap(({ pads }) => pads);
-      desk.compareWith(pointsOfAttributes(copper.map(({ layer }) => ({ label: layer.name, ...this.layers.get(layer.name) })), unplated));
+      const said = copper.map(({ layer }) => ({ label: layer.name, ...this.layers.get(layer.name) }));
+      desk.compareWith(pointsOfAttributes(said, this.unplatedCentres()));
       return;
     }
     const alignment = alignmentOf(netlist, [...this.layers.values()].flatMap(({ pads }) => pads));

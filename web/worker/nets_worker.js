@@ -1,14 +1,23 @@
 // The worker of the nets: a station that follows the page's, and what the page asks of its nets. A message is
 // { call, kind, .. }, and its answer { call, answer } or { call, fault }.
 
-import { Follower } from "./follower.js";
+import { CheckedBoard } from "./checked_board.js";
+import { Follower, MOST_SIDE } from "./follower.js";
 import { Station } from "../station/index.js";
 import { readNetlist } from "../nets/index.js";
 
 let follower = null;
+let board = null;
+// The check that is under way.
+let checking = { isStopped: true };
+
+// A check lets other messages in after so many ms.
+const TURN_MS = 40;
 
 async function open({ module, depth, pitch }) {
-  follower = new Follower(new Station(await WebAssembly.compile(module), depth), pitch);
+  const compiled = await WebAssembly.compile(module);
+  follower = new Follower(new Station(compiled, depth), pitch);
+  board = new CheckedBoard(compiled);
   return {};
 }
 
@@ -47,9 +56,23 @@ function netlist({ bytes }) {
   return { refusals, ...about() };
 }
 
-function check() {
-  const { opens, shorts, bare, loose } = follower.desk.check();
-  return { opens, shorts, bare, loose, ...about() };
+// Checks nets and rules, step by step; null where it was stopped, or where there is no copper. Meanwhile other messages are answered,
+// and it tells how far it is.
+async function check({ limits }) {
+  const start = performance.now(), own = { isStopped: false }, { misfit, desk } = follower;
+  checking.isStopped = true;
+  checking = own;
+  if (!desk) return { findings: null };
+  const steps = board.steps(follower, { limits: new Map(limits), pitch: follower.pitch, most: MOST_SIDE, points: desk.points });
+  let turned = start, next = steps.next();
+  for (; !next.done; next = steps.next()) {
+    if (performance.now() - turned < TURN_MS) continue;
+    self.postMessage({ checking: next.value });
+    await new Promise((done) => setTimeout(done, 0));
+    if (own.isStopped) return { findings: null, isStopped: true };
+    turned = performance.now();
+  }
+  return { findings: next.value && { ...next.value, misfit, ms: performance.now() - start } };
 }
 
 const kinds = {
@@ -58,6 +81,10 @@ const kinds = {
   net,
   netlist,
   check,
+  stop: () => {
+    checking.isStopped = true;
+    return {};
+  },
   near: ({ net: of, gap }) => ({ near: follower.desk.nextTo(of, gap) }),
 };
 
