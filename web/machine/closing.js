@@ -91,7 +91,8 @@ function closeBoard(turn) {
   turn.send({ to: "page", kind: "board closed" });
   return goOn(turn, [], { layers: [], picked: [], active: null, entry: null, entries: {}, attributes: {}, steps: new Steps(DEPTH),
     saved: {}, unsaved: 0, hasWindow: false, opened: [], windows: [], refused: [], openings: {}, dropped: {}, spoiled: [],
-    questions: [], shownBefore: null, inWords: null, lit: null, job: null, queue: state.queue.filter(({ kind }) => !["load", "opened", "picture"].includes(kind)) });
+    questions: [], shownBefore: null, inWords: null, lit: null, job: null, checks: { ...state.checks, accepted: [] },
+    queue: state.queue.filter(({ kind }) => !["load", "opened", "picture"].includes(kind)) });
 }
 
 /** @type {Machine.Kind<"closeAll">} */

@@ -4,6 +4,7 @@ import { COLOURS, FOUND, inView, ofTwo, withBefore } from "./comparing.js";
 import { boxNames } from "./seeking.js";
 import { boxOf, joined, plural } from "../board/index.js";
 import { DEPTH, layerOf, shownLayers } from "./state.js";
+import { acceptedText } from "../nets/index.js";
 import { plotPaths } from "./names.js";
 import { savedPaths, writtenAs } from "./saved_names.js";
 import { carriedLines, losses } from "./attributes.js";
@@ -110,9 +111,11 @@ function handOut(turn, files, words) {
 // Hands texts out: one alone as a file, several in a ZIP.
 /** @param {Machine.Turn} turn @param {string | undefined} name @param {Machine.File[]} files @param {string} words */
 function handOutTexts(turn, name, files, words) {
-  const what = name === undefined ? `${plural(files.length, "layer")} saved in board.zip`
-    : `${name} is saved as ${files[0].name}`;
-  handOut(turn, { files, zip: name === undefined ? "board.zip" : null }, `${what}${words}`);
+  const { accepted } = turn.state.checks;
+  if (name !== undefined) return handOut(turn, { files, zip: null }, `${name} is saved as ${files[0].name}${words}`);
+  const more = accepted.length ? [{ name: "nets.accepted", bytes: new TextEncoder().encode(acceptedText(accepted)) }] : [];
+  return handOut(turn, { files: [...files, ...more], zip: "board.zip" }, `${plural(files.length, "layer")}${
+    more.length ? ` and ${plural(accepted.length, "accepted finding")}` : ""} saved in board.zip${words}`);
 }
 
 // The browser has the files, or why it has not.

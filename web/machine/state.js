@@ -84,7 +84,10 @@ export const firstState = () => ({
   // What is known of the nets, where they are found after each edit (nets_panel.js): `marks` has what each step joined or
   // cut, by the step's way.
   nets: { isOn: false, pitch: 25400, why: null, marks: new Map(), about: null, lit: null, near: null, change: null,
-    findings: null, netlist: null },
+    findings: null, isBefore: false, led: null, netlist: null },
+  // What the check of nets and rules is asked: the limits of the rules, [name, nm], with what their file is called; the findings that
+  // were accepted, and who accepted the last one.
+  checks: { name: null, limits: [], accepted: [], by: "" },
   // The last word to the person.
   said: { text: "", isFault: false },
   // Numbers that were not given yet.

@@ -102,6 +102,7 @@ declare namespace Machine {
   interface Nets {
     isOn: boolean; pitch: number; why: string | null; marks: Map<object, NetChange>; about: About | null; lit: LitNet | null;
     near: { names: string[]; distance: number; place: NetPlace }[] | null; change: NetChange | null; findings: Findings | null;
+    isBefore: boolean; led: import("../nets/index.js").Finding | null;
     netlist: { name: string; refusals: { line: number; what: string }[] } | null;
   }
   interface NetPlace extends Board.Point { layer: number }
@@ -111,11 +112,16 @@ declare namespace Machine {
     count: number | null; shown: string[]; copper: number; missing: string[]; points: number; isNetlist: boolean; shift: Board.Point; pitch: number;
     window: Board.Point & { pitch: number; height: number };
   }
-  /** What the points of a netlist, or of the files' attributes, say of the copper. */
-  interface Findings extends About {
-    opens: import("../nets/index.js").Open[]; shorts: import("../nets/index.js").Short[]; bare: import("../nets/index.js").Bare[];
-    loose: import("../nets/index.js").Loose[];
+  /**
+   * What a check found (web/worker/checked_board.js): all findings, the copper without a point, what could not be checked, which rules were
+   * checked again, under which limits, and the copper layers' names.
+   */
+  interface Findings {
+    findings: import("../nets/index.js").Finding[]; loose: import("../nets/index.js").Loose[]; unchecked: import("../nets/index.js").Unchecked[];
+    again: string[]; limits: [string, number][]; labels: string[]; pitch: number; points: number; count: number; misfit: string | null; ms: number;
   }
+  /** What the check is asked (checks_panel.js of the page): the limits of the rules in nm, and what was accepted. */
+  interface Checks { name: string | null; limits: [string, number][]; accepted: import("../nets/index.js").Kept[]; by: string }
   /** A tool that draws: so many points, or null for as many as a person wants, `least` at least; the words of the item of them. */
   interface DrawingTool {
     label: string; kind: Board.LayerKind; count: number | null; least?: number; hasArcs?: boolean; hint?: string;
@@ -134,7 +140,7 @@ declare namespace Machine {
     refused: Refused[]; openings: Record<number, Opening>; dropped: Record<string, string[]>; questions: Question[];
     queue: Gesture[]; work: Work | null; station: { isOpen: boolean; why: string | null };
     kept: Keeping; spoiled: { line: string; reply: string }[]; faults: string[];
-    shownBefore: Set<string> | null; isLeaving: boolean; nets: Nets; said: { text: string; isFault: boolean }; next: number;
+    shownBefore: Set<string> | null; isLeaving: boolean; nets: Nets; checks: Checks; said: { text: string; isFault: boolean }; next: number;
   }
   /** The side of the board as it will be made: the colour of its mask and its finish by their names (web/materials/colours.js). */
   interface Made { isShown: boolean; mask: string; finish: string }
@@ -150,7 +156,7 @@ declare namespace Machine {
   interface Looks {
     look?: string; view?: Seen; face?: Uint8Array | null; bytes?: number; grid?: number; unit?: string; active?: string | null; polarity?: string;
     turn?: string; direction?: string;
-    made?: Made; layers?: Omit<Layer, "items" | "entries">[]; registry?: OlderRegistry; job?: State["job"];
+    made?: Made; layers?: Omit<Layer, "items" | "entries">[]; registry?: OlderRegistry; job?: State["job"]; checks?: Checks;
   }
   /** Which boards a page of before had beside the first, and which it showed (older_store.js). */
   interface OlderRegistry { boards: { key: string; number: number; title: string | null }[]; shown: string; count: number; isFirstGone: boolean }

@@ -107,7 +107,7 @@ const startPanel = new StartPanel(machine, boards);
 const face = new Face(machine, view, (picture) => keepLooks(picture));
 const nets = new NetsPanel(machine, view, stationModule);
 view.afterDraw = () => {
-  nets.light.paint();
+  nets.paint();
   going.paint();
   marks.paint();
   face.painted();
@@ -223,8 +223,8 @@ function listen() {
 
 // What is kept of the looks is written when it changes, and when the page is hidden.
 function listenToChanges() {
-  machine.panel(({ layers, grid, unit, active, polarity, turn, direction, job, made }) =>
-    [layers, grid, unit, active, polarity, turn, direction, job, made],
+  machine.panel(({ layers, grid, unit, active, polarity, turn, direction, job, made, checks }) =>
+    [layers, grid, unit, active, polarity, turn, direction, job, made, checks],
     () => keepLooks());
   document.addEventListener("visibilitychange", () => keepLooks());
   window.addEventListener("unhandledrejection", ({ reason }) => machine.send({ kind: "fault", why: faultWords(reason) }));

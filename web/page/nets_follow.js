@@ -11,18 +11,21 @@ const AGAIN_MS = 30000;
 const RETURNS = new Set(["undo", "redo", "abort"]);
 
 export class NetsFollow {
-  // `module` promises the station's module; `heard` gets what the worker answers to lines, with the step that they ended in.
+  // `module` promises the station's module; `heard` gets what the worker answers to lines, with the step that they ended in, and
+  // `checking` how far its check is.
   /**
    * @param {Page.Runner} machine
    * @param {string} source
    * @param {() => Promise<Uint8Array>} module
    * @param {(answer: Page.NetsHeard, step: Machine.Way, isMade: boolean) => unknown} heard
+   * @param {(checking: { what: string, done: number }) => unknown} checking
    */
-  constructor(machine, source, module, heard) {
+  constructor(machine, source, module, heard, checking) {
     this.machine = machine;
     this.source = source;
     this.module = module;
     this.heard = heard;
+    this.checking = checking;
     /** @type {Link | null} */
     this.link = null;
     this.pitch = 0;
@@ -65,7 +68,8 @@ export class NetsFollow {
   /** @param {number} pitch */
   start(pitch) {
     /** @type {Link} */
-    const link = new Link(this.source, () => {}, (why) => this.link === link && this.stopped(why));
+    const link = new Link(this.source, (news) => this.link === link && this.checking(/** @type {Page.NetsNews} */ (/** @type {unknown} */ (news)).checking),
+      (why) => this.link === link && this.stopped(why));
     if (this.begun && performance.now() - this.begun > AGAIN_MS) this.ends = 0;
     this.begun = performance.now();
     this.link = link;
@@ -82,7 +86,7 @@ export class NetsFollow {
     this.ends++;
     if (this.ends > 1) return this.set({ isOn: false, why: `The nets stopped: ${why}` });
     this.machine.send({ kind: "say", text: `What finds the nets stopped (${why}), and begins again.`, isFault: true });
-    this.set({ about: null, lit: null, near: null, change: null, findings: null });
+    this.set({ about: null, lit: null, near: null, change: null, findings: null, led: null });
     return this.follow(this.machine.state);
   }
 

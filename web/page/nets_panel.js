@@ -1,9 +1,9 @@
-// The panel of the nets: the switch, the net that is lit, what lies next to it, what an edit joined or cut, and the findings
-// beside a netlist or the attributes of the files.
+// The panel of the nets: the switch, the net that is lit, what lies next to it, and what an edit joined or cut.
 
+import { ChecksPanel } from "./checks_panel.js";
 import { NetsFollow } from "./nets_follow.js";
 import { NetsLight } from "./nets_light.js";
-import { Report, isNetlist, limitWords, limitsOf, pointNames } from "../nets/index.js";
+import { isNetlist, limitWords, limitsOf, pointNames } from "../nets/index.js";
 import { button, byId, element, redraw } from "./dom.js";
 import { layerOf, pileSeen, shownLayers } from "../machine/index.js";
 import { areaText, lengthIn, lengthText, plural, point } from "../board/index.js";
@@ -26,7 +26,7 @@ const atPitch = (pitch) => `at ${micrometres(pitch)}: gaps under ${micrometres(l
 
 // What is not known before the nets are found.
 /** @type {Partial<Machine.Nets>} */
-const NOTHING = { about: null, lit: null, near: null, change: null, findings: null, netlist: null };
+const NOTHING = { about: null, lit: null, near: null, change: null, findings: null, isBefore: false, led: null, netlist: null };
 
 /** @param {Board.Point[]} places */
 const boxAround = (...places) => ({ left: Math.min(...places.map(({ x }) => x)) - AROUND, low: Math.min(...places.map(({ y }) => y)) - AROUND,
@@ -52,7 +52,9 @@ export class NetsPanel {
     this.machine = machine;
     this.light = new NetsLight(view, machine);
     this.asked = 0;
-    this.follow = new NetsFollow(machine, byId("nets-worker").textContent, module, (answer, step, isMade) => this.heard(answer, step, isMade));
+    this.follow = new NetsFollow(machine, byId("nets-worker").textContent, module, (answer, step, isMade) => this.heard(answer, step, isMade),
+      (checking) => this.checks.tell(checking));
+    this.checks = new ChecksPanel(machine, view, this);
     this.listen();
     machine.panel(({ nets, unit, layers }) => [nets, unit, nets.isOn && layers], (state) => {
       this.show(state);
@@ -63,6 +65,12 @@ export class NetsPanel {
   /** @param {Partial<Machine.Nets>} changes */
   set(changes) {
     this.follow.set(changes);
+  }
+
+  // Over the pictures of the view.
+  paint() {
+    this.light.paint();
+    this.checks.light.paint();
   }
 
   get nets() {
@@ -76,7 +84,6 @@ export class NetsPanel {
   listen() {
     byId("nets-on").onchange = () => this.switchTo(byId("nets-on").checked);
     byId("nets-pitch").onchange = () => this.set({ pitch: Number(byId("nets-pitch").value), ...NOTHING });
-    byId("nets-check").onclick = () => this.check();
     byId("nets-dark").onclick = () => this.set({ lit: null, near: null });
     byId("nets-forget").onclick = () => this.compareWith({ name: null, bytes: null });
     byId("nets-next").onsubmit = (event) => {
@@ -94,8 +101,8 @@ export class NetsPanel {
   /** @param {Page.NetsHeard} answer @param {Machine.Way} step @param {boolean} isMade */
   async heard({ changes, ms, ...about }, step, isMade) {
     const change = changes && changeOf(changes), { marks, lit } = this.nets;
-    this.set({ about, change: change && { ...change, ms }, findings: null,
-      marks: change && isMade ? new Map(marks).set(step, change) : marks });
+    this.set({ about, change: change && { ...change, ms }, marks: change && isMade ? new Map(marks).set(step, change) : marks });
+    this.checks.edited();
     if (lit) await this.lightAt(lit.at);
   }
 
@@ -123,31 +130,24 @@ export class NetsPanel {
     return undefined;
   }
 
-  // Takes a netlist out of files that are opened; the others are given back.
+  // Takes a netlist, rules and accepted findings out of files that are opened; the others are given back.
   /** @param {Machine.File[]} files */
   take(files) {
     const netlists = files.filter(({ bytes }) => isNetlist(bytes));
     for (const { name, bytes } of netlists) this.compareWith({ name, bytes });
-    return files.filter((file) => !netlists.includes(file));
+    return this.checks.take(files.filter((file) => !netlists.includes(file)));
   }
 
   /** @param {{ name: string | null, bytes: Uint8Array | null }} file */
   async compareWith({ name, bytes }) {
     if (!this.nets.isOn) this.switchTo(true);
-    this.set({ findings: null, netlist: null });
+    this.set({ findings: null, led: null, netlist: null });
     /** @type {(Machine.About & { refusals: Machine.Nets["netlist"]["refusals"] }) | null} */
     const answer = await this.follow.call("netlist", { bytes });
     if (!answer) return;
     const { refusals, ...about } = answer;
     this.set({ about, netlist: name && { name, refusals } });
-    if (name && !refusals.length) await this.check();
-  }
-
-  async check() {
-    if (!this.nets.isOn) this.switchTo(true);
-    /** @type {Machine.Findings | null} */
-    const answer = await this.follow.call("check");
-    if (answer) this.set({ findings: answer });
+    if (name && !refusals.length) await this.checks.check();
   }
 
   // Drawing.
@@ -166,7 +166,6 @@ export class NetsPanel {
     byId("nets-dark").hidden = !nets.lit;
     this.showChange(nets.change);
     this.showLit(nets);
-    this.showFindings(nets);
   }
 
   /** @param {Machine.Nets} nets */
@@ -218,39 +217,4 @@ export class NetsPanel {
   label(name) {
     return layerOf(this.machine.state, name)?.label ?? name;
   }
-
-  /** @param {Machine.Nets} nets */
-  showFindings({ findings, netlist, about }) {
-    const list = byId("nets-findings");
-    if (netlist?.refusals.length) {
-      return list.replaceChildren(element("li", { className: "fault" }, `${netlist.name} is refused`),
-        ...netlist.refusals.slice(0, MOST).map(({ line, what }) => element("li", {}, `line ${line}: ${what}`)));
-    }
-    if (!findings) return list.replaceChildren();
-    const { misfit } = /** @type {Machine.About & { misfit?: string | null }} */ (about);
-    if (misfit) return list.replaceChildren(element("li", { className: "fault" }, misfit));
-    if (!findings.points) return list.replaceChildren(element("li", { className: "hint" }, "Nothing to compare with: drop a netlist (IPC-D-356) on the page."));
-    const report = new Report(about.shown.slice(0, about.copper).map((name) => this.label(name)), about.pitch);
-    const rows = findingsOf(findings, report, about.pitch);
-    const { opens, shorts, bare, loose } = findings;
-    const summary = `${plural(opens.length, "open")}, ${plural(shorts.length, "short")}, ${plural(bare.length, "point")} without copper, `
-      + `${plural(loose.length, "piece")} of copper without a point, ${atPitch(about.pitch)}`;
-    return redraw(list, element("li", {}, element("b", {}, summary)), ...rows.slice(0, MOST).map(({ lines, places }) =>
-      element("li", {}, button(lines.join("\n"), () => this.lead(about.shown[places[0].layer], ...places)))));
-  }
-}
-
-// A short may be a gap that is too narrow for the pitch.
-/** @param {string[]} lines @param {number} pitch */
-const limited = ([first, ...rest], pitch) => [`${first}, ${atPitch(pitch)}`, ...rest];
-
-// Each finding in lines, with the places that a click shows.
-/** @param {Machine.Findings} findings @param {Report} report @param {number} pitch */
-function findingsOf({ opens, shorts, bare, loose }, report, pitch) {
-  return [
-    ...opens.map((open) => ({ lines: report.open(open), places: open.gaps.flatMap(({ from, to }) => [from, to]) })),
-    ...shorts.map((short) => ({ lines: limited(report.short(short), pitch), places: short.touching.map(({ place }) => place) })),
-    ...bare.map((found) => ({ lines: report.bare(found), places: [{ ...found.point, layer: found.point.layers[0] }] })),
-    ...loose.map((found) => ({ lines: report.loose(found), places: [found.place] })),
-  ].filter(({ places }) => places.length > 0);
 }

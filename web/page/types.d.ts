@@ -81,6 +81,8 @@ declare namespace Page {
     side?: "top" | "bottom"; lacks?: string[] }
   type News = { kind: "picture" } & Came | { kind: "drawn"; number: number } | { kind: "drawing" } & Progress
     | { kind: "undrawn"; why?: string; name?: string; code?: number } | Machine.Events["answer"];
+  /** How far a check of the nets' worker is. */
+  interface NetsNews { kind: "checking"; checking: { what: string; done: number } }
   /** How far a drawing is: so many layers, and a part of the next one. */
   interface Progress { drawn: number; count: number; part: number }
   /** What the worker of the nets says of lines: what they joined and cut, in so many ms. */
@@ -97,7 +99,7 @@ declare namespace Page {
     first: HTMLSelectElement; second: HTMLSelectElement; "new-polarity": HTMLSelectElement; "new-turn": HTMLSelectElement;
     "new-direction": HTMLSelectElement; "nets-pitch": HTMLSelectElement; items: HTMLOListElement; "items-panel": HTMLDetailsElement;
     "drills-panel": HTMLDetailsElement; "find-text": HTMLInputElement; about: HTMLDialogElement; "apertures-panel": HTMLDetailsElement; question: HTMLDialogElement; keys: HTMLDialogElement;
-    palette: HTMLDialogElement; "palette-words": HTMLInputElement;
+    palette: HTMLDialogElement; "palette-words": HTMLInputElement; "nets-check": HTMLButtonElement;
   }
   type ById = <K extends string>(id: K) => K extends keyof Ids ? Ids[K] : HTMLElement;
   /** What the machine asks of the page, by the kinds of its messages. */

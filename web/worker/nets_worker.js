@@ -67,7 +67,7 @@ async function check({ limits }) {
   let turned = start, next = steps.next();
   for (; !next.done; next = steps.next()) {
     if (performance.now() - turned < TURN_MS) continue;
-    self.postMessage({ checking: next.value });
+    self.postMessage({ kind: "checking", checking: next.value });
     await new Promise((done) => setTimeout(done, 0));
     if (own.isStopped) return { findings: null, isStopped: true };
     turned = performance.now();
