@@ -1,7 +1,7 @@
 // The nets of a board at one pitch, and what differs from those that it should have.
 
 import {
-  Keeping, MOST_FULL, RULES, Report, breachWords, breachesOf, compareNets, counted, mm, nearPlaces, shareOf, thinPlaces,
+  Keeping, MOST_FULL, RULES, Report, breachWords, breachesOf, compareNets, counted, mm, nearPlaces, shareOf, thinPlaces, throughDisc,
 } from "../../web/nets/index.js";
 import { progress } from "./nets_progress.js";
 import { sidesOf, uncheckedOf } from "./nets_sides.js";
@@ -73,9 +73,9 @@ export class Answer {
       distance: distance * this.window.pitch };
   }
 
-  neckOf({ layer, net, column, row, width }) {
+  neckOf({ layer, net, column, row, width, disc }) {
     const place = this.place(layer, [column, row]);
-    return { name: this.nameOf(net, place), place, width: width * this.window.pitch };
+    return { name: this.nameOf(net, place), place, width: width * this.window.pitch, measure: this.grid.measureOf(throughDisc(disc, width)) };
   }
 
   /**

@@ -24,6 +24,7 @@ export { flatItems } from "./flat_items.js";
 export { Grid, limitWords, limitsOf } from "./grid.js";
 export { isNetlist, readNetlist } from "./ipc.js";
 export { placesOf } from "./item_places.js";
+export { throughDisc } from "./measures.js";
 export { thinPlaces } from "./necks.js";
 export { netsOf } from "./nets.js";
 export { closedLines, linesOfItem } from "./outline.js";
