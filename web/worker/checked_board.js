@@ -114,10 +114,10 @@ export class CheckedBoard {
   }
 
   // What the layers, the points and the window are, in words: where these are the same, so is what follows from them.
-  keysOf({ copper, drilled, unplated, outline, covers }, window, points) {
+  keysOf({ stack, copper, drilled, unplated, outline, covers }, window, points) {
     const of = (/** @type {CheckedLayer[]} */ layers) => layers.map((layer) => `${layer.layer.name} ${this.numberOf(layer)}`).join(" ");
     const named = (/** @type {string} */ what) => covers.filter(({ layer }) => layer.layerFunction.name.endsWith(`-${what}`));
-    const at = JSON.stringify(window), holes = `${at} ${of(drilled)} | ${of(unplated)}`;
+    const at = JSON.stringify([window, copper.map(({ layer }) => layer.name), stack.holes.map(({ from, to }) => [from, to])]), holes = `${at} ${of(drilled)} | ${of(unplated)}`;
     return { holes, copper: `${holes} ${of(copper)} | ${outline ? of([outline]) : ""}`, points: String(this.numberOf(points)), mask: `${at} ${of(named("mask"))}`,
       silk: of(named("silk")), paste: of(named("paste")) };
   }
