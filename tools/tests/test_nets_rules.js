@@ -3,7 +3,8 @@
 import assert from "node:assert/strict";
 import { Grid } from "../../web/nets/grid.js";
 import { netsOf } from "../../web/nets/nets.js";
-import { RULES, breachesOf, readRules } from "../../web/nets/rules.js";
+import { RULES, readRules } from "../../web/nets/rule_table.js";
+import { breachesOf } from "../../web/nets/rules.js";
 import { runsOf } from "../../web/nets/runs.js";
 import { readPbm } from "../../web/bytes/pbm.js";
 import { part, suite, test } from "./harness.js";

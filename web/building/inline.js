@@ -15,6 +15,8 @@ const LIST = /^export \{([^}]*)\};$/gm;
 // Comments, for who reads the modules, and those that give types, for tsc: both are left out. (A text over several lines may
 // have no line that begins as a comment does.)
 const LINE_COMMENTS = /^ *\/\/.*\n/gm;
+// What lines are indented by: the blanks of a text over several lines too, so no such text may need them.
+const INDENTS = /^ +/gm;
 const TYPES = /^ *\/\*\*(?:[^*]|\*(?!\/))*\*\/\n/gm;
 
 /**
@@ -116,7 +118,7 @@ class Inliner {
     this.names.set(path, name);
     this.open.pop();
     this.exports.set(name, new Set(exported.map((word) => word.split(":")[0])));
-    this.texts.push(`const ${name} = (() => {\n${text}\nreturn { ${exported.join(", ")} };\n})();\n`);
+    this.texts.push(`const ${name} = (() => {\n${text.replace(INDENTS, "")}\nreturn { ${exported.join(", ")} };\n})();\n`);
     return name;
   }
 }

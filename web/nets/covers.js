@@ -2,7 +2,6 @@
 // them.
 
 import { headOf } from "../station/index.js";
-import { RULES } from "./rules.js";
 import { flatItems } from "./flat_items.js";
 import { flatRows, runsOfFlat, union } from "./discs.js";
 import { placesOf } from "./item_places.js";
@@ -117,9 +116,3 @@ export function uncheckedOf(board, limits, points) {
   const isTold = points.some(({ isDrilled }) => isDrilled) || !limits.has("pad-hole");
   return isTold ? ofSides : [...ofSides, { rule: "pad-hole", side: null, why: "no netlist and no attribute names a pad with a plated hole" }];
 }
-
-/**
- * One of them in a line.
- * @param {Unchecked} unchecked
- */
-export const uncheckedWords = ({ rule, side, why }) => `not checked: ${RULES.get(rule)?.title}${side ? ` on ${side}` : ""}: ${why}`;

@@ -1,7 +1,7 @@
 // All findings of a board as one list: what differs from its nets, and where rules are broken, by kind, the worst first. Each has
 // its words, its measure, and what it is kept by if somebody accepts it.
 
-import { RULES } from "./rules.js";
+import { RULES } from "./rule_table.js";
 import { Report } from "./report.js";
 import { mm, placeWords } from "./words.js";
 
@@ -165,3 +165,9 @@ function openAt({ parts, gaps }) {
   const measure = isAcross ? [spotOf(first.from), spotOf(first.to)] : null;
   return { value: isAcross ? first.distance : null, measure, place: { layer: first.from.layer, ...middleOf(measure, first.from) } };
 }
+
+/**
+ * A rule that cannot be checked, in a line.
+ * @param {import("./covers.js").Unchecked} unchecked
+ */
+export const uncheckedWords = ({ rule, side, why }) => `not checked: ${RULES.get(rule)?.title}${side ? ` on ${side}` : ""}: ${why}`;

@@ -7,21 +7,6 @@ import { nearHoles, segmentsOf } from "./strokes.js";
 /** @typedef {import("./strokes.js").Hole} Hole */
 /** @typedef {import("./rules.js").Breach} Breach */
 
-/**
- * The rules, as those of `rules.js`.
- * @type {[string, import("./rules.js").Rule][]}
- */
-export const HOLE_RULES = [
-  ["hole-pad", { title: "hole without a pad", isMost: true, from: 0, to: 999_999, definition: "the distance from the rim of a plated hole to the nearest "
-    + "copper, on the first and on the last layer that it passes; copper at the rim is its pad" }],
-  ["pad-hole", { title: "pad without a hole", isMost: true, from: 0, to: 999_999, definition: "the distance of a pad that has a plated hole, by its "
-    + "netlist or its attributes, from the middle of the nearest plated hole through all of its layers" }],
-  ["doubled", { title: "doubled hits", definition: "the distance of two hits or slots of one form in the same material: the most that a place of one's "
-    + "line is from that of the other" }],
-  ["overlap", { title: "holes that overlap", isMost: true, from: 0, to: 1_000_000_000, definition: "how far the rims of two holes in the same material "
-    + "overlap; those that are reported as doubled are left out" }],
-];
-
 /** Copper and holes are looked for no farther than this, in nm. */
 export const FARTHEST = 1_000_000;
 /** What lies as near as this, in nm, is at one place. */

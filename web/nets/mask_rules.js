@@ -9,22 +9,6 @@ import { meetings, ownersOf, piecesOf } from "./overlaps.js";
 
 /** No overlap counts as deeper than this, in nm. */
 const DEEPEST = 1_000_000;
-const SIGNED = { from: 1 - DEEPEST, to: 1_000_000_000 };
-
-/**
- * The rules, as those of `rules.js`.
- * @type {[string, import("./rules.js").Rule][]}
- */
-export const MASK_RULES = [
-  ["mask-web", { title: "mask web", definition: "the width of solder mask between two openings, and of mask that no disc of this width covers within "
-    + "one, but corners" }],
-  ["mask-bare", { title: "bare copper of another net", ...SIGNED, definition: "the distance of an opening of the mask from copper of a net that has "
-    + "no pad in it; less than 0 where it is bare, by how deep it lies in the opening" }],
-  ["silk-bare", { title: "ink on bare copper", ...SIGNED, definition: "the distance of ink from copper that the mask leaves bare; less than 0 where "
-    + "it lies on it, by how deep" }],
-  ["paste", { title: "paste and mask", ...SIGNED, definition: "the distance of paste from the mask around its opening; less than 0 where paste lies "
-    + "on mask, by how far it is from the nearest opening" }],
-];
 
 /**
  * What lies on one outer copper layer.

@@ -1,41 +1,13 @@
 // Rules of a house that makes boards: what is less than it asks for, with its place and its value.
 
-import { lengthOf } from "../board/index.js";
 import { Around } from "./around.js";
 import { nearPlacesOn } from "./clearances.js";
 import { thinPlacesOn } from "./necks.js";
-import { HOLE_RULES, HoleCheck } from "./hole_rules.js";
+import { HoleCheck } from "./hole_rules.js";
 import { between, betweenRims, fromRim, throughDisc } from "./measures.js";
-import { MASK_RULES, MaskCheck } from "./mask_rules.js";
+import { MaskCheck } from "./mask_rules.js";
+import { RULES } from "./rule_table.js";
 import { nearHoles, segmentsOf } from "./strokes.js";
-import { mm } from "./words.js";
-
-/**
- * A rule: what it is, and what its value is. It is broken by what is less than its limit, or more where it `isMost`. Its limit is a
- * length `from` and `to` these, in nm, if it has them.
- * @typedef {{title: string, definition: string, isMost?: boolean, from?: number, to?: number}} Rule
- */
-
-/**
- * The rules by their names.
- * @type {Map<string, Rule>}
- */
-export const RULES = new Map(/** @type {[string, Rule][]} */ ([
-  ["ring", { title: "annular ring", definition: "the least copper around a plated hole, on each layer where the hole touches copper: the distance "
-    + "from its rim to the nearest white that is not inside of it; 0 where the hole breaks out" }],
-  ["gap", { title: "copper to copper", definition: "the distance of the copper of two nets on one layer" }],
-  ["hole-copper", { title: "hole to copper", definition: "the distance from the rim of a hole to copper of another net than its own, on each layer; "
-    + "of a hole without plating to any copper" }],
-  ["outline", { title: "copper to outline", definition: "the distance of copper from the middle of a closed line of the outline" }],
-  ["hole-hole", { title: "hole to hole", definition: "the distance of the rims of two holes, also of different drill files; less than 0 where they "
-    + "overlap, and two hits of one place are told as doubled" }],
-  ["width", { title: "thin copper", definition: "the width of copper that no disc of this width inside the copper covers, but corners" }],
-  ...MASK_RULES,
-  ...HOLE_RULES,
-]));
-
-/** The longest length that a rule may ask for, in nm. */
-const LONGEST = 1_000_000_000;
 
 /**
  * A place where a rule is broken.
@@ -305,40 +277,4 @@ function withoutRepeats(breaches) {
     for (const breach of breaches.filter(({ rule }) => rule === name)) if (!first.has(keyOf(breach))) first.set(keyOf(breach), at);
   });
   return breaches.filter((breach) => !OF_PAIRS.includes(breach.rule) || first.get(keyOf(breach)) === OF_PAIRS.indexOf(breach.rule));
-}
-
-/**
- * Reads the limits of a file of rules: a line has a name and a length in mm; # begins a comment.
- * @param {string} text
- * @returns {{limits: Map<string, number>, refusals: {line: number, what: string}[]}}
- */
-export function readRules(text) {
-  const limits = new Map();
-  /** @type {{line: number, what: string}[]} */
-  const refusals = [];
-  text.split(/\r\n|\r|\n/).forEach((line, at) => {
-    const words = line.split("#")[0].trim();
-    if (words === "") return;
-    const fault = takeRule(limits, words);
-    if (fault !== null) refusals.push({ line: at + 1, what: fault });
-  });
-  return { limits, refusals };
-}
-
-/**
- * Takes a rule in words, as `ring 0.13`, which is in mm, or `ring 5mil`.
- * @param {Map<string, number>} limits
- * @param {string} words
- * @returns {string | null} why it is refused
- */
-export function takeRule(limits, words) {
-  const [name, text, ...more] = words.split(/[ \t=]+/), length = lengthOf(text ?? "", "mm");
-  const rule = RULES.get(name);
-  if (!rule) return `${name.slice(0, 40)} is none of ${[...RULES.keys()].join(", ")}`;
-  const { from = 1, to = LONGEST } = rule, within = rule.to ? `, from ${mm(from)} to ${mm(to)} mm` : "";
-  if (more.length || length === null || length < from || length > to) {
-    return `${name} needs a length in mm or with its unit, as ${name} 0.15 or ${name} 6mil${within}`;
-  }
-  limits.set(name, length);
-  return null;
 }

@@ -30,10 +30,10 @@ export class ChecksPanel {
     this.light = new ChecksLight(view, machine);
     this.rules = new RulesChoice(machine, (checks) => this.set(checks));
     this.dialogue = new AcceptDialogue((finding, reason, by) => this.accept(finding, reason, by));
-    // How far a check is, and whether the board was edited since it began; which kinds are folded, and how many are listed of each.
+    // How far a check is, and after how many edits the last one began; which kinds are folded, and how many are listed of each.
     /** @type {{ what: string, done: number } | null} */
     this.checking = null;
-    this.isEdited = false;
+    this.at = 0;
     /** @type {Set<string>} */
     this.folded = new Set(["accepted", "gone", "no point"]);
     /** @type {Map<string, number>} */
@@ -68,15 +68,16 @@ export class ChecksPanel {
   async check() {
     if (!this.nets.nets.isOn) this.nets.switchTo(true);
     if (this.checking) return;
-    this.isEdited = false;
+    const { follow } = this.nets, at = follow.edits;
     this.tell({ what: "beginning", done: 0 });
     /** @type {{ findings: Machine.Findings | null, isStopped?: boolean } | null} */
-    const answer = await this.nets.follow.call("check", { limits: this.state.checks.limits });
+    const answer = await follow.call("check", { limits: this.state.checks.limits });
     this.tell(null);
     if (!answer) return;
-    if (answer.findings) this.nets.set({ findings: answer.findings, isBefore: this.isEdited });
+    this.at = at;
+    if (answer.findings) this.nets.set({ findings: answer.findings, isBefore: false });
     else this.machine.send({ kind: "say", text: answer.isStopped ? "The check was stopped." : "No copper is open, so nothing is checked." });
-    if (answer.findings && this.isEdited) this.edited();
+    this.edited();
   }
 
   stop() {
@@ -85,10 +86,10 @@ export class ChecksPanel {
 
   // The worker followed an edit: what is shown is from before it. A board that is checked quickly is checked again at once.
   edited() {
-    this.isEdited = true;
-    const { findings } = this.nets.nets;
-    if (findings) this.nets.set({ isBefore: true });
-    if (findings && findings.ms <= QUICK_MS && !this.checking) this.machine.await(this.check());
+    const { nets: { findings }, follow } = this.nets;
+    if (!findings || this.at === follow.edits) return;
+    this.nets.set({ isBefore: true });
+    if (findings.ms <= QUICK_MS && !this.checking) this.machine.await(this.check());
   }
 
   // How far the worker is; null where nothing is checked.

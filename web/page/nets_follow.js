@@ -9,6 +9,8 @@ import { Link } from "./station.js";
 const AGAIN_MS = 30000;
 
 const RETURNS = new Set(["undo", "redo", "abort"]);
+// Lines that change nothing of the document.
+const LOOKS = new Set(["plot", "write", "redraw", "list", "window"]);
 
 export class NetsFollow {
   // `module` promises the station's module; `heard` gets what the worker answers to lines, with the step that they ended in, and
@@ -30,6 +32,8 @@ export class NetsFollow {
     this.link = null;
     this.pitch = 0;
     this.sent = 0;
+    // How many lines that change the document were sent to workers, in all.
+    this.edits = 0;
     // When the worker began, and how often one ended soon after that by itself.
     this.begun = 0;
     this.ends = 0;
@@ -101,6 +105,7 @@ export class NetsFollow {
   send(given, files, step, state) {
     const lines = given.map(({ line, file }) => (file === undefined ? { line } : { line, name: files[file].name,
       bytes: asShown(layerOf(state, wordsOf(line)[1]), state.layers, files[file].bytes) }));
+    this.edits += given.filter(({ line }) => !LOOKS.has(firstWord(line))).length;
     const isMade = !RETURNS.has(firstWord(given[given.length - 1].line));
     this.call("lines", { lines }).then((answer) => answer && this.heard(answer, step, isMade));
   }
