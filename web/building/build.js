@@ -31,7 +31,7 @@ function within(text, element) {
 const json = (value) => JSON.stringify(value).replace(/</g, "\\u003c");
 
 // In this order: of two rules that are as strong as one another the later one holds.
-const STYLES = ["roles", "frame", "board", "panels", "telling", "windows"];
+const STYLES = ["roles", "frame", "board", "panels", "telling", "compared", "windows"];
 
 // The board of examples/kicad, which a page opens for who has none at hand.
 function exampleFiles() {
@@ -49,12 +49,14 @@ function pageOf(module) {
   const script = within(inlined(join(web, "page/main.js")), "script");
   const worker = within(inlined(join(web, "worker/main.js")), "script");
   const netsWorker = within(inlined(join(web, "worker/nets_worker.js")), "script");
-  const convertingWorker = within(inlined(join(web, "worker/converting_worker.js")), "script");
+  // (what is seldom needed is unpacked when it is)
+  const [convertingWorker, comparingWorker] = ["converting", "comparing"].map((name) =>
+    gzipSync(inlined(join(web, `worker/${name}_worker.js`)), { level: 9 }).toString("base64"));
   const policy = ["default-src 'none'", `script-src ${sum(script)} 'wasm-unsafe-eval'`, `style-src ${sum(style)}`,
     "worker-src blob:", "base-uri 'none'", "form-action 'none'"].join("; ");
   /** @type {Record<string, string>} */
   const parts = {
-    policy, style, script, worker, netsWorker, convertingWorker, module: gzipSync(module, { level: 9 }).toString("base64"),
+    policy, style, script, worker, netsWorker, convertingWorker, comparingWorker, module: gzipSync(module, { level: 9 }).toString("base64"),
     refusals: json(refusalsOf(read("../docs/refusals.md"))), contents: "null",
     example: json(exampleFiles()), notice: asText(read("page/icons.txt")),
   };

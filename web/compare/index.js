@@ -10,11 +10,13 @@
 //     SAME; // "same"
 
 export { Compared, DIFFERS, SAME, SAME_PICTURE } from "./layers.js";
+export { Owners, besides, isAnother, isSamePair, labelOfPair, outcomeOf, outcomeWords, summaryWords } from "./outcomes.js";
 export { functionsOfJobs, pairedLayers, tellByJobs } from "./pairs.js";
 export { Difference } from "./pixels.js";
 export { windowOfPlace } from "./places.js";
 export { attributeWords, changeWords, placeLine, saidWords } from "./words.js";
 
 /** @typedef {import("./changes.js").Change} Change */
+/** @typedef {import("./outcomes.js").PairFound} PairFound */
 /** @typedef {import("./pairs.js").Pair} Pair */
 /** @typedef {import("./places.js").Place} Place */

@@ -21,7 +21,9 @@ import { joined } from "../board/index.js";
  * @typedef {"same" | "same picture" | "differs"} Outcome
  */
 
-export const SAME = "same", SAME_PICTURE = "same picture", DIFFERS = "differs";
+export const SAME = "same";
+export const SAME_PICTURE = "same picture";
+export const DIFFERS = "differs";
 
 /** Of more changes than these a long stroke askew is taken by its box, and not in pieces. */
 const MOST_FINE = 5000;

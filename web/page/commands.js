@@ -12,6 +12,7 @@ import { pileOf } from "./pointer.js";
 import { raise } from "./layer_settings.js";
 import { askForScript } from "./saving.js";
 import { nameArranging } from "./arranging.js";
+import { nameComparing } from "./compared_panel.js";
 import { nameLooking } from "./looking.js";
 import { nameTelling } from "./telling_actions.js";
 import { switchBoard } from "./board_view.js";
@@ -160,6 +161,7 @@ export function nameActions(page) {
   nameEdits(page);
   nameArranging(page);
   nameTools(page);
+  nameComparing(page);
   nameViews(page);
   nameGoing(page);
   nameLooking(page);

@@ -3,18 +3,24 @@
 
 import { Link } from "./station.js";
 import { byId } from "./dom.js";
+import { unpacked } from "./contents.js";
 
 export class Converter {
   constructor() {
     /** @type {Link | null} */
     this.link = null;
+    // What the worker is started of, unpacked when it is first needed.
+    /** @type {Promise<string> | null} */
+    this.source = null;
     this.count = 0;
   }
 
   // What `kind` of web/worker/converting_worker.js answers to a message; it fails where the worker ends before.
   /** @template T @param {string} kind @param {object} message @param {Transferable[]} over @returns {Promise<T>} */
   async call(kind, message, over = []) {
-    this.link ??= this.start();
+    this.source ??= unpacked(byId("converting-worker").textContent).then((bytes) => new TextDecoder().decode(bytes));
+    const source = await this.source;
+    this.link ??= this.start(source);
     const { link } = this;
     this.count++;
     try {
@@ -31,9 +37,10 @@ export class Converter {
     return this.call(kind, message);
   }
 
-  start() {
+  /** @param {string} source */
+  start(source) {
     this.count = 0;
-    const link = new Link(byId("converting-worker").textContent, () => {}, () => {
+    const link = new Link(source, () => {}, () => {
       if (this.link === link) this.link = null;
     });
     return link;

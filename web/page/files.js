@@ -61,7 +61,7 @@ async function filesOfEntry(entry, files) {
 // What is dropped: each file as it is, each folder by what reads it. It is asked while the drop is told, since a drop has
 // its items no longer.
 /** @param {DataTransfer} transfer @returns {Dropped[]} */
-function droppedOf(transfer) {
+export function droppedOf(transfer) {
   const items = [...transfer.items].filter(({ kind }) => kind === "file").map((item) => {
     const entry = item.webkitGetAsEntry?.() ?? null, isFolder = entry !== null && entry.isDirectory;
     return isFolder ? { entry, isFolder, handle: item.getAsFileSystemHandle?.() } : { isFolder, file: item.getAsFile() };
@@ -70,7 +70,7 @@ function droppedOf(transfer) {
 }
 
 /** @param {Dropped[]} list */
-async function readDropped(list) {
+export async function readDropped(list) {
   const files = [], faults = [];
   for (const item of list) {
     if (!item.isFolder) {
