@@ -1,8 +1,7 @@
 // tools/compare: what differs between two revisions of a board.
 
-import { readAttributes } from "../../web/attributes/index.js";
-import { DRILL, windowLine } from "../../web/board/index.js";
-import { DIFFERS, SAME, SAME_PICTURE, attributeWords, changeWords, placeLine, saidWords, windowOfPlace } from "../../web/compare/index.js";
+import { windowLine } from "../../web/board/index.js";
+import { Owners, besides, changeWords, labelOfPair, outcomeWords, placeLine, summaryWords, windowOfPlace } from "../../web/compare/index.js";
 import { counted } from "../../web/nets/index.js";
 import { Call, DONE, FAILED, REFUSED, complain, perform, say } from "./command.js";
 import { boardOf, pairsOf } from "./compare_boards.js";
@@ -65,48 +64,9 @@ function checkTargets({ out, html, replace }, boards) {
 }
 
 /** @param {ComparedPair} pair */
-const labelOf = ({ layers: [first, second], isAnother }) => (isAnother ? `${first.layerFunction.label}, now ${second.layerFunction.label}`
-  : first.layerFunction.label);
-
-/** What each item of a changed layer is of: net, component and pin, where the files have them. */
-class Owners {
-  /** @param {ComparedPair} pair */
-  constructor(pair) {
-    const isGerber = pair.compared?.changes.length && pair.layers[0].kind !== DRILL && pair.compared.said.isRead;
-    this.readings = isGerber ? pair.bytes.map((bytes) => readAttributes(bytes).items) : [];
-  }
-
-  /** @param {import("../../web/compare/index.js").Change} change */
-  words({ from, to }) {
-    if (!this.readings.length) return "";
-    const said = from === null ? this.readings[1][to] : this.readings[0][from];
-    return attributeWords(said?.attributes ?? []);
-  }
-}
-
-/** @param {ComparedPair} pair */
-function outcomeWords({ outcome, compared, window, isSameFile, refused }) {
-  if (outcome === "refused") return refused.join("; ");
-  if (isSameFile) return "the same file";
-  const places = counted(compared.places.length, "place");
-  if (outcome === SAME_PICTURE) return `the same picture at pixels of ${window.pitch} nm; items differ at ${places}`;
-  if (outcome === DIFFERS) return `differs at ${places}${window ? `, by pixels of ${window.pitch} nm` : ""}`;
-  return compared.isSameOrder ? "the same" : "the same, with its items in another order, which changes nothing";
-}
-
-// What of a pair is no copper, a hole or ink: names and what the files say.
-/** @param {ComparedPair} pair */
-function besides({ layers: [first, second], compared }) {
-  const { dates = [], attributes = [], comments = [], isRead = true } = compared?.said ?? {};
-  return [...first.file.name === second.file.name ? [] : [`the file is called ${second.file.name} now`],
-    ...dates.map((said) => `date: ${saidWords(said)}`), ...attributes.map((said) => `attribute: ${saidWords(said)}`),
-    ...comments.map((said) => `comment: ${saidWords(said)}`), ...isRead ? [] : ["attributes of items are not compared: they cannot be read"]];
-}
-
-/** @param {ComparedPair} pair */
 function tellPair(pair) {
   const { compared } = pair, owners = new Owners(pair);
-  say(`${labelOf(pair)}: ${pair.layers[0].file.name}: ${outcomeWords(pair)}`);
+  say(`${labelOfPair(pair)}: ${pair.layers[0].file.name}: ${outcomeWords(pair)}`);
   for (const line of besides(pair)) say(`  ${line}`);
   const places = compared?.places ?? [];
   places.slice(0, MOST_PLACES).forEach((place, at) => {
@@ -121,13 +81,7 @@ function tellPair(pair) {
 }
 
 /** @param {ComparedPair[]} pairs */
-function summary(pairs, { onlyFirst, onlySecond }) {
-  const count = (outcome) => pairs.filter((pair) => pair.outcome === outcome).length, refused = count("refused");
-  const parts = [`${count(SAME)} the same`, `${count(SAME_PICTURE)} the same picture`, `${count(DIFFERS)} different`,
-    ...refused ? [`${refused} not compared`] : [], ...onlyFirst.length ? [`${onlyFirst.length} only in A`] : [],
-    ...onlySecond.length ? [`${onlySecond.length} only in B`] : []];
-  return `${counted(pairs.length, "pair")} of layers: ${parts.join(", ")}`;
-}
+const summaryOf = (pairs, rest) => summaryWords(pairs.map(({ outcome }) => outcome), rest);
 
 function tell(boards, pairs, rest) {
   boards.forEach(({ title, layers, leftOut, notes }, at) => {
@@ -137,7 +91,7 @@ function tell(boards, pairs, rest) {
   for (const pair of pairs) tellPair(pair);
   for (const { layerFunction, file } of rest.onlyFirst) say(`${layerFunction.label}: ${file.name}: only in A`);
   for (const { layerFunction, file } of rest.onlySecond) say(`${layerFunction.label}: ${file.name}: only in B`);
-  say(summary(pairs, rest));
+  say(summaryOf(pairs, rest));
 }
 
 const toMm = (nm) => nm / 1e6;
@@ -161,7 +115,7 @@ function jsonOf(boards, pairs, rest) {
   const layerJson = ({ layerFunction, file }) => ({ shows: layerFunction.label, file: file.name });
   return { boards: boards.map(({ title, leftOut, notes, faults }) => ({ title, leftOut, notes, faults })),
     isSame: isAllSame(pairs, rest),
-    pairs: pairs.map((pair) => ({ shows: labelOf(pair), name: pair.layers[0].layerFunction.name, a: pair.layers[0].file.name,
+    pairs: pairs.map((pair) => ({ shows: labelOfPair(pair), name: pair.layers[0].layerFunction.name, a: pair.layers[0].file.name,
       b: pair.layers[1].file.name, pairedBy: pair.by, outcome: pair.outcome, isSame: pair.isSame, isSameFile: pair.isSameFile,
       refused: pair.refused, pitch: pair.window?.pitch ?? null, places: placesJson(pair, new Owners(pair)), ...pair.compared?.said ?? NOTHING_SAID })),
     onlyInA: rest.onlyFirst.map(layerJson), onlyInB: rest.onlySecond.map(layerJson) };
@@ -182,8 +136,8 @@ async function run(options) {
   if (options.json) sayJson(jsonOf(boards, pairs, rest));
   else tell(boards, pairs, rest);
   if (options.html !== null) {
-    const lines = (pair) => ({ title: labelOf(pair), outcome: outcomeWords(pair), besides: besides(pair), owners: new Owners(pair) });
-    writeFile(options.html, reportOf(boards, pairs, rest, summary(pairs, rest), lines), options.replace, sources);
+    const lines = (pair) => ({ title: labelOfPair(pair), outcome: outcomeWords(pair), besides: besides(pair), owners: new Owners(pair) });
+    writeFile(options.html, reportOf(boards, pairs, rest, summaryOf(pairs, rest), lines), options.replace, sources);
     if (!options.json) say(`the page: ${options.html}`);
   }
   const isUnread = boards.some(({ faults }) => faults.length) || pairs.some(({ refused }) => refused.length);
