@@ -68,7 +68,7 @@ suite("layers", () => {
       ["top", "gerber", "its name"], ["top-2", "gerber", "its name"], ["drawing", "gerber", "its name"],
       ["other", "gerber", "what it holds"], ["holes", "drill", "its name"]]);
     assert.deepEqual(others.map(({ name }) => name), ["readme.txt"]);
-    assert.equal(layers[3].layerFunction.label, "drawing F_Fab.gbr");
+    assert.equal(layers[3].layerFunction.label, "fabrication drawing, top");
     assert.equal(recogniseFiles([file("readme.txt", "hello")], true).layers[0].name, "other");
   });
 });

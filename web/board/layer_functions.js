@@ -2,6 +2,7 @@
 // how a file tells it by its attribute.
 
 import { latin1, latin1Bytes, utf8 } from "../bytes/index.js";
+import { functionWords } from "./layer_words.js";
 
 /**
  * What a layer shows.
@@ -16,24 +17,25 @@ import { latin1, latin1Bytes, utf8 } from "../bytes/index.js";
 /** @typedef {[name: string, label: string, colour: string, height: number, isShown: boolean]} Row */
 /** @type {Row[]} */
 const TABLE = [
-  ["bottom-glue", "bottom glue", "#7a6a9a", 4, false],
-  ["bottom-paste", "bottom paste", "#8b9db0", 6, false],
+  ["bottom-glue", "bottom glue", "#22eebb", 4, false],
+  ["bottom-paste", "bottom paste", "#667766", 6, false],
   ["bottom-silk", "bottom silkscreen", "#d6b3e6", 8, true],
   ["bottom-mask", "bottom solder mask", "#1fa08b", 10, false],
   ["bottom", "bottom copper", "#3f7fe0", 12, true],
   ["top", "top copper", "#d8433b", 60, true],
   ["top-mask", "top solder mask", "#b45ad0", 62, false],
-  ["top-paste", "top paste", "#b9b3a0", 64, false],
-  ["top-glue", "top glue", "#9a7a6a", 66, false],
+  ["top-paste", "top paste", "#448899", 64, false],
+  ["top-glue", "top glue", "#22aa55", 66, false],
   ["top-silk", "top silkscreen", "#f2eda1", 68, true],
-  ["drawing", "drawing", "#8f98a3", 72, false],
-  ["other", "other", "#9fb06a", 74, false],
+  ["drawing", "drawing", "#666699", 72, false],
+  ["other", "other", "#ff8877", 74, false],
   ["outline", "outline", "#e8d14a", 80, true],
   ["nonplated", "holes without plating", "#7fd6e8", 84, true],
   ["plated", "plated holes", "#ffffff", 86, true],
   ["holes", "holes", "#ffffff", 88, true],
 ];
-const INNER_COLOURS = ["#c9a227", "#46a758", "#c2689a", "#5bb7c9", "#d98f43", "#8f7ae0"];
+// They stay apart from one another and from those of the table, in both looks of the page.
+const INNER_COLOURS = ["#dd7722", "#668822", "#ff6699", "#4444ff", "#bb2266", "#998877", "#22ee22", "#997788", "#995522", "#aa8822"];
 
 /** @param {Row} row @returns {LayerFunction} */
 function layerFunction([name, label, colour, height, isShown]) {
@@ -128,11 +130,11 @@ export function byFunction(value) {
   }
   if (own(ON_A_SIDE, what)) {
     const side = own(SIDES, fields[1]);
-    return side ? plain(`${side}-${ON_A_SIDE[what]}`) : labelled("other", value);
+    return side ? plain(`${side}-${ON_A_SIDE[what]}`) : labelled("other", functionWords(fields));
   }
   if (what === "Profile") return plain("outline");
   if (own(HOLES, what)) return plain(HOLES[what]);
-  return labelled(what.endsWith("Drawing") || DRAWINGS.includes(what) ? "drawing" : "other", value);
+  return labelled(what.endsWith("Drawing") || DRAWINGS.includes(what) ? "drawing" : "other", functionWords(fields));
 }
 
 /** @param {Record<string, string>} table @param {string} key */

@@ -1,6 +1,7 @@
 // What a file shows by its name, as KiCad, Altium (Protel), EAGLE, Fritzing, and gEDA or pcb-rnd give it.
 
 import { inner, labelled, plain } from "./layer_functions.js";
+import { drawingWords } from "./layer_words.js";
 
 // Extensions that say what a file shows: Protel's, which Altium, KiCad and Fritzing use too, EAGLE's old ones, OrCAD's.
 const EXTENSIONS = new Map(Object.entries({
@@ -82,6 +83,15 @@ function sideOf(words) {
     if (found.length) return names.get(found[found.length - 1]) ?? null;
   }
   return null;
+}
+
+/**
+ * What a drawing is called by its file's name; null where that does not say it.
+ * @param {string} name
+ */
+export function drawingOf(name) {
+  const words = wordsOf(nameParts(name).stem);
+  return drawingWords(words, sideOf(words));
 }
 
 /**

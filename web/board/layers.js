@@ -2,7 +2,7 @@
 
 import { DRILL, GERBER, HEAD, endingOf, kindOf } from "./file_kinds.js";
 import { byAttribute, labelled, plain } from "./layer_functions.js";
-import { byName, isOfLayers, nameParts } from "./layer_names.js";
+import { byName, drawingOf, isOfLayers, nameParts } from "./layer_names.js";
 
 export { byAttribute, byName, nameParts };
 
@@ -66,7 +66,7 @@ export function recognise(file, isNamed) {
     toldBy = BY_NAME;
     // Of several of these, people want to know which.
     if (shown === plain("drawing") || shown === plain("other")) {
-      shown = labelled(shown.name, `${shown.label} ${file.name}`);
+      shown = labelled(shown.name, (shown.name === "drawing" ? drawingOf(file.name) : null) ?? `${shown.label} ${file.name}`);
     }
   }
   const isHoles = shown !== null && HOLES.includes(shown.name);

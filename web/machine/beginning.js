@@ -11,8 +11,8 @@ const numberOf = (id) => Number(/(\d+)$/.exec(id)?.[1] ?? 0);
 /** @param {Machine.Looks | null} looks @returns {Partial<Machine.State>} */
 function looksOf(looks) {
   if (!looks) return {};
-  const { grid, unit, active, layers = [], polarity, turn, direction, job, made, checks } = looks;
-  const given = Object.entries({ grid, unit, active, polarity, turn, direction, job, made, checks }).filter(([, value]) => value ?? false);
+  const { grid, unit, active, layers = [], polarity, turn, direction, job, made, checks, isOutlined } = looks;
+  const given = Object.entries({ grid, unit, active, polarity, turn, direction, job, made, checks, isOutlined }).filter(([, value]) => value ?? false);
   return { ...Object.fromEntries(given), layers: layers.map((layer) => ({ items: 0, entries: 0, ...PLAIN, ...layer })) };
 }
 

@@ -21,8 +21,8 @@ export function waitingOf({ queue, work, refused, opened, questions, next }) {
 
 // How the page looks, as it is kept beside the lines.
 /** @param {Machine.State} state */
-export const looksOfState = ({ grid, unit, active, polarity, turn, direction, layers, job, made, checks }) => ({
-  grid, unit, active, polarity, turn, direction, job, made, checks,
+export const looksOfState = ({ grid, unit, active, polarity, turn, direction, layers, job, made, checks, isOutlined }) => ({
+  grid, unit, active, polarity, turn, direction, job, made, checks, isOutlined,
   layers: layers.map(({ name, kind, label, colour, opacity, isShown, height, file, origin, shows, by }) =>
     ({ name, kind, label, colour, opacity, isShown, height, file, origin, shows, by })),
 });

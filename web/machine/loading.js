@@ -21,7 +21,7 @@ function send(turn, gesture) {
   if (opening && opening.wasEmpty === null) change(turn, gesture.opening, { wasEmpty: state.layers.length === 0 });
   const name = given ? given.name : nameFor(state, layer.wanted);
   const path = pathFor(state, given ? given.path : layer.fileName);
-  const look = given ? {} : lookOf(layer, name, state.layers.length);
+  const look = given ? {} : lookOf(layer, name, state.layers);
   turn.work({ line: `load ${name} ${layer.kind} ${path}`, name, path, look });
   turn.apply([{ line: turn.state.work.line, bytes: state.files[file].bytes }]);
 }

@@ -15,12 +15,13 @@ const listed = (names) => names.slice(0, 5).join(", ") + (names.length > 5 ? ", 
 
 const EXTRA = ["#f08cd0", "#8ce0a0", "#e0c08c", "#8cb4f0"];
 
-// The look of a recognised layer under the name that it got.
-/** @param {Machine.Recognised} layer @param {string} name @param {number} count @returns {Machine.Look} */
-export function lookOf({ wanted, label, colour, height, isShown, fileName, origin, toldBy }, name, count) {
-  const isSecond = name !== wanted;
-  return { label: isSecond ? `${label} (${fileName})` : label, height, isShown, opacity: 0.85,
-    colour: isSecond ? EXTRA[count % EXTRA.length] : colour, file: fileName, origin, shows: wanted, toldBy };
+// The look of a recognised layer under the name that it got, next to those that are open: of two that are called the same, one is told
+// apart by its file.
+/** @param {Machine.Recognised} layer @param {string} name @param {readonly Machine.Look[]} others @returns {Machine.Look} */
+export function lookOf({ wanted, label, colour, height, isShown, fileName, origin, toldBy }, name, others) {
+  const isCalledSo = others.some((other) => other.label === label);
+  return { label: isCalledSo ? `${label} (${fileName})` : label, height, isShown, opacity: 0.85,
+    colour: name !== wanted ? EXTRA[others.length % EXTRA.length] : colour, file: fileName, origin, shows: wanted, toldBy };
 }
 
 /** @param {import("../board/index.js").Layer} layer @returns {Machine.Recognised} */

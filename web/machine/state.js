@@ -55,6 +55,8 @@ export const firstState = () => ({
   job: null,
   // The side of the board as it will be made: whether it is shown in place of the layers, and its colours.
   made: { isShown: false, mask: "green", finish: "tin" },
+  // Whether layers are shown by the edges of what they paint.
+  isOutlined: false,
   // What is compared, and shown in place of the layers; null where nothing is.
   comparison: null,
   // The files that were given, by number, { name, bytes }; the number of each path of the script; the pictures beside the

@@ -136,7 +136,7 @@ declare namespace Machine {
     tool: string; making: Drawn | null; grid: number; unit: string; polarity: string; turn: string; direction: string;
     hasSnaps: boolean; origin: Board.Point | null; menu: Menu | null; gap: { picked: Picked[]; found: Board.Gap | null } | null; tables: Tables;
     inWords: { id: number; told: Told[]; unit: string; words: Words | null; why: string | null } | null; lit: Found | null; job: { name: string; bytes: Uint8Array } | null;
-    made: Made; comparison: Comparison | null; files: Record<string, File>; paths: Record<string, string>; opened: Picture[]; windows: string[];
+    made: Made; isOutlined: boolean; comparison: Comparison | null; files: Record<string, File>; paths: Record<string, string>; opened: Picture[]; windows: string[];
     refused: Refused[]; openings: Record<number, Opening>; dropped: Record<string, string[]>; questions: Question[];
     queue: Gesture[]; work: Work | null; station: { isOpen: boolean; why: string | null };
     kept: Keeping; spoiled: { line: string; reply: string }[]; faults: string[];
@@ -156,7 +156,7 @@ declare namespace Machine {
   interface Looks {
     look?: string; view?: Seen; face?: Uint8Array | null; bytes?: number; grid?: number; unit?: string; active?: string | null; polarity?: string;
     turn?: string; direction?: string;
-    made?: Made; layers?: Omit<Layer, "items" | "entries">[]; registry?: OlderRegistry; job?: State["job"]; checks?: Checks;
+    made?: Made; isOutlined?: boolean; layers?: Omit<Layer, "items" | "entries">[]; registry?: OlderRegistry; job?: State["job"]; checks?: Checks;
   }
   /** Which boards a page of before had beside the first, and which it showed (older_store.js). */
   interface OlderRegistry { boards: { key: string; number: number; title: string | null }[]; shown: string; count: number; isFirstGone: boolean }

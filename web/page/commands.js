@@ -13,6 +13,8 @@ import { raise } from "./layer_settings.js";
 import { askForScript } from "./saving.js";
 import { nameArranging } from "./arranging.js";
 import { nameComparing } from "./compared_panel.js";
+import { nameEdges } from "./edges.js";
+import { nameGroups } from "./layer_groups.js";
 import { nameLooking } from "./looking.js";
 import { nameTelling } from "./telling_actions.js";
 import { switchBoard } from "./board_view.js";
@@ -163,6 +165,8 @@ export function nameActions(page) {
   nameTools(page);
   nameComparing(page);
   nameViews(page);
+  nameGroups(page);
+  nameEdges(page);
   nameGoing(page);
   nameLooking(page);
   nameTelling(page);

@@ -180,6 +180,8 @@ const BOOTSTRAP = {
 
 /** @type {Record<string, string>} */
 const OWN = {
+  edges: "M6 1a5 5 0 0 0 0 10 5 5 0 0 0 .5-.03V10h-.5a4 4 0 1 1 4-4v.5h.97A5 5 0 0 0 6 1zM8 7h6a1 1 0 0 1 1 1v6a1 1 0 0 1-1 1H8a1 1 0 0 1-1-1V8a1 1 0 0 1 1-1z"
+    + "m0 1v6h6V8H8z",
   "compare-boards": "M2 1a2 2 0 0 0-2 2v10a2 2 0 0 0 2 2h5.5v.5a.5.5 0 0 0 1 0V.5a.5.5 0 0 0-1 0V1H2zm5.5 1v12H2a1 1 0 0 1-1-1V3a1 1 0 0 1 1-1h5.5z"
     + "M10 1h4a2 2 0 0 1 2 2v10a2 2 0 0 1-2 2h-4v-1h4a1 1 0 0 0 1-1V3a1 1 0 0 0-1-1h-4V1zM3 5.5h3v1H3v-1zm0 4h3v1H3v-1zm7-4h3v1h-3v-1zm1 3h1v1h1v1"
     + "h-1v1h-1v-1h-1v-1h1v-1z",

@@ -1,6 +1,7 @@
 // The list of layers, the topmost first: shown or not, alone, colour, opacity, and which one insertions go to.
 
 import { button, byId, element, redraw } from "./dom.js";
+import { listenToGroupBoxes } from "./layer_groups.js";
 import { losses } from "../machine/index.js";
 import { plural } from "../board/index.js";
 
@@ -17,12 +18,16 @@ function row(machine, layer, active) {
   opacity.oninput = () => machine.send({ kind: "layer", name, changes: { opacity: Number(opacity.value) / 100 } });
   const choose = button("", () => machine.gesture({ kind: "choose", name }), { className: "name",
     title: `${name}: ${plural(items, "item")}, ${layer.origin ?? layer.file ?? ""}`, "aria-pressed": String(isActive) });
-  choose.append(element("b", {}, label), element("small", {}, ` ${items.toLocaleString("en")}`));
+  choose.append(element("b", {}, ...breakable(label)), element("small", {}, ` ${items.toLocaleString("en")}`));
   const only = button("only", () => machine.send({ kind: "only", name }), { className: "only", title: "show this layer alone",
     "aria-label": `show only ${label}` });
   return element("li", { className: isActive ? "active" : "", "data-row": name }, element("label", { className: "target" }, shown),
     colour, choose, opacity, only);
 }
+
+// A name of several words may be wrapped between them, and the long name of a file where one of its parts ends: never within a word.
+/** @param {string} label */
+const breakable = (label) => label.split(/(?<=[-_.,/])(?=\S)/).flatMap((part, at) => (at ? [element("wbr"), part] : [part]));
 
 // The next layer up or down becomes the active one.
 /** @param {Page.Runner} machine @param {number} by */
@@ -34,6 +39,7 @@ export function activeBy(machine, by) {
 
 /** @param {Page.Runner} machine */
 export function listenToLayers(machine) {
+  listenToGroupBoxes(machine);
   // The list is as it is while a colour or an opacity of it is being chosen.
   /** @param {Machine.State} state */
   const words = ({ layers }) =>

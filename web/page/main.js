@@ -223,8 +223,8 @@ function listen() {
 
 // What is kept of the looks is written when it changes, and when the page is hidden.
 function listenToChanges() {
-  machine.panel(({ layers, grid, unit, active, polarity, turn, direction, job, made, checks }) =>
-    [layers, grid, unit, active, polarity, turn, direction, job, made, checks],
+  machine.panel(({ layers, grid, unit, active, polarity, turn, direction, job, made, checks, isOutlined }) =>
+    [layers, grid, unit, active, polarity, turn, direction, job, made, checks, isOutlined],
     () => keepLooks());
   document.addEventListener("visibilitychange", () => keepLooks());
   window.addEventListener("unhandledrejection", ({ reason }) => machine.send({ kind: "fault", why: faultWords(reason) }));

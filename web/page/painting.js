@@ -3,6 +3,7 @@
 
 import { isMadeShown, shownLayers } from "../machine/index.js";
 import { SIDE } from "./board_view.js";
+import { Edges } from "./edges.js";
 
 /**
  * Paints what lies on the board now.
@@ -13,7 +14,7 @@ import { SIDE } from "./board_view.js";
  * @returns {Page.Painter}
  */
 export function painterOf(state, pile, pictures, { board, undrawn }) {
-  const { comparison } = state, drawn = boxDrawn(state, pictures);
+  const { comparison } = state, drawn = boxDrawn(state, pictures), edges = isOutlined(state) ? new Edges(place) : null;
   const parts = comparison?.sheets
     ? comparison.sheets.flatMap(({ bitmaps }) => bitmaps.map((bitmap) =>
       ({ ...comparison.place, bitmap, opacity: comparison.kind === "two" ? 1 : 0.9 })))
@@ -30,11 +31,16 @@ export function painterOf(state, pile, pictures, { board, undrawn }) {
         (drawn.top - drawn.low) / pitch);
     }
     for (const part of parts) {
-      context.globalAlpha = part.opacity;
-      place(context, frame, part);
+      context.globalAlpha = edges ? 1 : part.opacity;
+      if (edges) context.drawImage(edges.of(part, frame), 0, 0);
+      else place(context, frame, part);
     }
   };
 }
+
+// (a comparison is of pixels, and the board as it will be made is no layer)
+/** @param {Machine.State} state */
+const isOutlined = (state) => state.isOutlined && state.comparison === null && !isMadeShown(state);
 
 // The box in nm that all shown layers have pictures of, or "all"; null where a layer has none yet.
 /**
