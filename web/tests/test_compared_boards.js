@@ -76,7 +76,7 @@ suite("another revision that is dropped on compare", () => {
 
 suite("places", () => {
   // The copper is changed at one place, the holes at two, far from one another.
-  const three = () => planted([TOP, "%ADD11O,1.700000X1.700000*%", "%ADD11O,1.700000X1.900000*%"], [HOLES, HOLE, "X113.7Y-95.5"], [HOLES, "X117.9375Y-85.0\n", ""]);
+  const three = () => planted([TOP, "%ADD11O,1.700000X1.700000*%", "%ADD11O,1.700000X1.900000*%"], [HOLES, HOLE, "X113.7Y-95.5"], [HOLES, "X122.5Y-82.5\n", ""]);
 
   test("follow one another by N and Shift N over all layers, and the panel has its keys for itself", async () => {
     const browser = await withBoard();

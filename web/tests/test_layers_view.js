@@ -5,7 +5,11 @@ import { SHIFT, give, gerber, kicad, openPage, settle } from "./support.js";
 import { press } from "./hands.js";
 import { screen } from "./fingers.js";
 import { stroke, strokes } from "./keyboard.js";
+import { rest } from "./seen.js";
 import { suite, test } from "../../tools/tests/harness.js";
+import { tabs } from "./tab.js";
+
+const open = tabs();
 
 const shown = (browser) => browser.ask("camplot.state.layers.filter((layer) => layer.isShown).map(({ name }) => name)");
 const groups = async (browser) => JSON.parse(await browser.ask("JSON.stringify([...document.querySelectorAll('#layer-groups label')].map((one) => "
@@ -93,7 +97,7 @@ const coloured = (browser, from, to) => browser.ask(`(() => {
 
 suite("outline", () => {
   test("shows items by their edges, by its button and by Shift L, and is there when the page is opened again", async () => {
-    const browser = await openPage({ width: 1440, height: 900 });
+    const browser = await open();
     await give(browser, [{ name: "pads.gtl", bytes: gerber("X0Y0D03*", "D11*", "X5000000Y0D03*") }]);
     await settle(browser);
     const middle = () => coloured(browser, "4500000, -200000", "5500000, 200000"), edge = () => coloured(browser, "3950000, -450000", "4050000, 450000");
@@ -104,9 +108,9 @@ suite("outline", () => {
     assert.equal(await middle(), 0);
     const seen = await edge();
     assert.ok(seen > 0 && seen < 0.5, `${seen}`);
-    await browser.ask("camplot.idle()");
-    await browser.call("Page.reload");
-    await browser.wait("document.body && document.body.dataset.ready === 'yes' && globalThis.camplot?.state.layers.length === 1", 60);
+    await rest(browser);
+    await browser.reload();
+    await rest(browser);
     await settle(browser);
     assert.equal(await middle(), 0);
     await stroke(browser, "L", SHIFT);

@@ -37,6 +37,8 @@ export function inFolder(files, name = "rev2") {
 // A page with a board, of examples/kicad where no other is given.
 export async function withBoard(files = kicad(), sides = { width: 1440, height: 900 }) {
   const browser = await openPage(sides);
+  // (the colours that `colours` knows are those of the dark look)
+  if (await browser.ask("document.documentElement.dataset.look") === "light") await browser.key("l");
   await give(browser, files);
   await settle(browser);
   return browser;
