@@ -136,7 +136,7 @@ suite("places", () => {
     assert.deepEqual(browser.complaints(), []);
   });
 
-  test("of a move by 1 nm is framed, and shows its pixels from close by", async () => {
+  test("of a move by 1 nm is framed, where no pixel shows it", async () => {
     const browser = await withBoard();
     await dropOnCompare(browser, zipped(planted([HOLES, HOLE, "X113.500001Y-95.5"])));
     await browser.wait("document.getElementById('two-boards-place').dataset.place", 30);
