@@ -23,8 +23,9 @@ function boardOf(told, files, layers, job) {
   const accepted = told.filter(({ reply }) => reply.startsWith("ok"));
   const lines = accepted.map(({ line, file }) => (file === undefined ? { line } : { line, bytes: files[file].bytes }));
   const loads = accepted.filter(({ file }) => file !== undefined).map(({ line, file }) => {
-    const [, name, kind] = wordsOf(line), layer = layers.find((one) => one.name === name) ?? null, { name: fileName, bytes } = files[file];
-    return { name, kind: /** @type {Board.LayerKind} */ (kind), fileName, bytes: asShown(layer, layers, bytes) };
+    const [, name, kind] = wordsOf(line), layer = layers.find((one) => one.name === name) ?? null, { bytes } = files[file];
+    // (of a page that was loaded again the files have numbers for names, and the layers know from which file they came)
+    return { name, kind: /** @type {Board.LayerKind} */ (kind), fileName: layer?.file ?? files[file].name, bytes: asShown(layer, layers, bytes) };
   });
   return { lines, layers: loads, job };
 }

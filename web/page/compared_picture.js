@@ -47,7 +47,7 @@ export function sheetsOf({ pixels, window, frames }, colours) {
 
 export class ComparedPicture {
   constructor() {
-    this.canvas = element("canvas", { className: "two-boards-canvas", role: "img" });
+    this.canvas = element("canvas", { className: "two-boards-canvas", role: "img", "aria-label": "the place in both boards" });
     this.slider = element("input", { type: "range", min: 0, max: 1000, value: 500, "aria-label": "the edge between A and B" });
     /** @type {Way} */
     this.way = "both";

@@ -46,7 +46,8 @@ async function withBoard(files = BOARD, size = { width: 1440, height: 900 }) {
 const findings = (browser) => browser.ask("camplot.state.nets.findings && JSON.stringify(camplot.state.nets.findings.findings.map(({ kind, value, kept, measure }) => ({ kind, value, kept, measure })))")
   .then((words) => JSON.parse(words));
 const countsOf = (list) => list.reduce((counts, { kind }) => ({ ...counts, [kind]: (counts[kind] ?? 0) + 1 }), {});
-const again = (browser) => browser.ask("camplot.state.nets.findings.again");
+// Which rules were checked again, by name.
+const again = (browser) => browser.ask("[...camplot.state.nets.findings.again].sort()");
 const titles = (browser) => browser.ask("[...document.querySelectorAll('#nets-findings summary')].map(({ textContent }) => textContent)");
 
 async function checked(browser) {
@@ -133,6 +134,7 @@ suite("the check in the page", () => {
     // It is folded, and has who accepted it and why.
     assert.equal(await browser.ask("document.querySelector('[data-kind=accepted]').open"), false);
     await press(browser, "[data-kind=accepted] summary");
+    await browser.wait("document.querySelector('[data-kind=accepted] .finding') !== null");
     assert.match(await browser.ask("document.querySelector('[data-kind=accepted]').textContent"), /drilled by hand \(Ada Byron\)/);
     await shot(browser, "accepted");
     await press(browser, "[data-act=save]");
@@ -148,6 +150,7 @@ suite("the check in the page", () => {
     await checked(browser);
     assert.ok((await titles(browser)).includes("Accepted: 1"));
     await press(browser, "[data-kind=accepted] summary");
+    await browser.wait("document.querySelector('[data-kind=accepted] .only') !== null");
     await press(browser, "[data-kind=accepted] .only");
     await browser.wait("camplot.state.checks.accepted.length === 0");
     assert.deepEqual((await titles(browser)).slice(0, 1), ["Annular ring, less than 0.150 mm: 2"]);
@@ -170,7 +173,7 @@ suite("the check in the page", () => {
 
   test("after an edit what it touched is checked again", async () => {
     const browser = await withHouse();
-    assert.deepEqual(await again(browser), ["ring", "gap", "width", "hole-hole", "mask-web", "silk-bare"]);
+    assert.deepEqual(await again(browser), ["gap", "hole-hole", "mask-web", "ring", "silk-bare", "width"]);
     await run(browser, "delete top-silk 0");
     await browser.wait("!camplot.state.nets.isBefore && camplot.state.nets.findings.again.length < 6");
     assert.deepEqual([await again(browser), countsOf(await findings(browser))], [["silk-bare"], { ring: 2, gap: 1, width: 1 }]);
@@ -180,7 +183,7 @@ suite("the check in the page", () => {
     // An edit of copper: all but the rules of holes and of mask.
     await run(browser, "move top 4 0 1000000");
     await browser.wait("!camplot.state.nets.isBefore && camplot.state.nets.findings.again.length > 1");
-    assert.deepEqual(await again(browser), ["ring", "gap", "width", "silk-bare"]);
+    assert.deepEqual(await again(browser), ["gap", "ring", "silk-bare", "width"]);
     assert.deepEqual(browser.complaints(), []);
   });
 

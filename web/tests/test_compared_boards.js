@@ -220,7 +220,8 @@ suite("the other board", () => {
 
   test("has a file that is converted to be read, which is told, and one that is refused", async () => {
     const browser = await withBoard([{ name: "a.gtl", bytes: gerber("X25400000Y0D03*") }, { name: "b.gbl", bytes: gerber("X0Y0D03*") }]);
-    const old = "%FSLAX24Y24*%\n%MOIN*%\n%ADD10C,0.03937*%\n%ADD11R,0.07874X0.03937*%\nG01*\nD10*\nX10000Y0D03*\nM02*\n";
+    // (two commands between two %, which no layer may have, and which need no choice)
+    const old = "%FSLAX24Y24*MOIN*%\n%ADD10C,0.03937*%\nD10*\nX10000Y0D03*\nM02*\n";
     await dropOnCompare(browser, zipped([{ name: "a.gtl", bytes: Buffer.from(old) }, { name: "b.gbl", bytes: Buffer.from("%FSLAX46Y46*%\n%MOMM*%\nD99*\nM02*\n") }]));
     const { pairs } = await told(browser), [bottom, top] = ["bottom copper", "top copper"].map((title) => pairs.find((pair) => pair.title === title));
     assert.match(top.besides.join("\n"), /^B: it was converted to be read: /);
