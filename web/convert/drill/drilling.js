@@ -63,6 +63,7 @@ export class Drilling {
     return this.unit === other.unit && this.diameters.size === other.diameters.size
       && [...this.diameters].every(([number, diameter]) => other.diameters.get(number) === diameter)
       && areSame(this.itemTools, other.itemTools) && areSame(this.pointCounts, other.pointCounts)
+      && areSame(this.xs, other.xs) && areSame(this.ys, other.ys);
   }
 }
 
