@@ -179,14 +179,14 @@ suite("modules in one text", () => {
     writeFileSync(join(folder, "b.js"), 'export const ONE = "1";\n');
     assert.throws(() => inlined(join(folder, "a.js")), /does not export TWO/);
   });
-  test("comments are left out, those that give types too", () => {
+  test("comments are left out, those that give types too, and what lines are indented by", () => {
     const folder = room();
     writeFileSync(join(folder, "a.js"), "// One more.\n/**\n * @param {number} count of *all*\n */\nfunction more(count) {\n  /** @type {number} */\n"
       + "  const one = 1;\n  return count + one;\n}\nglobalThis.told = more(/** @type {number} */ (2));\n");
     const text = inlined(join(folder, "a.js"));
     new Function(text)();
     assert.equal(globalThis.told, 3);
-    assert.match(text, /^function more\(count\) \{\n {2}const one = 1;$/m);
+    assert.match(text, /^function more\(count\) \{\nconst one = 1;$/m);
     assert.doesNotMatch(text, /One more|@param/);
   });
   test("of an index only what is imported comes into the text", () => {

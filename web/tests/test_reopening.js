@@ -143,7 +143,7 @@ suite("what is done while the page still reads what it has kept", () => {
     const before = await scriptNow(tab);
     await tab.close();
     const next = await open({ context: tab.context, first: [lateLocks(1000)], isReady: false });
-    await next.wait("document.getElementById('line') && globalThis.camplot");
+    await next.wait("document.getElementById('line') !== null && globalThis.camplot !== undefined");
     assert.equal((await seen(next)).layers.length, 0);
     await typeLine(next, "move top 1 0 2000");
     await openFiles(next, onDisk({ "more.gbl": PADS }));
