@@ -119,9 +119,10 @@ suite("a second window", () => {
     assert.equal(await scriptNow(first), "load top gerber files/radio.gtl\n");
     await typeLine(second, "move top 1 9000 0");
     await first.close();
-    await pause(300);
+    // (a browser with other work lets a closed window's locks go later)
+    await pause(3000);
     await chosen(second, "radio");
-    await second.wait("camplot.told.length === 1", 20);
+    await second.wait("camplot.told.length === 1", 60);
     await rest(second);
     assert.deepEqual([await titles(second), (await seen(second)).kept], [["lamp", "radio"], ""]);
     await second.reload();
