@@ -90,9 +90,10 @@ class Sizes {
     const [kind, number, sx, sy, ex, ey] = words.split(" ", 6), entry = this.entries.get(Number(number));
     if (kind === "flash" || kind === "hit") return entry;
     if (kind === "draw") return `${entry}, ${Math.round(Math.hypot(Number(ex) - Number(sx), Number(ey) - Number(sy)))} long`;
-    const { points, segments } = /** @type {Board.Region} */ (itemOf(words));
-    if (kind === "arc") return `${entry}, radius ${Math.round(lengthOf([points[0], points[2]]))}`;
-    if (kind === "rout") return `${entry}, ${Math.round(lengthOf(points))} long`;
+    const item = itemOf(words);
+    if (item?.kind === "arc") return `${entry}, radius ${Math.round(lengthOf([item.points[0], item.points[2]]))}`;
+    if (item?.kind === "rout") return `${entry}, ${Math.round(lengthOf(item.points))} long`;
+    const { points, segments } = /** @type {Board.Region} */ (item);
     return `${sidesOf(contourBox(points[0], segments))}, ${counted(segments.length, "segment")}`;
   }
 
