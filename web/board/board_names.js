@@ -4,8 +4,8 @@
 /** @param {{ layers: { file?: string, label?: string }[] }} state */
 export function titleOf({ layers }) {
   const names = layers.flatMap(({ file, label }) => file ?? label ?? []);
-  if (!names.length) return null;
   const [first] = names;
+  if (first === undefined) return null;
   let length = first.length;
   while (length > 0 && !names.every((name) => name.startsWith(first.slice(0, length)))) length--;
   const common = first.slice(0, length).replace(/\.[^.]*$/, "").replace(/[-_. ]+$/, "");

@@ -1,5 +1,7 @@
 // Boxes with sides at whole nm, from what a station answers to `box`.
 
+import { boxOf } from "./items.js";
+
 /** @typedef {{left: number, low: number, right: number, high: number}} Box */
 
 /**
@@ -8,9 +10,8 @@
  * @returns {Box | null} null where nothing is painted
  */
 export function boxFrom(line) {
-  if (!line) return null;
-  const [left, low, right, high] = line.split(" ").map(Number);
-  return { left: Math.floor(left), low: Math.floor(low), right: Math.ceil(right), high: Math.ceil(high) };
+  const box = boxOf(line ?? "");
+  return box && { left: Math.floor(box.left), low: Math.floor(box.low), right: Math.ceil(box.right), high: Math.ceil(box.high) };
 }
 
 /**

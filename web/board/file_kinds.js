@@ -32,10 +32,11 @@ export function kindOf(bytes) {
   const head = latin1(bytes.subarray(hasByteOrderMark(bytes) ? 3 : 0, HEAD));
   const lines = head.split(/[\r\n]+/).map(stripped).filter((line) => line && !line.startsWith(";"));
   if (lines.slice(0, 3).includes("M48")) return DRILL;
-  if (lines.length && BEGIN.test(lines[0]) && hasCommand(head)) return GERBER;
+  const [first] = lines;
+  if (first !== undefined && BEGIN.test(first) && hasCommand(head)) return GERBER;
   const hasTools = lines.some((line) => TOOL.test(line));
   if (hasTools && (lines.includes("M30") || lines.some((line) => HOLE.test(line)))) return DRILL;
-  return lines.length === 1 && lines[0] === "M30" ? DRILL : null;
+  return lines.length === 1 && first === "M30" ? DRILL : null;
 }
 
 /**

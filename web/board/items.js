@@ -7,59 +7,60 @@ const isTurn = (word) => /^[rm](0|90|180|270)$/.test(word);
 // points in nm.
 /** @param {string} text @returns {Board.Item | null} */
 export function itemOf(text) {
-  const words = text.trim().split(/\s+/);
-  const [kind] = words;
-  /** @param {number} from @param {number} count */
-  const numbers = (from, count) => words.slice(from, from + count).map(Number);
-  /** @param {number[]} list */
-  const pairs = (list) => /** @type {Board.Pair[]} */ (list.reduce((points, value, at) => {
-    if (at % 2) points[points.length - 1].push(value);
-    else points.push([value]);
-    return points;
-  }, /** @type {number[][]} */ ([])));
+  const words = text.trim().split(/\s+/), [kind = ""] = words, number = Number(words[1]);
+  if (kind === "hit") return { kind, number, points: [pairAt(words, 2)] };
+  if (kind === "rout") return { kind, number, points: wayOf(words) };
+  if (kind === "region") return regionOf(words);
+  const last = LAST.get(kind) ?? words.length, how = words[last], polarity = words[last + 1];
+  if (how === undefined || polarity === undefined) return null;
   switch (kind) {
     case "flash":
-      return { kind, number: Number(words[1]), points: pairs(numbers(2, 2)), turn: words[4], polarity: words[5] };
+      return { kind, number, points: [pairAt(words, 2)], turn: how, polarity };
     case "draw":
-      return { kind, number: Number(words[1]), points: pairs(numbers(2, 4)), turn: words[6], polarity: words[7] };
+      return { kind, number, points: [pairAt(words, 2), pairAt(words, 4)], turn: how, polarity };
     case "arc":
-      return { kind, number: Number(words[1]), points: pairs(numbers(2, 6)), direction: words[8], polarity: words[9] };
-    case "hit":
-      return { kind, number: Number(words[1]), points: pairs(numbers(2, 2)) };
-    case "rout":
-      return { kind, number: Number(words[1]), points: pairs(words.slice(2).map(Number)) };
-    case "region":
-      return regionOf(words);
+      return { kind, number, points: [pairAt(words, 2), pairAt(words, 4), pairAt(words, 6)], direction: how, polarity };
     default:
       return null;
   }
 }
 
-/** @param {string[]} words @returns {Board.Region} */
+/** @param {string[]} words @param {number} at @returns {Board.Pair} */
+const pairAt = (words, at) => [Number(words[at]), Number(words[at + 1])];
+
+// The points of a rout.
+/** @param {string[]} words */
+function wayOf(words) {
+  /** @type {Board.Rout["points"]} */
+  const points = [pairAt(words, 2)];
+  for (let at = 4; at < words.length; at += 2) points.push(pairAt(words, at));
+  return points;
+}
+
+/** @param {string[]} words @returns {Board.Region | null} */
 function regionOf(words) {
+  const polarity = words[1];
+  if (polarity === undefined) return null;
   /** @type {Board.Segment[]} */
   const segments = [];
   let at = 4;
-  while (at < words.length) {
-    const kind = words[at];
-    const count = kind === "l" ? 2 : 4;
-    const [x, y, ...centre] = words.slice(at + 1, at + 1 + count).map(Number);
-    segments.push({ kind, to: [x, y], centre: kind === "l" ? null : [centre[0], centre[1]] });
-    at += 1 + count;
+  for (let kind = words[at]; kind !== undefined; kind = words[at]) {
+    const isLine = kind === "l";
+    segments.push({ kind, to: pairAt(words, at + 1), centre: isLine ? null : pairAt(words, at + 3) });
+    at += isLine ? 3 : 5;
   }
-  return { kind: "region", number: null, polarity: words[1], points: [[Number(words[2]), Number(words[3])]], segments };
+  return { kind: "region", number: null, polarity, points: [pairAt(words, 2)], segments };
 }
 
 // Where the lengths of an item end that has a turn, a direction or a polarity after them.
-/** @type {Record<string, number | undefined>} */
-const LAST = { flash: 4, hit: 4, draw: 6, arc: 8 };
+const LAST = new Map([["flash", 4], ["hit", 4], ["draw", 6], ["arc", 8]]);
 
 // The words of the same item somewhere else: all that are lengths are shifted.
 /** @param {string} text @param {number} dx @param {number} dy */
 export function shifted(text, dx, dy) {
-  const words = text.trim().split(/\s+/);
+  const words = text.trim().split(/\s+/), [kind = ""] = words;
   // The first two say what it is, and by which aperture or in which polarity.
-  const last = LAST[words[0]] ?? words.length;
+  const last = LAST.get(kind) ?? words.length;
   let isX = true;
   return words.map((word, at) => {
     if (at < 2 || at >= last || isTurn(word) || !/^[-+]?\d+$/.test(word)) return word;
@@ -91,7 +92,7 @@ export function outlineOf(item, box, entryOf) {
     return { path, width: widthOf(item.number) };
   }
   if (item?.kind === "region") {
-    let from = item.points[0];
+    let [from] = item.points;
     path.moveTo(...from);
     for (const { kind, to, centre } of item.segments) {
       if (centre) addArc(path, from, to, centre, kind === "cw");
@@ -125,14 +126,14 @@ function addArc(path, [sx, sy], [ex, ey], [cx, cy], isClockwise) {
 /** @param {string} line @returns {Board.Box | null} */
 export const boxOf = (line) => {
   if (!line) return null;
-  const [left, low, right, high] = line.split(" ").map(Number);
+  const [left = NaN, low = NaN, right = NaN, high = NaN] = line.split(" ").map(Number);
   return { left, low, right, high };
 };
 
 // The box of a window, which is a line of a script.
 /** @param {string} line @returns {Board.Box} */
 export function boxOfWindow(line) {
-  const [left, low, pitch, width, height] = line.trim().split(/\s+/).slice(1).map(Number);
+  const [left = NaN, low = NaN, pitch = NaN, width = NaN, height = NaN] = line.trim().split(/\s+/).slice(1).map(Number);
   return { left, low, right: left + width * pitch, high: low + height * pitch };
 }
 
@@ -144,10 +145,10 @@ export function entriesFrom(lines) {
   /** @type {Board.Entry[]} */
   const found = [];
   for (const line of lines) {
-    const head = /^(aperture|block|tool) (\d+)/.exec(line);
-    if (head) found.push({ number: Number(head[2]), words: head[1] === "block" ? "block" : "", width: 0, height: 0,
+    const [, kind, number] = /^(aperture|block|tool) (\d+)/.exec(line) ?? [], last = found.at(-1);
+    if (kind) found.push({ number: Number(number), words: kind === "block" ? "block" : "", width: 0, height: 0,
       shape: null, hasHole: false });
-    else if (found.length) describe(found[found.length - 1], line);
+    else if (last) describe(last, line);
   }
   return found;
 }
@@ -157,21 +158,21 @@ const NAMES = { C: "circle", R: "rectangle", O: "obround" };
 
 /** @param {Board.Entry} entry @param {string} line */
 function describe(entry, line) {
-  const template = /^%ADD\d+([CRO]),([\d.]+)(?:X([\d.]+))?(?:X([\d.]+))?\*%$/.exec(line), tool = /^T\d+C([\d.]+)$/.exec(line);
-  /** @param {string} length */
+  const [, name, width, second, third] = /^%ADD\d+([CRO]),([\d.]+)(?:X([\d.]+))?(?:X([\d.]+))?\*%$/.exec(line) ?? [];
+  const [, tool] = /^T\d+C([\d.]+)$/.exec(line) ?? [], shape = name && NAMES[name];
+  /** @param {string | undefined} length */
   const short = (length) => String(Number(length));
-  /** @param {string} length */
+  /** @param {string | undefined} length */
   const nm = (length) => Math.round(Number(length) * 1e6);
-  if (template) {
-    const [, name, width, second, third] = template;
-    entry.words = `${NAMES[name]} ${short(width)}${name === "C" ? "" : ` by ${short(second)}`} mm`;
+  if (shape) {
+    entry.words = `${shape} ${short(width)}${name === "C" ? "" : ` by ${short(second)}`} mm`;
     entry.width = nm(width);
     entry.height = name === "C" ? entry.width : nm(second);
-    entry.shape = NAMES[name];
+    entry.shape = shape;
     entry.hasHole = (name === "C" ? second : third) !== undefined;
   } else if (tool) {
-    entry.words = `${short(tool[1])} mm`;
-    entry.width = entry.height = nm(tool[1]);
+    entry.words = `${short(tool)} mm`;
+    entry.width = entry.height = nm(tool);
   } else if (line.startsWith("%ADD")) {
     entry.words = "a shape of primitives";
   }

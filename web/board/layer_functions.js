@@ -64,7 +64,7 @@ export function plain(name) {
  */
 export function inner(number) {
   const place = Math.max(1, number);
-  const colour = INNER_COLOURS[(place - 1) % INNER_COLOURS.length];
+  const colour = /** @type {string} */ (INNER_COLOURS[(place - 1) % INNER_COLOURS.length]);
   return layerFunction([`in${place}`, `inner copper ${place}`, colour, Math.max(13, 59 - place), false]);
 }
 
@@ -94,8 +94,8 @@ const DRAWINGS = ["Drillmap", "Component"];
  * @returns {string | null} as the file has it; null where it says nothing
  */
 export function fileFunction(head) {
-  const found = ATTRIBUTE.exec(latin1(head));
-  return found && utf8(latin1Bytes(found[1])).trim();
+  const [, value] = ATTRIBUTE.exec(latin1(head)) ?? [];
+  return value === undefined ? null : utf8(latin1Bytes(value)).trim();
 }
 
 /**
@@ -123,17 +123,18 @@ export function byAttribute(head) {
  * @returns {LayerFunction}
  */
 export function byFunction(value) {
-  const fields = functionFields(value), what = fields[0];
-  if (what === "Copper" && fields.length > 2 && /^L\d+$/.test(fields[1])) {
-    const side = own(SIDES, fields[2]);
-    return side ? plain(side) : inner(Number(fields[1].slice(1)) - 1);
+  const fields = functionFields(value), [what = "", next = "", last] = fields;
+  if (what === "Copper" && last !== undefined && /^L\d+$/.test(next)) {
+    const side = own(SIDES, last);
+    return side ? plain(side) : inner(Number(next.slice(1)) - 1);
   }
-  if (own(ON_A_SIDE, what)) {
-    const side = own(SIDES, fields[1]);
-    return side ? plain(`${side}-${ON_A_SIDE[what]}`) : labelled("other", functionWords(fields));
+  const onSide = own(ON_A_SIDE, what), holes = own(HOLES, what);
+  if (onSide) {
+    const side = own(SIDES, next);
+    return side ? plain(`${side}-${onSide}`) : labelled("other", functionWords(fields));
   }
   if (what === "Profile") return plain("outline");
-  if (own(HOLES, what)) return plain(HOLES[what]);
+  if (holes) return plain(holes);
   return labelled(what.endsWith("Drawing") || DRAWINGS.includes(what) ? "drawing" : "other", functionWords(fields));
 }
 

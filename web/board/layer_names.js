@@ -29,7 +29,8 @@ const SIDES = new Map(Object.entries({
 }));
 // The older words, of which "solder" is in "solder mask" too.
 const OLDER_SIDES = new Map(Object.entries({ component: "top", solder: "bottom" }));
-const WORDS = [
+/** @type {[pattern: string, name: string, onSide?: "on a side"][]} */
+const NAMED = [
   ["(drill|drl) ?map|drill ?drawing", "drawing"],
   ["n ?pth|non ?plated|un ?plated", "nonplated"],
   ["pth|plated", "plated"],
@@ -41,7 +42,8 @@ const WORDS = [
   ["(solder ?)?(mask|resist|soldermask)|stop ?mask", "mask", "on a side"],
   ["silk|silks|silk ?screen|legend|overlay|placement", "silk", "on a side"],
   ["adhes|adhesive|glue", "glue", "on a side"],
-].map(([pattern, name, onSide]) => ({ pattern: new RegExp(` (?:${pattern}) `), name, isOnSide: onSide !== undefined }));
+];
+const WORDS = NAMED.map(([pattern, name, onSide]) => ({ pattern: new RegExp(` (?:${pattern}) `), name, isOnSide: onSide !== undefined }));
 const INNER_WORD = / (?:in|inner|mid|int|internal|mid ?layer) ?(\d+) /;
 const INNER_LAYER = / (?:inner )?(?:l|layer) (\d+) /;
 
@@ -79,8 +81,8 @@ function wordsOf(stem) {
 function sideOf(words) {
   const parts = words.replace(/solder (?=mask|paste|resist)/g, "").split(" ");
   for (const names of [SIDES, OLDER_SIDES]) {
-    const found = parts.filter((word) => names.has(word));
-    if (found.length) return names.get(found[found.length - 1]) ?? null;
+    const side = names.get(parts.filter((word) => names.has(word)).at(-1) ?? "");
+    if (side) return side;
   }
   return null;
 }

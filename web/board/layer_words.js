@@ -23,7 +23,7 @@ function plainWords(field) {
  * @param {readonly string[]} fields of the attribute
  * @returns {string}
  */
-export function functionWords([first, ...more]) {
+export function functionWords([first = "", ...more]) {
   // What is nothing but another one is called by what it says next.
   const isOther = first === "Other" && more.some((field) => field), rest = more.filter((field) => field && !LAYER.test(field));
   const words = (isOther ? rest : [first, ...rest]).map(plainWords).join(", ") || "other";

@@ -12,6 +12,7 @@ const TURNS = [() => [1, 0, 0, 1, 0, 0], (width) => [0, -1, 1, 0, 0, width], (wi
  * @param {Board.Turned} turned
  */
 export function placeSeen(context, { width, height }, { quarters, isMirrored }) {
-  context.setTransform(...TURNS[quarters](width, height));
+  const turn = TURNS[quarters];
+  if (turn) context.setTransform(...turn(width, height));
   if (isMirrored) context.transform(-1, 0, 0, 1, width, 0);
 }

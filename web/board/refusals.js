@@ -12,9 +12,8 @@ import { wordsOf } from "./replies.js";
 
 /** @param {string} text */
 function firstSentence(text) {
-  const flat = text.split("\n- ")[0].split(/\s+/).filter((word) => word).join(" ");
-  const found = /^(.+?\.)(?= |$)/.exec(flat);
-  const sentence = (found ? found[1] : flat).replace(/[.:]+$/, "");
+  const [head = ""] = text.split("\n- "), flat = head.split(/\s+/).filter((word) => word).join(" ");
+  const [, first = flat] = /^(.+?\.)(?= |$)/.exec(flat) ?? [], sentence = first.replace(/[.:]+$/, "");
   return `${sentence.slice(0, 1).toUpperCase()}${sentence.slice(1)}.`;
 }
 
@@ -28,18 +27,19 @@ const ROW = /^\| (\d+) \| ([^|]+) \| ([^|]+) \|/gm;
  *   files share
  */
 export function meaningsOf(page) {
+  /** @type {Meanings} */
   const general = new Map();
   for (const paragraph of page.split("\n\n")) {
     const heads = [...paragraph.matchAll(HEAD)];
     if (!heads.length) continue;
     const rest = (paragraph.split(/\*\*\d+, [^*]+\*\*/).pop() ?? "").replace(/^[:, \n]+/, "");
     const whole = firstSentence(rest), parts = whole.split(/;\s/);
-    heads.forEach(([, number, name], at) => {
-      const part = parts.length === heads.length ? parts[at] : whole;
+    heads.forEach(([, number, name = ""], at) => {
+      const part = (parts.length === heads.length ? parts[at] : null) ?? whole;
       if (!general.has(Number(number))) general.set(Number(number), { name, sentence: firstSentence(part) });
     });
   }
-  for (const [, number, name, what] of page.matchAll(ROW)) {
+  for (const [, number, name = "", what = ""] of page.matchAll(ROW)) {
     general.set(Number(number), { name, sentence: firstSentence(what) });
   }
   return { general, drill: drillMeanings(page, general) };
@@ -47,16 +47,14 @@ export function meaningsOf(page) {
 
 /** @param {string} page @param {Meanings} general @returns {Meanings} */
 function drillMeanings(page, general) {
-  const told = new Map(), found = /^\*\*1\*\*, [^]*?\.\s([^]*?)\n\n/m.exec(page);
-  if (!found) return told;
-  for (const part of found[1].split(/\s+/).join(" ").replace(/\.+$/, "").split(/;\s/)) {
-    const sentence = /^(\d+) (also |is )?(.+)$/.exec(part);
-    if (!sentence) continue;
-    const known = general.get(Number(sentence[1]));
-    if (!known) continue;
-    const own = sentence[2] === "also " ? `${known.sentence} In a drill file also: ${sentence[3]}.`
-      : firstSentence(sentence[3]);
-    told.set(Number(sentence[1]), { name: known.name, sentence: own });
+  /** @type {Meanings} */
+  const told = new Map();
+  const [, list = ""] = /^\*\*1\*\*, [^]*?\.\s([^]*?)\n\n/m.exec(page) ?? [];
+  for (const part of list.split(/\s+/).join(" ").replace(/\.+$/, "").split(/;\s/)) {
+    const [, number, also, what] = /^(\d+) (also |is )?(.+)$/.exec(part) ?? [], known = general.get(Number(number));
+    if (!known || what === undefined) continue;
+    const sentence = also === "also " ? `${known.sentence} In a drill file also: ${what}.` : firstSentence(what);
+    told.set(Number(number), { name: known.name, sentence });
   }
   return told;
 }
@@ -82,7 +80,7 @@ export function placeOf(bytes, at) {
   // A place between CR and LF is the end of the line that they end.
   const end = at > 0 && bytes[at - 1] === 13 && bytes[at] === 10 ? at - 1 : at;
   const lines = latin1(bytes.subarray(0, end)).split(/\r\n|\r|\n/);
-  const start = end - lines[lines.length - 1].length;
+  const start = end - (lines.at(-1) ?? "").length;
   return { line: lines.length, column: [...utf8(bytes.subarray(start, end))].length + 1 };
 }
 

@@ -71,5 +71,5 @@ export function repliesOf(lines, output) {
   const replies = scriptLines(output);
   const commands = lines.map((line, at) => ({ number: at + 1, line })).filter(({ line }) => isCommand(line));
   if (replies.length !== commands.length) return null;
-  return commands.map(({ number, line }, at) => new Reply(number, line, replies[at].split(" ")));
+  return commands.map(({ number, line }, at) => new Reply(number, line, (replies[at] ?? "").split(" ")));
 }

@@ -6,12 +6,21 @@ import { itemOf } from "./items.js";
 
 /** @param {Board.Pair} from @param {Board.Pair} to @returns {Board.Side} */
 const line = (from, to) => ({ from, to });
-/** @param {Board.Pair} point */
+/** @param {Board.Pair} point @returns {Board.Sides} */
 const dot = (point) => [line(point, point)];
-/** @param {Board.Pair[]} points */
-const chain = (points) => points.length === 1 ? dot(points[0]) : points.slice(1).map((point, at) => line(points[at], point));
-/** @param {Board.Pair[]} points */
-const closed = (points) => points.map((point, at) => line(point, points[(at + 1) % points.length]));
+/** @param {[Board.Pair, ...Board.Pair[]]} points @returns {Board.Sides} */
+function chain([first, second = first, ...more]) {
+  /** @type {Board.Sides} */
+  const sides = [line(first, second)];
+  let from = second;
+  for (const to of more) {
+    sides.push(line(from, to));
+    from = to;
+  }
+  return sides;
+}
+/** @param {[Board.Pair, ...Board.Pair[]]} points */
+const closed = ([first, ...more]) => chain([first, ...more, first]);
 
 /** @param {string | undefined} turn */
 const isUpright = (turn) => /90|270/.test(turn ?? "r0");
@@ -20,11 +29,13 @@ const isUpright = (turn) => /90|270/.test(turn ?? "r0");
 /** @param {Board.Entry} entry @param {string | undefined} turn @returns {Board.Pair} */
 const sizesOf = ({ width, height }, turn) => isUpright(turn) ? [height, width] : [width, height];
 
-/** @param {Board.Pair} at @param {Board.Pair} sizes @returns {Board.Pair[]} */
-const cornersOf = ([x, y], [width, height]) => [[-1, -1], [1, -1], [1, 1], [-1, 1]]
-  .map(([across, up]) => [x + across * width / 2, y + up * height / 2]);
+/** @param {Board.Pair} at @param {Board.Pair} sizes @returns {[Board.Pair, Board.Pair, Board.Pair, Board.Pair]} */
+function cornersOf([x, y], [width, height]) {
+  const across = width / 2, up = height / 2;
+  return [[x - across, y - up], [x + across, y - up], [x + across, y + up], [x - across, y + up]];
+}
 
-/** @param {Board.FlashOrDraw} item @param {Board.Entry} entry @returns {Board.Shape} */
+/** @param {Board.Flash} item @param {Board.Entry} entry @returns {Board.Shape} */
 function flashShape({ points: [at], turn }, entry) {
   const [width, height] = sizesOf(entry, turn), radius = Math.min(width, height) / 2, [x, y] = at;
   if (entry.shape === "rectangle") return { sides: closed(cornersOf(at, [width, height])), radius: 0, isFilled: true };
@@ -33,22 +44,32 @@ function flashShape({ points: [at], turn }, entry) {
   return { sides: [line([x - across, y - up], [x + across, y + up])], radius, isFilled: false };
 }
 
+// Whether the last point of a hull is none of its corners where this one comes next.
+/** @param {Board.Pair[]} hull @param {Board.Pair} point */
+function isInner(hull, point) {
+  const before = hull.at(-2), last = hull.at(-1);
+  return before !== undefined && last !== undefined && cross(before, last, point) <= 0;
+}
+
 // Half of the hull of points that are in order: each corner is a turn to the left.
 /** @param {Board.Pair[]} points */
 function halfHull(points) {
+  /** @type {Board.Pair[]} */
   const hull = [];
   for (const point of points) {
-    while (hull.length > 1 && cross(hull[hull.length - 2], hull[hull.length - 1], point) <= 0) hull.pop();
+    while (isInner(hull, point)) hull.pop();
     hull.push(point);
   }
   return hull.slice(0, -1);
 }
 
 // A rectangle that is drawn from one point to another: the hull of both.
-/** @param {Board.FlashOrDraw} item @param {Board.Entry} entry @returns {Board.Shape} */
+/** @param {Board.Draw} item @param {Board.Entry} entry @returns {Board.Shape} */
 function drawnRectangle({ points, turn }, entry) {
   const corners = points.flatMap((point) => cornersOf(point, sizesOf(entry, turn))).sort(([ax, ay], [bx, by]) => ax - bx || ay - by);
-  return { sides: closed([...halfHull(corners), ...halfHull(corners.reverse())]), radius: 0, isFilled: true };
+  // (each half of the hull of two points and more has one of them)
+  const hull = /** @type {[Board.Pair, ...Board.Pair[]]} */ ([...halfHull(corners), ...halfHull(corners.reverse())]);
+  return { sides: closed(hull), radius: 0, isFilled: true };
 }
 
 /** @param {Board.Region} item @returns {Board.Side[]} */
@@ -62,14 +83,14 @@ export function sidesOfRegion({ points: [start], segments }) {
 }
 
 // The sides of a region, and the line that closes it where it does not end at its start.
-/** @param {Board.Region} item */
+/** @param {Board.Region} item @returns {Board.Sides} */
 function contourOf(item) {
-  const sides = sidesOfRegion(item), [start] = item.points, { to } = sides[sides.length - 1];
-  return to[0] === start[0] && to[1] === start[1] ? sides : [...sides, line(to, start)];
+  const [start] = item.points, [first = line(start, start), ...more] = sidesOfRegion(item), { to } = more.at(-1) ?? first;
+  return to[0] === start[0] && to[1] === start[1] ? [first, ...more] : [first, ...more, line(to, start)];
 }
 
-/** @param {Board.ArcItem} item @returns {Board.Side[]} */
-const arcSides = ({ points: [from, to, centre], direction }) => [{ from, to, centre, isClockwise: direction === "cw" }];
+/** @param {Board.ArcItem} item @returns {Board.Side} */
+const arcSide = ({ points: [from, to, centre], direction }) => ({ from, to, centre, isClockwise: direction === "cw" });
 
 /**
  * The shape of an item by the apertures or tools of its layer; null where it has no simple one.
@@ -91,7 +112,7 @@ export function shapeOf(words, entries) {
       : entry.shape === "circle" ? { sides: chain(item.points), radius, isFilled: false } : null;
     // (the pen's disc is at its end too, where that is not on its circle)
     case "arc": return entry.shape !== "circle" ? null
-      : { sides: [...arcSides(item), ...dot(item.points[1])], radius, isFilled: false };
+      : { sides: [arcSide(item), ...dot(item.points[1])], radius, isFilled: false };
     default: return null;
   }
 }
@@ -154,6 +175,6 @@ export function pointsOf(words, entries) {
  * @param {Board.Pair} point
  */
 export function edgeOf({ sides, radius }, point) {
-  const [nearest] = sides.map((side) => nearestOn(side, point)).sort((one, other) => far(one, point) - far(other, point));
+  const nearest = sides.map((side) => nearestOn(side, point)).reduce((one, other) => far(other, point) < far(one, point) ? other : one);
   return radius === 0 ? nearest : far(nearest, point) === 0 ? null : towards(nearest, point, radius);
 }

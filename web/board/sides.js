@@ -166,13 +166,13 @@ function arcCrossingsRight(side, [x, y]) {
   const { centre: [cx, cy], from, to } = side, radius = radiusOf(side);
   const ends = /** @type {Board.Pair[]} */ ([[cx, cy + radius], [cx, cy - radius]]);
   const tops = ends.filter((point) => isSwept(side, point) && !isSame(point, from) && !isSame(point, to));
-  const points = [from, ...tops.sort((one, other) => along(side, one) - along(side, other)), to];
-  let count = 0;
-  for (let at = 1; at < points.length; at++) {
-    const [a, b] = [points[at - 1], points[at]];
-    if (a[1] > y === b[1] > y) continue;
+  let count = 0, end = from;
+  for (const point of [...tops.sort((one, other) => along(side, one) - along(side, other)), to]) {
+    const start = end;
+    end = point;
+    if (start[1] > y === end[1] > y) continue;
     // On the left or the right half of the circle, as the middle of this part is.
-    const middle = middleOf({ ...side, from: a, to: b }), half = Math.sqrt(Math.max(0, radius * radius - (y - cy) ** 2));
+    const middle = middleOf({ ...side, from: start, to: end }), half = Math.sqrt(Math.max(0, radius * radius - (y - cy) ** 2));
     if (cx + (middle[0] >= cx ? half : -half) > x) count++;
   }
   return count;

@@ -45,11 +45,12 @@ export function middleFor({ left, low, right, high }, turn) {
 }
 
 // Where a turn about a middle, that `middleFor` gave, takes a point.
-/** @param {string} turn @param {Board.Point} middle */
+/** @param {string} turn @param {Board.Point} middle @returns {(point: Board.Pair) => Board.Pair} */
 function about(turn, { x, y }) {
-  const map = MAPS[turn], [atX, atY] = map([x, y]);
-  const dx = (x - atX) / 2, dy = (y - atY) / 2;
-  return (/** @type {Board.Pair} */ point) => {
+  const map = MAPS[turn];
+  if (!map) throw new RangeError(`${turn} is no turn`);
+  const [atX, atY] = map([x, y]), dx = (x - atX) / 2, dy = (y - atY) / 2;
+  return (point) => {
     const [toX, toY] = map(point);
     return [toX + dx, toY + dy];
   };

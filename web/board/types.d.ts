@@ -18,17 +18,21 @@ declare namespace Board {
 
   /** A side of a region: a line, or an arc about a centre. */
   interface Segment { kind: string; to: Pair; centre: Pair | null }
-  interface FlashOrDraw { kind: "flash" | "draw"; number: number; points: Pair[]; turn: string; polarity: string }
-  interface ArcItem { kind: "arc"; number: number; points: Pair[]; direction: string; polarity: string }
-  interface HitOrRout { kind: "hit" | "rout"; number: number; points: Pair[] }
+  interface Flash { kind: "flash"; number: number; points: [at: Pair]; turn: string; polarity: string }
+  interface Draw { kind: "draw"; number: number; points: [from: Pair, to: Pair]; turn: string; polarity: string }
+  type FlashOrDraw = Flash | Draw;
+  interface ArcItem { kind: "arc"; number: number; points: [from: Pair, to: Pair, centre: Pair]; direction: string; polarity: string }
+  interface Hit { kind: "hit"; number: number; points: [at: Pair] }
+  interface Rout { kind: "rout"; number: number; points: [start: Pair, ...more: Pair[]] }
   /** A region has no number of an aperture, and it alone has segments. */
-  interface Region { kind: "region"; number: null; points: Pair[]; polarity: string; segments: Segment[] }
-  type Item = FlashOrDraw | ArcItem | HitOrRout | Region;
+  interface Region { kind: "region"; number: null; points: [start: Pair]; polarity: string; segments: Segment[] }
+  type Item = FlashOrDraw | ArcItem | Hit | Rout | Region;
   /** A line, or where it has a centre an arc. */
   interface Side { from: Pair; to: Pair; centre?: Pair; isClockwise?: boolean }
   interface Arc extends Side { centre: Pair }
+  type Sides = [Side, ...Side[]];
   /** Sides that a round pen follows; `isFilled` where what they enclose belongs to it. */
-  interface Shape { sides: Side[]; radius: number; isFilled: boolean }
+  interface Shape { sides: Sides; radius: number; isFilled: boolean }
   /** How far two are from one another, and by which points; `pitch` where that is by pixels. */
   interface Gap { distance: number; from: Pair; to: Pair; pitch?: number }
   /** An aperture, block or tool; `shape` is a name where it is simple, and a width of 0 is one that is not known. */

@@ -8,16 +8,19 @@ const LIGHTEST = 0.55, DARKENED = 0.28;
 
 // The units that the page shows: the nm of one, the digits behind the point at least and at most, and the name in a choice. With
 // the most digits no two nm are the same text.
-/** @type {Record<string, { nm: number, least: number, most: number, label: string }>} */
+/** @typedef {{ nm: number, least: number, most: number, label: string }} Unit */
+/** @type {Unit} */
+const MM = { nm: NM_PER_MM, least: 3, most: 6, label: "mm" };
+/** @type {Record<string, Unit>} */
 export const UNITS = {
-  mm: { nm: NM_PER_MM, least: 3, most: 6, label: "mm" },
+  mm: MM,
   in: { nm: 25.4e6, least: 4, most: 8, label: "inch" },
   mil: { nm: 25400, least: 1, most: 5, label: "mil" },
 };
 
 // Of a unit that is none, which a browser may have kept, mm.
 /** @param {string} unit */
-const unitOf = (unit) => UNITS[unit] ?? UNITS.mm;
+const unitOf = (unit) => Object.hasOwn(UNITS, unit) && UNITS[unit] || MM;
 
 // A length in a unit with its digits as far as they say something.
 /** @param {number} nm @param {string} unit */
@@ -50,15 +53,15 @@ export function wordsIn(words, unit) {
 }
 
 /** @type {Record<string, number>} */
-const TYPED = { mm: 1e6, nm: 1, um: 1e3, "µm": 1e3, in: 25.4e6, inch: 25.4e6, mil: 25400 };
+const TYPED = { mm: 1e6, nm: 1, um: 1e3, "µm": 1e3, "μm": 1e3, in: 25.4e6, inch: 25.4e6, mil: 25400 };
 
 // What a person typed as a length in whole nm: of the unit, or with its own; null where it is none.
 /** @param {string} text @param {string} unit @returns {number | null} */
 export function lengthIn(text, unit) {
-  const found = /^\s*([-+]?\d*(?:[.,]\d*)?)\s*(mm|nm|um|µm|in|inch|mil|)\s*$/i.exec(text);
-  if (!found || !/\d/.test(found[1])) return null;
-  const one = found[2] ? TYPED[found[2].toLowerCase()] : unitOf(unit).nm;
-  const value = Math.round(Number(found[1].replace(",", ".")) * one);
+  const [, number = "", given] = /^\s*([-+]?\d*(?:[.,]\d*)?)\s*(mm|nm|um|µm|in|inch|mil|)\s*$/i.exec(text) ?? [];
+  const one = given ? TYPED[given.toLowerCase()] : unitOf(unit).nm;
+  if (one === undefined || !/\d/.test(number)) return null;
+  const value = Math.round(Number(number.replace(",", ".")) * one);
   return Math.abs(value) <= 4e9 ? value : null;
 }
 
@@ -80,10 +83,11 @@ export function pointIn(text, unit) {
 // A colour as it is seen on the board of the look: on a light one what is nearly white is darkened.
 /** @param {string} colour @param {boolean} isLight */
 export function seen(colour, isLight) {
-  const parts = [1, 3, 5].map((at) => parseInt(colour.slice(at, at + 2), 16));
-  const luminance = (0.2126 * parts[0] + 0.7152 * parts[1] + 0.0722 * parts[2]) / 255;
+  /** @param {number} at */
+  const part = (at) => parseInt(colour.slice(at, at + 2), 16);
+  const red = part(1), green = part(3), blue = part(5), luminance = (0.2126 * red + 0.7152 * green + 0.0722 * blue) / 255;
   if (!isLight || luminance <= LIGHTEST) return colour;
-  return `#${parts.map((part) => Math.round(part * DARKENED / luminance).toString(16).padStart(2, "0")).join("")}`;
+  return `#${[red, green, blue].map((value) => Math.round(value * DARKENED / luminance).toString(16).padStart(2, "0")).join("")}`;
 }
 
 /** @param {string} text */

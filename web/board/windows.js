@@ -48,6 +48,7 @@ export function pitchOf(dpi) {
  * @param {number} low
  * @param {number} high
  * @param {number} pitch
+ * @returns {[first: number, count: number]}
  */
 function span(low, high, pitch) {
   const limit = Math.floor(BOARD / pitch);

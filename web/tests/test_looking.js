@@ -40,6 +40,13 @@ suite("units", () => {
     assert.deepEqual(["mm", "in", "mil"].map((unit) => areaText(645.16, unit)), ["645.160 mm²", "1.000000 in²", "1000000.0 mil²"]);
   });
 
+  test("a unit that is none counts as mm, whatever its name, and a micrometre has either letter", () => {
+    for (const unit of ["furlong", "constructor", "toString", "__proto__"]) {
+      assert.deepEqual([lengthText(12700000, unit), lengthIn("12.7", unit)], ["12.700", 12700000], unit);
+    }
+    assert.deepEqual(["1 \u00b5m", "1 \u03bcm", "1 \u039cM"].map((typed) => lengthIn(typed, "in")), [1000, 1000, 1000]);
+  });
+
   test("points", () => {
     assert.deepEqual(["1, 2", "1 2", "1;2", " 12.7mm,20mil ", "1, 2 mm", "-.5in 1.", "7 -8 nm"].map((typed) => pointIn(typed, "in")),
       [[25400000, 50800000], [25400000, 50800000], [25400000, 50800000], [12700000, 508000], [1000000, 2000000],
