@@ -13,7 +13,7 @@ const crcs = new Uint32Array(256).map((_, byte) => {
 /** @param {Uint8Array[]} parts */
 export function crc32(...parts) {
   let value = 0xffffffff;
-  for (const part of parts) for (const byte of part) value = value >>> 8 ^ crcs[(value ^ byte) & 255];
+  for (const part of parts) for (const byte of part) value = value >>> 8 ^ /** @type {number} */ (crcs[(value ^ byte) & 255]);
   return ~value >>> 0;
 }
 
@@ -91,12 +91,13 @@ export function inkPngOf(pbm, pitch, colour) {
  * @param {Uint8Array[]} palette
  */
 async function pngWith(pbm, pitch, kind, white, palette) {
-  const head = /** @type {RegExpExecArray} */ (/^P4\s(\d+)\s(\d+)\s/.exec(String.fromCharCode(...pbm.subarray(0, 40))));
-  const width = Number(head[1]), height = Number(head[2]), stride = width + 7 >> 3;
+  const [head, across, down] = /^P4\s(\d+)\s(\d+)\s/.exec(String.fromCharCode(...pbm.subarray(0, 40))) ?? [];
+  if (head === undefined) throw new Error("the picture is no raw PBM file");
+  const width = Number(across), height = Number(down), stride = width + 7 >> 3;
   const lines = new Uint8Array((stride + 1) * height);
-  for (let row = 0, from = head[0].length; row < height; row++) {
+  for (let row = 0, from = head.length; row < height; row++) {
     const to = row * (stride + 1) + 1;
-    for (let byte = 0; byte < stride; byte++) lines[to + byte] = pbm[from++] ^ white;
+    for (let byte = 0; byte < stride; byte++) lines[to + byte] = /** @type {number} */ (pbm[from++]) ^ white;
   }
   const metre = Math.min(0xffffffff, Math.round(1e9 / pitch));
   return [new Uint8Array([0x89, 80, 78, 71, 13, 10, 26, 10]),

@@ -57,32 +57,41 @@ function endOf(view) {
   return fail("it has no end, so it is not whole");
 }
 
+// Numbers of two and of four bytes, so many bytes behind a place.
+/** @param {DataView} view @param {number} at */
+const numbersAt = (view, at) => ({
+  /** @param {number} place */
+  two: (place) => view.getUint16(at + place, true),
+  /** @param {number} place */
+  four: (place) => view.getUint32(at + place, true),
+});
+
 /** @typedef {ReturnType<typeof listedAt>} Listed a file as the list has it */
 
 /** @param {DataView} view @param {Uint8Array} bytes @param {number} at */
 function listedAt(view, bytes, at) {
-  const [flags, method] = [8, 10].map((place) => view.getUint16(at + place, true));
-  const [crc, packed, size, local] = [16, 20, 24, 42].map((place) => view.getUint32(at + place, true));
-  const [length, extra, comment] = [28, 30, 32].map((place) => view.getUint16(at + place, true));
+  const { two, four } = numbersAt(view, at), flags = two(8), length = two(28);
   const raw = bytes.subarray(at + LISTED_SIZE, at + LISTED_SIZE + length);
-  return { flags, method, crc, packed, size, local, raw, name: nameOf(raw, flags), next: at + LISTED_SIZE + length + extra + comment };
+  return { flags, method: two(10), crc: four(16), packed: four(20), size: four(24), local: four(42), raw, name: nameOf(raw, flags),
+    next: at + LISTED_SIZE + length + two(30) + two(32) };
 }
 
 // The files that the archive lists, in its order.
 /** @param {Uint8Array} bytes @param {DataView} view */
 function listedIn(bytes, view) {
-  const end = endOf(view), [disk, first, here, all] = [4, 6, 8, 10].map((place) => view.getUint16(end + place, true));
-  const [size, start] = [12, 16].map((place) => view.getUint32(end + place, true));
+  const end = endOf(view), { two, four } = numbersAt(view, end), all = two(10), size = four(12), start = four(16);
   const isWide = end >= WIDE_SIZE && view.getUint32(end - WIDE_SIZE, true) === WIDE;
   if (isWide || all === 0xffff || size === 0xffffffff || start === 0xffffffff) fail("it is a ZIP64 file, which is not read");
-  if (disk || first || here !== all) fail("it is a part of several, which are not read");
+  if (two(4) || two(6) || two(8) !== all) fail("it is a part of several, which are not read");
   if (all > MOST_FILES) fail(`it holds ${count(all)} files, and ${count(MOST_FILES)} are read at most`);
   /** @type {Listed[]} */
   const listed = [];
-  for (let at = start; listed.length < all; at = listed[listed.length - 1].next) {
+  for (let at = start; listed.length < all;) {
     if (at + LISTED_SIZE > Math.min(start + size, end) || view.getUint32(at, true) !== LISTED) fail("its list of files is broken");
-    listed.push(listedAt(view, bytes, at));
-    if (listed[listed.length - 1].next > end) fail("its list of files is broken");
+    const entry = listedAt(view, bytes, at);
+    listed.push(entry);
+    at = entry.next;
+    if (at > end) fail("its list of files is broken");
   }
   const unpacked = listed.reduce((sum, entry) => sum + entry.size, 0), packed = listed.reduce((sum, entry) => sum + entry.packed, 0);
   if (unpacked > MOST_BYTES) fail(`its files have ${count(unpacked)} bytes unpacked, and ${count(MOST_BYTES)} are read at most`);
@@ -172,7 +181,7 @@ export async function filesOfArchive(bytes, archive) {
     }
     if (!files.length && !faults.length) faults.push(`${archive} holds no files.`);
   } catch (fault) {
-    faults.push(`${archive} is not read: ${fault.message}.`);
+    faults.push(`${archive} is not read: ${fault instanceof Error ? fault.message : fault}.`);
   }
   return { files, faults };
 }
