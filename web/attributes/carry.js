@@ -51,12 +51,13 @@ class Timeline {
 }
 
 // Each edit of items, by its first word, as a change of the list.
-/** @type {Record<string, (list: List<Said>, places: number[]) => List<Said>>} */
-const EDITS = {
-  insert: (list, [place]) => list.inserted(place, NOTHING),
-  delete: (list, [place]) => list.deleted(place),
-  reorder: (list, [from, to]) => list.moved(from, to),
-};
+/** @typedef {(list: List<Said>, place: number, to: number) => List<Said>} Change */
+/** @type {Map<string, Change>} */
+const EDITS = new Map([
+  ["insert", (list, place) => list.inserted(place, NOTHING)],
+  ["delete", (list, place) => list.deleted(place)],
+  ["reorder", (list, place, to) => list.moved(place, to)],
+]);
 // Edits that leave each item in its place.
 const OTHERS = new Set(["move", "aperture", "polarity", "tool", "diameter", "setattr", "dropattr"]);
 
@@ -70,18 +71,18 @@ export function begun(depth) {
 }
 
 /** @param {Timeline} state @param {string[]} words */
-function edited(state, [verb, name, ...rest]) {
+function edited(state, [verb = "", name = "", ...rest]) {
   if (!state.board.has(name)) throw new NotCarried(`there is no layer ${name}`);
-  const change = Object.hasOwn(EDITS, verb) && EDITS[verb], list = state.board.get(name);
+  const change = EDITS.get(verb), list = state.board.get(name);
   const board = change && list ? new Map(state.board).set(name, changed(change, list, rest)) : state.board;
   if (state.group) return state.with({ board, future: [], hasEdits: true });
   return state.with({ board, past: [...state.past, state.board].slice(-state.depth), future: [] });
 }
 
-/** @param {(list: List<Said>, places: number[]) => List<Said>} change @param {List<Said>} list @param {string[]} words */
-function changed(change, list, words) {
+/** @param {Change} change @param {List<Said>} list @param {string[]} words */
+function changed(change, list, [place, to]) {
   try {
-    return change(list, words.slice(0, 2).map(Number));
+    return change(list, Number(place), Number(to));
   } catch (fault) {
     throw fault instanceof RangeError ? new NotCarried(fault.message) : fault;
   }
@@ -100,17 +101,17 @@ function ended(state) {
   return state.with({ past, group: null, hasEdits: false });
 }
 
-/** @type {Record<string, (state: Timeline) => Timeline>} */
-const GROUPS = {
-  begin: (state) => state.with({ group: state.board, hasEdits: false }),
-  end: ended,
-  abort: (state) => state.with({ board: state.group ?? state.board, group: null, hasEdits: false }),
-};
+/** @type {Map<string, (state: Timeline) => Timeline>} */
+const GROUPS = new Map([
+  ["begin", (state) => state.with({ group: state.board, hasEdits: false })],
+  ["end", ended],
+  ["abort", (state) => state.with({ board: state.group ?? state.board, group: null, hasEdits: false })],
+]);
 
 /** @param {Timeline} state @param {"past" | "future"} from @param {"past" | "future"} to @param {string} what */
 function stepped(state, from, to, what) {
   if (state.group) throw new NotCarried("a group is open");
-  const board = state[from][state[from].length - 1];
+  const board = state[from].at(-1);
   if (!board) throw new NotCarried(`nothing to ${what}`);
   return state.with({ board, [from]: state[from].slice(0, -1), [to]: [...state[to], state.board] });
 }
@@ -125,15 +126,15 @@ function stepped(state, from, to, what) {
  * @throws {NotCarried} where no station of this state accepts it
  */
 export function carried(state, line, said = null) {
-  const words = line.trim().split(/[ \t\r]+/), [verb] = words;
-  if (EDITS[verb] || OTHERS.has(verb)) return edited(state, words);
-  if (verb === "load") return loaded(state, words[1], said);
+  const words = line.trim().split(/[ \t\r]+/), [verb = "", name = ""] = words, grouped = GROUPS.get(verb);
+  if (EDITS.has(verb) || OTHERS.has(verb)) return edited(state, words);
+  if (verb === "load") return loaded(state, name, said);
   if (verb === "undo") return stepped(state, "past", "future", "undo");
   if (verb === "redo") return stepped(state, "future", "past", "redo");
-  if (GROUPS[verb]) {
+  if (grouped) {
     const isOpen = state.group !== null;
     if (isOpen === (verb === "begin")) throw new NotCarried(`a group is ${isOpen ? "" : "not "}open`);
-    return GROUPS[verb](state);
+    return grouped(state);
   }
   return state;
 }

@@ -39,8 +39,8 @@ export function packed(text) {
  */
 export function commentOf(word) {
   if (word.charCodeAt(0) !== G) return null;
-  const found = COMMENT.exec(word);
-  return found && found[1];
+  const [, comment = null] = COMMENT.exec(word) ?? [];
+  return comment;
 }
 
 /**
@@ -50,8 +50,8 @@ export function commentOf(word) {
  * @returns {{name: string, text: string} | null}
  */
 export function standardComment(comment) {
-  const found = STANDARD.exec(comment);
-  return found && { name: found[1], text: found[2].replace(PERCENT_SIGN, "\\u0025") };
+  const [, name, text] = STANDARD.exec(comment) ?? [];
+  return name === undefined || text === undefined ? null : { name, text: text.replace(PERCENT_SIGN, "\\u0025") };
 }
 
 /** Goes from command to command. */
@@ -88,11 +88,10 @@ export class Commands {
 
   /** The two letters of an extended command, and what stands behind them up to its last `*`. */
   extended() {
-    const found = EXTENDED.exec(this.text);
-    if (!found) throw this.fault("no extended command");
-    const name = found[1] + found[2];
-    if (name !== "AM" && found[3].includes("*")) throw this.fault("several commands between two %");
-    return { name, text: found[3] };
+    const [, first = "", second = "", text] = EXTENDED.exec(this.text) ?? [], name = first + second;
+    if (text === undefined) throw this.fault("no extended command");
+    if (name !== "AM" && text.includes("*")) throw this.fault("several commands between two %");
+    return { name, text };
   }
 
   /** @param {string} why */

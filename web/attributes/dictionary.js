@@ -41,10 +41,8 @@ export class Dictionary {
     const whole = command + inOneLine(text);
     let attribute = this.known.get(whole);
     if (!attribute) this.known.set(whole, attribute = new Attribute(whole));
-    let at = 0;
-    while (at < this.held.length && this.held[at].name < attribute.name) at++;
-    const isThere = at < this.held.length && this.held[at].name === attribute.name;
-    this.held.splice(at, isThere ? 1 : 0, attribute);
+    const { name } = attribute, found = this.held.findIndex((held) => held.name >= name), at = found < 0 ? this.held.length : found;
+    this.held.splice(at, this.held[at]?.name === name ? 1 : 0, attribute);
     this.forget();
   }
 
@@ -53,7 +51,7 @@ export class Dictionary {
    * @param {string} text what stands behind it
    */
   drop(text) {
-    const name = inOneLine(text).split(",")[0];
+    const [name = ""] = inOneLine(text).split(",");
     this.held = name === "" ? [] : this.held.filter((attribute) => attribute.name !== name);
     this.forget();
   }

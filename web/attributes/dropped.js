@@ -73,8 +73,8 @@ function droppedOf({ items, apertures, blocks, others }) {
 function droppedOfDrill(bytes) {
   const counts = new Counts();
   for (const line of latin1(bytes).split(/\r\n|\r|\n/)) {
-    const found = STANDARD.exec(line);
-    if (found) counts.add(/** @type {"TA" | "TF" | "TO"} */ (found[1]), found[1] === "TF" ? "" : found[2].trim());
+    const [, command, name = ""] = STANDARD.exec(line) ?? [];
+    if (command) counts.add(/** @type {"TA" | "TF" | "TO"} */ (command), command === "TF" ? "" : name.trim());
     else if (COMMENT.test(line)) counts.add("comment");
     if (/^[ \t]*M30/.test(line)) break;
   }

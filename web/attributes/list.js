@@ -38,13 +38,18 @@ export class List {
   }
 
   /**
-   * The part that holds a place, and the place in it; of the end the last part.
+   * The part that holds a place, its values, and the place in it; of the end the last part, and of an empty list none.
    * @param {number} place
+   * @returns {{part: number, rest: number, values: readonly T[]}}
    */
   find(place) {
     let part = 0, rest = place;
-    while (part + 1 < this.parts.length && rest >= this.parts[part].length) rest -= this.parts[part++].length;
-    return { part, rest };
+    for (const values of this.parts) {
+      if (rest < values.length || part + 1 === this.parts.length) return { part, rest, values };
+      rest -= values.length;
+      part++;
+    }
+    return { part, rest, values: [] };
   }
 
   /** @param {number} place @param {number} length */
@@ -55,8 +60,8 @@ export class List {
   /** @param {number} place */
   at(place) {
     this.check(place, this.length);
-    const { part, rest } = this.find(place);
-    return this.parts[part][rest];
+    const { rest, values } = this.find(place);
+    return /** @type {T} */ (values[rest]);
   }
 
   /**
@@ -80,10 +85,9 @@ export class List {
    */
   inserted(place, value) {
     this.check(place, this.length + 1);
-    if (this.length === 0) return List.of([value]);
-    const { part, rest } = this.find(place), values = this.parts[part].slice();
-    values.splice(rest, 0, value);
-    return this.changed(part, values, this.length + 1);
+    const { part, rest, values } = this.find(place), more = values.slice();
+    more.splice(rest, 0, value);
+    return this.changed(part, more, this.length + 1);
   }
 
   /**
@@ -93,9 +97,9 @@ export class List {
    */
   deleted(place) {
     this.check(place, this.length);
-    const { part, rest } = this.find(place), values = this.parts[part].slice();
-    values.splice(rest, 1);
-    return this.changed(part, values, this.length - 1);
+    const { part, rest, values } = this.find(place), fewer = values.slice();
+    fewer.splice(rest, 1);
+    return this.changed(part, fewer, this.length - 1);
   }
 
   /**

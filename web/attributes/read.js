@@ -83,7 +83,8 @@ class Reader {
     this.repeat = null;
     // What was said last.
     this.last = NOTHING;
-    this.mode = 1;
+    // What an operation plots.
+    this.kind = "draw";
     /** @type {number | null} */
     this.aperture = null;
     /** @type {{aperture: number | null, heads: Record<string, string>}} those of the items of an aperture, by their kinds */
@@ -170,8 +171,7 @@ class Reader {
   }
 
   get home() {
-    if (this.open.length > 0) return this.open[this.open.length - 1].home;
-    return this.repeat ?? this.layer;
+    return this.open.at(-1)?.home ?? this.repeat ?? this.layer;
   }
 
   /** @param {string} head @param {Attributes} attributes */
@@ -214,8 +214,9 @@ class Reader {
 
   /** @param {number} code */
   function(code) {
-    if (KINDS[code]) {
-      this.mode = code;
+    const kind = KINDS[code];
+    if (kind) {
+      this.kind = kind;
     } else if (code === 36) {
       this.isInRegion = true;
     } else if (code === 37) {
@@ -235,7 +236,7 @@ class Reader {
     this.operation = code ?? PLOT;
     if (this.isInRegion) this.trace();
     else if (this.operation === FLASH) this.keep(this.headOf("flash"), this.dictionary.objects);
-    else if (this.operation === PLOT) this.keep(this.headOf(KINDS[this.mode]), this.dictionary.objects);
+    else if (this.operation === PLOT) this.keep(this.headOf(this.kind), this.dictionary.objects);
   }
 
   /**

@@ -21,7 +21,7 @@ const LAST_CODE_POINT = 0x10ffff;
 export class Attribute {
   /** @param {string} text in one line */
   constructor(text) {
-    const [head, ...fields] = text.split(",");
+    const [head = "", ...fields] = text.split(",");
     this.text = text;
     this.command = /** @type {"TA" | "TO"} */ (head.slice(0, OBJECT.length));
     this.name = head.slice(OBJECT.length);

@@ -15,7 +15,7 @@
 
 import { latin1, latin1Bytes } from "../bytes/index.js";
 import { Commands, packed } from "./commands.js";
-import { readAttributes } from "./read.js";
+import { NOTHING, readAttributes } from "./read.js";
 import { OBJECT } from "./text.js";
 
 /** @typedef {import("./text.js").Attribute} Attribute */
@@ -94,9 +94,9 @@ class Writer {
 
   // What is said of the next object here.
   next() {
-    const { value, done } = this.homes[this.homes.length - 1].next();
-    if (done) throw this.commands.fault("more objects than something is said of");
-    return value;
+    const said = this.homes.at(-1)?.next();
+    if (!said || said.done) throw this.commands.fault("more objects than something is said of");
+    return said.value;
   }
 
   close() {
@@ -174,8 +174,9 @@ function checkObjects(read, wanted, what) {
   const ours = [...wanted];
   if (read.length !== ours.length) throw new NotTheSame(`${what}: ${read.length} in place of ${ours.length}`);
   read.forEach((said, at) => {
-    checkSame(said.attributes, ours[at].attributes, `${what} ${at}`);
-    checkObjects(said.objects, ours[at].objects, `${what} ${at}, object`);
+    const { attributes, objects } = ours[at] ?? NOTHING;
+    checkSame(said.attributes, attributes, `${what} ${at}`);
+    checkObjects(said.objects, objects, `${what} ${at}, object`);
   });
 }
 

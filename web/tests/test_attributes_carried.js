@@ -186,7 +186,8 @@ suite("lines that fit no state", () => {
   });
 
   test("and others change nothing", () => {
-    for (const line of ["", "# delete a 0", "list a", "window 0 0 1000 10 10", "redraw 5", "plot a a.pbm", "write a a.gbr"]) {
+    for (const line of ["", "# delete a 0", "list a", "window 0 0 1000 10 10", "redraw 5", "plot a a.pbm", "write a a.gbr",
+      "constructor a 0", "toString", "__proto__ b"]) {
       assert.equal(carried(state, line), state);
     }
   });
