@@ -6,11 +6,12 @@
 //     textOf(about)                  the same, a line each
 
 import { byFunction } from "../board/index.js";
-import { counted, lengthText, placeText, sidesText, sizeText } from "./measures.js";
+import { boxText, counted, lengthText, sidesText, sizeText } from "./measures.js";
 import { counts, datesWords, drillComments, makerOf } from "./makers.js";
 import { holesOf } from "./holes.js";
 import { missingFiles, readJob } from "./job.js";
 import { outlineBox } from "./outline_box.js";
+import { sidesOf } from "./paths.js";
 
 /** @typedef {import("./layers.js").ToldLayer} ToldLayer */
 /** @typedef {import("./measures.js").Unit} Unit */
@@ -25,18 +26,17 @@ function sideRows(layers, unit) {
   const { outlines, box } = outlineBox(layers);
   if (!outlines.length) return [["sides", "not known: no layer is the outline"]];
   if (!box) return [["sides", "not known: the outline has no line"]];
-  const { isExact } = box, [width, height] = [box.right - box.left, box.high - box.low].map((nm) => ({ nm, isExact }));
-  const [low, high] = [[box.left, box.low], [box.right, box.high]].map(([x, y]) => placeText([Math.round(x), Math.round(y)], unit));
+  const { width, height } = sidesOf(box);
   return [["sides", `${sidesText(width, height, unit)}, along the middle of the outline's lines`],
-    ["outline", `${outlines.map(({ label }) => label).join(", ")}, from ${low} to ${high} ${unit}`]];
+    ["outline", `${outlines.map(({ label }) => label).join(", ")}, ${boxText(box, unit)} ${unit}`]];
 }
 
 // The number of a copper layer from the top: as its file has it, else by what it shows.
 /** @param {ToldLayer} layer @param {number} last @returns {number} */
 function copperNumber({ functionFields, shows }, last) {
-  const [what, number] = functionFields, inner = /^in(\d+)$/.exec(shows);
-  if (what === "Copper" && /^L\d+$/.test(number ?? "")) return Number(number.slice(1));
-  return shows === "top" ? 1 : inner ? Number(inner[1]) + 1 : last;
+  const [what, number = ""] = functionFields, [, inner] = /^in(\d+)$/.exec(shows) ?? [];
+  if (what === "Copper" && /^L\d+$/.test(number)) return Number(number.slice(1));
+  return shows === "top" ? 1 : inner ? Number(inner) + 1 : last;
 }
 
 // How many copper layers files name: copper by its number, holes by the last layer that they reach.
@@ -50,13 +50,12 @@ function namedCopper(layers) {
 }
 
 // What job files of KiCad call the functions that files have by other names.
-/** @type {Record<string, string>} */
-const FUNCTIONS = { SolderMask: "Soldermask", SolderPaste: "Paste" };
+const FUNCTIONS = new Map([["SolderMask", "Soldermask"], ["SolderPaste", "Paste"]]);
 
 // A file that is missing, with what it shows.
 /** @param {Job["files"][number]} file @returns {[string, string]} */
 function missingRow({ path, shows }) {
-  const value = shows?.replace(/^\w+/, (word) => FUNCTIONS[word] ?? word);
+  const value = shows?.replace(/^\w+/, (word) => FUNCTIONS.get(word) ?? word);
   return ["missing file", value ? `${path} (${byFunction(value).label})` : path];
 }
 
@@ -93,9 +92,8 @@ function holeRows(holes, unit) {
   /** @type {Row[]} */
   const rows = [["holes", sum("holes").toLocaleString("en")]];
   if (sum("slots")) rows.push(["slots", sum("slots").toLocaleString("en")]);
-  if (drilled.length) {
-    rows.push(["smallest hole", sizeOf(drilled[0], unit)], ["largest hole", sizeOf(drilled[drilled.length - 1], unit)]);
-  }
+  const [smallest] = drilled, largest = drilled.at(-1);
+  if (smallest && largest) rows.push(["smallest hole", sizeOf(smallest, unit)], ["largest hole", sizeOf(largest, unit)]);
   for (const row of holes) {
     const count = [row.holes ? counted(row.holes, "hole") : "", row.slots ? counted(row.slots, "slot") : ""].filter((part) => part).join(" and ");
     rows.push([sizeOf(row, unit), row.functions.length ? `${count}: ${row.functions.join("; ")}` : count]);
@@ -112,7 +110,7 @@ function makerRows(layers) {
   }));
   /** @type {Row[]} */
   const rows = projects.map(({ text }) => ["project", text]);
-  const isOne = programs.length === 1 && programs[0].count === layers.length;
+  const isOne = programs.length === 1 && programs[0]?.count === layers.length;
   for (const { text, count } of programs) rows.push(["written by", isOne ? text : `${text} (${counted(count, "file")})`]);
   if (date) rows.push(["written", date]);
   return [...rows, ...drillComments(layers).map((comment) => /** @type {Row} */ (["drill file says", comment]))];

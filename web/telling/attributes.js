@@ -22,8 +22,7 @@ export function plain(raw) {
 const NAMES = new Map([[".CVal", "value"], [".CPkg", "package"], [".CFtp", "footprint"], [".CMfr", "manufacturer"],
   [".CMPN", "part number"], [".CMnt", "mounting"], [".CRot", "rotation"], [".CHgt", "height"], [".CLbN", "library"],
   [".CLbD", "library's description"], [".CSup", "supplier"]]);
-/** @type {Record<string, string>} */
-const MOUNTINGS = { TH: "through the board", SMD: "on the surface", Pressfit: "press fit", Other: "other" };
+const MOUNTINGS = new Map([["TH", "through the board"], ["SMD", "on the surface"], ["Pressfit", "press fit"], ["Other", "other"]]);
 // These have words of their own.
 const OWN = new Set([".N", ".C", ".P", ".AperFunction"]);
 
@@ -68,7 +67,7 @@ function netRows(attributes) {
 /** @param {Attribute} attribute @returns {Row} */
 function rowOf({ name, fields }) {
   const value = fields.map((field) => plain(field)).join(", ");
-  return [NAMES.get(name) ?? plain(name), name === ".CMnt" ? MOUNTINGS[value] ?? value : value];
+  return [NAMES.get(name) ?? plain(name), name === ".CMnt" ? MOUNTINGS.get(value) ?? value : value];
 }
 
 /** @param {Attribute} attribute */
@@ -113,6 +112,7 @@ export function componentsOf(layers) {
       last = attributes;
       const component = attributes.some(isOfComponent) ? pinOf(attributes).component : null;
       if (component === null) continue;
+      /** @type {Map<string, Attribute>} */
       const known = components.get(component) ?? new Map();
       for (const attribute of attributes.filter(isOfComponent)) if (!known.has(attribute.name)) known.set(attribute.name, attribute);
       components.set(component, known);

@@ -43,7 +43,8 @@ class Header {
   /** @param {string} text what stands behind TF */
   attribute(text) {
     const whole = words(text);
-    this.attributes.set(whole.split(",")[0], whole);
+    const [name = ""] = whole.split(",");
+    this.attributes.set(name, whole);
   }
 
   /** @param {string} text */
@@ -64,8 +65,8 @@ function ofGerber(bytes) {
   const macros = new Map();
   while (commands.next()) {
     if (commands.isExtended) {
-      const { name, text } = commands.extended(), found = name === "AD" && DEFINITION.exec(packed(text));
-      if (found && !STANDARD.test(found[2])) macros.set(Number(found[1]), found[2]);
+      const { name, text } = commands.extended(), [, number, template] = name === "AD" && DEFINITION.exec(packed(text)) || [];
+      if (template && !STANDARD.test(template)) macros.set(Number(number), template);
       continue;
     }
     const comment = commentOf(commands.text), attribute = comment === null ? null : standardComment(comment);
@@ -84,13 +85,13 @@ function ofDrill(bytes) {
   let isHeader = true;
   for (const line of latin1(bytes).split(/[\r\n]+/)) {
     const at = line.indexOf(";"), code = (at < 0 ? line : line.slice(0, at)).replace(/[ \t]/g, ""), comment = at < 0 ? "" : line.slice(at + 1);
-    const attribute = ATTRIBUTE.exec(comment), tool = isHeader && TOOL.exec(code);
+    const [, command, said = ""] = ATTRIBUTE.exec(comment) ?? [], tool = isHeader && TOOL.exec(code);
     if (tool) tools.set(Number(tool[1]), dictionary.apertures);
     if (code === "%" || code === "M95") isHeader = false;
     if (code === "M30") break;
-    if (attribute?.[1] === "TF") header.attribute(attribute[2]);
-    else if (attribute?.[1] === "TA") dictionary.set("TA", attribute[2].trimEnd());
-    else if (attribute) dictionary.drop(attribute[2].trim());
+    if (command === "TF") header.attribute(said);
+    else if (command === "TA") dictionary.set("TA", said.trimEnd());
+    else if (command) dictionary.drop(said.trim());
     else if (isHeader) header.comment(comment);
   }
   return { items: null, apertures: tools, blocks: new Map(), macros: new Map(), ...header.lists };

@@ -45,9 +45,8 @@ const PLACE = /^([-+]?(?:\d+\.?\d*|\.\d+))\s*([a-zµμ]*)(?:\s*[,;]\s*|\s+)([-+]
  * @returns {Pair | null} null where it is none on the board
  */
 export function placeIn(text, unit) {
-  const found = PLACE.exec(text.trim());
-  if (!found) return null;
-  const [, first, ofFirst, second, ofSecond] = found.map((part) => part.toLowerCase());
+  const [, first, ofFirst = "", second = "", ofSecond = ""] = PLACE.exec(text.trim())?.map((part) => part.toLowerCase()) ?? [];
+  if (first === undefined) return null;
   const x = lengthOf(first + (ofFirst || ofSecond), unit), y = lengthOf(second + ofSecond, unit);
   return x !== null && y !== null && Math.abs(x) < BOARD && Math.abs(y) < BOARD ? [x, y] : null;
 }
@@ -74,8 +73,8 @@ function matched(index, kind, query) {
   /** @type {Result[][]} */
   const ranks = MATCHES.map(() => []);
   for (const entry of index.ordered.get(kind) ?? []) {
-    const rank = Math.min(...texts.map((text) => rankOf(entry, text))), { id, detail, lights } = entry;
-    if (rank < NONE) ranks[rank].push({ kind, id, text: entry.text, detail, match: MATCHES[rank], lights, place: null });
+    const rank = Math.min(...texts.map((text) => rankOf(entry, text))), match = MATCHES[rank], { id, detail, lights } = entry;
+    if (match) ranks[rank]?.push({ kind, id, text: entry.text, detail, match, lights, place: null });
   }
   return { kind, best: ranks.findIndex(({ length }) => length > 0), all: ranks.flat() };
 }
@@ -83,10 +82,11 @@ function matched(index, kind, query) {
 // How many of each group are shown: each has room for some, and what one leaves goes to the others, the first of them first.
 /** @param {Matched[]} groups @param {number} most */
 function sharesOf(groups, most) {
-  const fair = Math.floor(most / Math.max(1, groups.length)), shares = groups.map(({ all }) => Math.min(all.length, fair));
-  let left = most - shares.reduce((sum, share) => sum + share, 0);
-  return shares.map((share, at) => {
-    const more = Math.min(left, groups[at].all.length - share);
+  const fair = Math.floor(most / Math.max(1, groups.length));
+  const shares = groups.map(({ all: { length } }) => ({ length, share: Math.min(length, fair) }));
+  let left = most - shares.reduce((sum, { share }) => sum + share, 0);
+  return shares.map(({ length, share }) => {
+    const more = Math.min(left, length - share);
     left -= more;
     return share + more;
   });

@@ -50,7 +50,8 @@ function own(table, key) {
 /** @param {readonly Attribute[]} attributes @returns {string[]} the fields of a function, nothing where there is none */
 function fieldsOf(attributes) {
   const fields = attributes.find(({ name }) => name === ".AperFunction")?.fields.map((field) => plain(field).trim()) ?? [];
-  return PLATINGS.has(fields[0]) ? fields.slice(1) : fields;
+  const [first = "", ...more] = fields;
+  return PLATINGS.has(first) ? more : fields;
 }
 
 /**

@@ -7,14 +7,18 @@
 // What is not known is not said. Lengths have all digits that they have; one that was rounded says `about`.
 
 import { attributeRows } from "./attributes.js";
-import { boxOf, cornersOf, distance, isCircle, itemOf, lengthOf } from "./paths.js";
-import { counted, lengthText, placeText, sidesText, sizeText } from "./measures.js";
+import { boxOf, cornersOf, distance, isCircle, itemOf, lengthOf, sidesOf } from "./paths.js";
+import { boxText, counted, lengthText, placeText, sidesText, sizeText } from "./measures.js";
 import { functionWords, nounOf } from "./functions.js";
 import { shapeWords } from "./shapes.js";
 
 /** @typedef {import("./layers.js").ToldLayer} ToldLayer */
 /** @typedef {import("./measures.js").Unit} Unit */
 /** @typedef {import("./paths.js").Item} Item */
+/** @typedef {import("./paths.js").Flash} Flash */
+/** @typedef {import("./paths.js").Stroke} Stroke */
+/** @typedef {import("./measures.js").Pair} Pair */
+/** @typedef {Pick<import("./paths.js").Rout, "number" | "points" | "ways">} Drilled a hole or a slot */
 /** @typedef {import("./shapes.js").Shape} Shape */
 /** @typedef {import("../attributes/index.js").Attribute} Attribute */
 
@@ -42,16 +46,16 @@ function withPlace(parts, where, unit) {
 /** @param {Item} item */
 const polarity = ({ isDark }) => isDark ? "" : "clear";
 
-/** @param {Item} item @param {Shape | undefined} shape */
+/** @param {Flash} item @param {Shape | undefined} shape */
 function turnOfBlock({ turn }, shape) {
   if (shape?.kind !== "block" || turn === "r0") return "";
   const angle = Number(turn.slice(1)), words = angle ? `turned by ${angle}°` : "";
   return [turn.startsWith("m") ? "mirrored" : "", words].filter((word) => word).join(" and ");
 }
 
-/** @param {Item} item @param {string} noun @param {Shape | undefined} shape @param {ToldLayer} layer @param {Unit} unit */
+/** @param {Flash} item @param {string} noun @param {Shape | undefined} shape @param {ToldLayer} layer @param {Unit} unit */
 function flashWords(item, noun, shape, layer, unit) {
-  const { number, turn, points: [point] } = item, name = layer.says?.macros.get(number ?? -1);
+  const { number, turn, points: [point] } = item, name = layer.says?.macros.get(number);
   const size = shape ? shapeWords(shape, unit, { turn, name }) : "", isBlock = shape?.kind === "block";
   if (isSlot(layer, item, shape)) return holeWords(item, shape, layer, unit);
   return withPlace([isBlock ? size : noun, isBlock ? turnOfBlock(item, shape) : size, polarity(item)], `at ${placeText(point, unit)}`, unit);
@@ -64,43 +68,39 @@ function penWords(noun, shape, turn, unit) {
   return words ? `${noun} with a ${words}` : noun;
 }
 
-/** @param {Item} item @param {Unit} unit */
-function betweenWords({ ways }, unit) {
-  const { from } = ways[0], { to } = ways[ways.length - 1];
-  return `from ${placeText(from, unit)} to ${placeText(to, unit)}`;
-}
+/** @param {Pair} from @param {Pair} to @param {Unit} unit */
+const betweenWords = (from, to, unit) => `from ${placeText(from, unit)} to ${placeText(to, unit)}`;
 
-/** @param {Item} item @param {string} noun @param {Shape | undefined} shape @param {Unit} unit */
+/** @param {Stroke} item @param {string} noun @param {Shape | undefined} shape @param {Unit} unit */
 function drawWords(item, noun, shape, unit) {
-  const pen = penWords(noun, shape, item.turn, unit), length = lengthOf(item.ways);
-  if (length.nm === 0) return withPlace([pen, "of no length", polarity(item)], `at ${placeText(item.points[0], unit)}`, unit);
-  return withPlace([pen, `${lengthText(length, unit)} ${unit} long`, polarity(item)], betweenWords(item, unit), unit);
+  const pen = penWords(noun, shape, item.turn, unit), length = lengthOf(item.ways), [{ from, to }] = item.ways;
+  if (length.nm === 0) return withPlace([pen, "of no length", polarity(item)], `at ${placeText(from, unit)}`, unit);
+  return withPlace([pen, `${lengthText(length, unit)} ${unit} long`, polarity(item)], betweenWords(from, to, unit), unit);
 }
 
-/** @param {Item} item @param {string} noun @param {Shape | undefined} shape @param {Unit} unit */
+/** @param {Stroke} item @param {string} noun @param {Shape | undefined} shape @param {Unit} unit */
 function arcWords(item, noun, shape, unit) {
-  const [arc] = item.ways, { centre, from, isClockwise } = arc;
+  const [arc] = item.ways, { centre, from, to, isClockwise } = arc;
   if (!centre) return noun;
   const radius = `${lengthText(distance(from, centre), unit)} ${unit}`, about = `about ${placeText(centre, unit)}`;
   const pen = penWords(noun === "arc" ? "draw" : noun, shape, item.turn, unit), long = `${lengthText(lengthOf(item.ways), unit)} ${unit} long`;
   if (isCircle(arc)) return [`${pen} along a circle of radius ${radius} ${about}`, long, polarity(item)].filter((part) => part).join(", ");
   const way = `${pen} along an arc of radius ${radius}, ${isClockwise ? "clockwise" : "counterclockwise"} ${about}`;
-  return withPlace([way, long, polarity(item)], betweenWords(item, unit), unit);
+  return withPlace([way, long, polarity(item)], betweenWords(from, to, unit), unit);
 }
 
-/** @param {Item} item @param {Unit} unit */
+/** @param {import("./paths.js").Region} item @param {Unit} unit */
 function regionWords(item, unit) {
-  const { ways } = item, box = boxOf(ways), corners = cornersOf(ways).length, arcs = ways.filter(({ centre }) => centre).length;
+  const { ways } = item, [way] = ways, box = boxOf(ways), corners = cornersOf(ways).length, arcs = ways.filter(({ centre }) => centre).length;
   if (!box) return "region";
-  if (ways.length === 1 && isCircle(ways[0]) && ways[0].centre) {
-    const { nm, isExact } = distance(ways[0].from, ways[0].centre);
+  if (ways.length === 1 && way && isCircle(way) && way.centre) {
+    const { nm, isExact } = distance(way.from, way.centre);
     return withPlace([`region, circle ${lengthText({ nm: 2 * nm, isExact }, unit)} ${unit}`, polarity(item)],
-      `at ${placeText(ways[0].centre, unit)}`, unit);
+      `at ${placeText(way.centre, unit)}`, unit);
   }
-  const { isExact } = box, sides = [box.right - box.left, box.high - box.low].map((nm) => ({ nm, isExact }));
-  const [low, high] = [[box.left, box.low], [box.right, box.high]].map(([x, y]) => placeText([Math.round(x), Math.round(y)], unit));
+  const { width, height } = sidesOf(box);
   const what = `region with ${counted(corners, "corner")}${arcs ? ` and ${counted(arcs, "arc")}` : ""}`;
-  return withPlace([what, sidesText(sides[0], sides[1], unit), polarity(item)], `from ${low} to ${high}`, unit);
+  return withPlace([what, sidesText(width, height, unit), polarity(item)], boxText(box, unit), unit);
 }
 
 /** @param {ToldLayer} layer @param {number | null} number */
@@ -109,33 +109,32 @@ function platedWords(layer, number) {
   return isPlated === null ? "" : isPlated ? "plated" : "not plated";
 }
 
-/** @param {Item} item @param {Shape | undefined} shape @param {ToldLayer} layer @param {Unit} unit */
-function holeWords(item, shape, layer, unit) {
-  const { points, ways, number } = item, diameter = shape?.width?.nm, plated = platedWords(layer, number);
+/** @param {Drilled} item @param {Shape | undefined} shape @param {ToldLayer} layer @param {Unit} unit */
+function holeWords({ points, ways, number }, shape, layer, unit) {
+  const [from] = points, to = points.at(-1) ?? from, diameter = shape?.width?.nm, plated = platedWords(layer, number);
   const size = diameter === undefined ? "" : ` ${sizeText(diameter, unit)} ${unit}`, wide = size && `${size} wide`;
-  if (points.length === 1) return withPlace([`hole${size}`, plated], `at ${placeText(points[0], unit)}`, unit);
+  if (points.length === 1) return withPlace([`hole${size}`, plated], `at ${placeText(from, unit)}`, unit);
   const { nm, isExact } = lengthOf(ways), isSlot = points.length === 2;
   if (isSlot && diameter !== undefined) {
     return withPlace([`slot${wide}`, `${lengthText({ nm: nm + diameter, isExact }, unit)} ${unit} long over all`, plated],
-      betweenWords(item, unit), unit);
+      betweenWords(from, to, unit), unit);
   }
   const long = `${lengthText({ nm, isExact }, unit)} ${unit} from ${isSlot ? "end to end" : `end to end over ${points.length} points`}`;
-  return withPlace([`${isSlot ? "slot" : "rout"}${wide}`, long, plated], betweenWords(item, unit), unit);
+  return withPlace([`${isSlot ? "slot" : "rout"}${wide}`, long, plated], betweenWords(from, to, unit), unit);
 }
 
 // A hole or a slot of a layer of holes that is a Gerber file.
 /** @param {ToldLayer} layer @param {Item} item @param {Shape | undefined} shape */
 const isSlot = (layer, item, shape) => layer.group === "holes" && item.isDark && shape?.kind === "circle";
 
-/** @param {Item} item @returns {Item} */
-function endsAlone(item) {
-  const [{ from, to }] = item.ways;
-  return { ...item, points: from[0] === to[0] && from[1] === to[1] ? [from] : [from, to] };
+/** @param {Stroke} item @returns {Drilled} */
+function endsAlone({ number, ways }) {
+  const [{ from, to }] = ways;
+  return { number, ways, points: from[0] === to[0] && from[1] === to[1] ? [from] : [from, to] };
 }
 
-/** @param {Item} item @param {Unit} unit */
+/** @param {import("./paths.js").Repeated} item @param {Unit} unit */
 function repeatWords({ repeat }, unit) {
-  if (!repeat) return "repeat";
   const { columns, rows, stepX, stepY, objects } = repeat;
   const steps = [columns > 1 ? `${sizeText(stepX, unit)} ${unit} to the right` : "", rows > 1 ? `${sizeText(stepY, unit)} ${unit} up` : ""];
   return `repeat of ${counted(objects, "object")}, ${counted(columns, "column")} and ${counted(rows, "row")}, at steps of ${
@@ -190,7 +189,8 @@ export function itemWords(layer, place, { unit, components = new Map() }) {
   const rows = attributeRows(attributes, components);
   if (does) rows.push(["function", does]);
   rows.push(...apertureRows(layer, item, unit));
-  if (found.objects.length === 1) rows.push(["object", headOf(layer, found.objects[0], objects[0]?.attributes ?? [], unit)]);
+  const [object] = found.objects;
+  if (object !== undefined && found.objects.length === 1) rows.push(["object", headOf(layer, object, objects[0]?.attributes ?? [], unit)]);
   rows.push(["layer", layer.label]);
   return { head: headOf(layer, found.words, attributes, unit), rows, line: found.words };
 }

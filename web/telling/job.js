@@ -11,7 +11,7 @@ import { dateWords, programWords } from "./makers.js";
  * @property {string | null} program
  * @property {string | null} date
  * @property {string | null} project
- * @property {import("./measures.js").Length[] | null} sides of the board
+ * @property {[width: import("./measures.js").Length, height: import("./measures.js").Length] | null} sides of the board
  * @property {number | null} copper how many copper layers
  * @property {import("./measures.js").Length | null} thickness
  * @property {string | null} finish
@@ -47,7 +47,7 @@ function lengthOf(value) {
   return mm === null ? null : exact(Math.round(mm * 1e6));
 }
 
-/** @param {Value} specs */
+/** @param {Value} specs @returns {Job["sides"]} */
 function sidesOf(specs) {
   const { X, Y } = objectOf(specs.Size), width = lengthOf(X), height = lengthOf(Y);
   return width && height ? [width, height] : null;
@@ -89,11 +89,11 @@ function jobOf(job) {
  */
 export function readJob(bytes) {
   try {
-    const value = JSON.parse(utf8(hasByteOrderMark(bytes) ? bytes.subarray(3) : bytes));
-    const isJob = ["Header", "GeneralSpecs", "FilesAttributes"].some((name) => Object.keys(objectOf(value)).includes(name));
+    const value = objectOf(JSON.parse(utf8(hasByteOrderMark(bytes) ? bytes.subarray(3) : bytes)));
+    const isJob = ["Header", "GeneralSpecs", "FilesAttributes"].some((name) => Object.keys(value).includes(name));
     return isJob ? { job: jobOf(value), why: null } : { job: null, why: "it has no part of a job file" };
   } catch (fault) {
-    return { job: null, why: `it is no JSON: ${fault.message}` };
+    return { job: null, why: `it is no JSON: ${fault instanceof Error ? fault.message : fault}` };
   }
 }
 

@@ -43,8 +43,7 @@ function groupOf(shows) {
   return shows === "outline" || shows === "drawing" ? shows : "other";
 }
 
-/** @type {Record<string, boolean>} */
-const PLATED = { Plated: true, NonPlated: false, plated: true, nonplated: false };
+const PLATED = new Map([["Plated", true], ["NonPlated", false], ["plated", true], ["nonplated", false]]);
 
 /** A layer of a board, with what follows from its parts. */
 export class ToldLayer {
@@ -63,7 +62,7 @@ export class ToldLayer {
     this.group = groupOf(shows);
     /** @type {Map<string, string[]>} file attributes by their names; those of commands count before those in comments */
     this.attributes = new Map([...says?.attributes ?? [], ...attributes].map((line) => {
-      const [key, ...fields] = line.split(",");
+      const [key = "", ...fields] = line.split(",");
       return [key, fields.map((field) => plainField(field).trim())];
     }));
   }
@@ -94,6 +93,6 @@ export class ToldLayer {
    */
   isPlated(number) {
     const own = this.ofAperture(number).find(({ name }) => name === ".AperFunction")?.fields[0] ?? "";
-    return PLATED[own.trim()] ?? PLATED[this.functionFields[0] ?? ""] ?? PLATED[this.shows] ?? null;
+    return PLATED.get(own.trim()) ?? PLATED.get(this.functionFields[0] ?? "") ?? PLATED.get(this.shows) ?? null;
   }
 }

@@ -10,13 +10,19 @@ import { exact } from "./measures.js";
 /** @typedef {import("./paths.js").Box} Box */
 
 /**
- * A primitive: a disc, a bar without round ends, a rectangle about its middle, or an outline, whose corners are in `points`.
- * @typedef {object} Primitive
- * @property {"disc" | "bar" | "rectangle" | "outline"} kind
- * @property {boolean} isOn whether it paints, and does not clear
- * @property {number} width the diameter of a disc
- * @property {number} height of a rectangle
- * @property {Pair[]} points the middle, both ends of a bar, or the corners
+ * What a primitive has: whether it paints, and does not clear; a disc's diameter is its width, a rectangle has a height, and
+ * `points` are the middle, both ends of a bar, or the corners.
+ * @template {string} K
+ * @template {Pair[]} P
+ * @typedef {{kind: K, isOn: boolean, width: number, height: number, points: P}} Made
+ */
+/**
+ * A primitive: a disc, a bar without round ends, a rectangle about its middle, or an outline.
+ * @typedef {Made<"disc", [middle: Pair]>} Disc
+ * @typedef {Made<"bar", [from: Pair, to: Pair]>} Bar
+ * @typedef {Made<"rectangle", [middle: Pair]>} Rectangle
+ * @typedef {Made<"outline", Pair[]>} Outline
+ * @typedef {Disc | Bar | Rectangle | Outline} Primitive
  */
 
 /**
@@ -33,6 +39,9 @@ import { exact } from "./measures.js";
 // Corners are rounded to whole nm, each by itself.
 const ROUNDED = 2;
 
+/** How many lengths the primitives have at least, by their codes; of an outline its first one tells it. */
+const NEEDED = new Map([["1", 3], ["20", 5], ["21", 4]]);
+
 /** @param {string} text */
 const nm = (text) => Math.round(Number(text) * 1e6);
 
@@ -47,17 +56,14 @@ function pairs(list) {
  * @returns {Primitive | null} null where it is none
  */
 export function primitiveOf(line) {
-  const [code, exposure, ...fields] = line.trim().replace(/\*?%?$/, "").split(",");
-  const lengths = fields.map(nm), isOn = exposure === "1";
-  const needed = { 1: 3, 20: 5, 21: 4, 4: 3 + 2 * Number(fields[0]) }[code] ?? 0;
-  if (!lengths.every(Number.isFinite) || !(lengths.length >= needed)) return null;
-  /** @param {Primitive["kind"]} kind @param {number} width @param {number} height @param {Pair[]} points */
-  const made = (kind, width, height, points) => ({ kind, isOn, width, height, points });
+  const [code = "", exposure, ...fields] = line.trim().replace(/\*?%?$/, "").split(",");
+  const lengths = fields.map(nm), [a = NaN, b = NaN, c = NaN, d = NaN, e = NaN] = lengths, count = 2 * Number(fields[0]), isOn = exposure === "1";
+  if (!lengths.every(Number.isFinite) || !(lengths.length >= (code === "4" ? 3 + count : NEEDED.get(code) ?? 0))) return null;
   switch (code) {
-    case "1": return made("disc", lengths[0], lengths[0], [[lengths[1], lengths[2]]]);
-    case "20": return made("bar", lengths[0], 0, pairs(lengths.slice(1, 5)));
-    case "21": return made("rectangle", lengths[0], lengths[1], [[lengths[2], lengths[3]]]);
-    case "4": return made("outline", 0, 0, pairs(lengths.slice(1, 1 + 2 * Number(fields[0]))));
+    case "1": return { kind: "disc", isOn, width: a, height: a, points: [[b, c]] };
+    case "20": return { kind: "bar", isOn, width: a, height: 0, points: [[b, c], [d, e]] };
+    case "21": return { kind: "rectangle", isOn, width: a, height: b, points: [[c, d]] };
+    case "4": return { kind: "outline", isOn, width: 0, height: 0, points: pairs(lengths.slice(1, 1 + count)) };
     default: return null;
   }
 }
@@ -99,26 +105,31 @@ export function upright(shape) {
 
 // Four corners of a rectangle about the middle: its sides and its angle, of no size where corners fall together.
 /** @param {Pair[]} corners */
-function cornered([a, b, c, d]) {
-  if (!isMiddle(between(a, c)) || !isMiddle(between(b, d))) return null;
+function cornered([a, b, c, d, ...more]) {
+  if (!a || !b || !c || !d || more.length || !isMiddle(between(a, c)) || !isMiddle(between(b, d))) return null;
   const width = distance(a, b), height = distance(b, c);
   const dot = (b[0] - a[0]) * (c[0] - b[0]) + (b[1] - a[1]) * (c[1] - b[1]);
   if (Math.abs(dot) > ROUNDED * (width.nm + height.nm)) return null;
   return { width, height, angle: width.nm > ROUNDED ? angleOf(a, b) : angleOf(b, c) - 90 };
 }
 
+/** @param {Pair} corner */
+const angleAround = ([x, y]) => Math.atan2(y, x) * 180 / Math.PI;
+
 /** @param {Pair[]} corners */
 function polygonOf(corners) {
-  const radii = corners.map((corner) => distance(corner, [0, 0])), [{ nm: radius, isExact }] = radii, step = 360 / corners.length;
-  const angles = corners.map(([x, y]) => Math.atan2(y, x) * 180 / Math.PI), isLeft = ((angles[1] - angles[0] + 360) % 360) < 180;
+  const [first, second, third] = corners;
+  if (!first || !second || !third) return null;
+  const { nm: radius, isExact } = distance(first, [0, 0]), step = 360 / corners.length, start = angleAround(first);
+  const isLeft = ((angleAround(second) - start + 360) % 360) < 180;
   // (half of a degree of a pad of 0.1 mm is more than the rounding of a corner)
-  const isRegular = radii.every(({ nm: other }) => Math.abs(other - radius) <= ROUNDED) && angles.every((angle, at) => {
-    const turn = ((angle - angles[0] - (isLeft ? 1 : -1) * at * step) % 360 + 540) % 360 - 180;
+  const isRegular = corners.every((corner) => Math.abs(distance(corner, [0, 0]).nm - radius) <= ROUNDED) && corners.every((corner, at) => {
+    const turn = ((angleAround(corner) - start - (isLeft ? 1 : -1) * at * step) % 360 + 540) % 360 - 180;
     return Math.abs(turn) * Math.PI / 180 * radius <= 2 * ROUNDED;
   });
   if (!isRegular) return null;
   const diameter = { nm: 2 * radius, isExact };
-  return found("polygon", diameter, diameter, { corners: corners.length, angle: ((angles[0] % step) + step) % step });
+  return found("polygon", diameter, diameter, { corners: corners.length, angle: ((start % step) + step) % step });
 }
 
 /** @param {Primitive} primitive */
@@ -126,12 +137,11 @@ function ofOne({ kind, width, height, points }) {
   if (kind === "disc") return isMiddle(points[0]) ? found("circle", exact(width), exact(width)) : null;
   if (kind === "rectangle") return isMiddle(points[0]) ? found("rectangle", exact(width), exact(height)) : null;
   if (kind !== "outline") return null;
-  const sides = points.length === 4 ? cornered(points) : null;
-  if (sides) return upright(found("rectangle", sides.width, sides.height, { angle: sides.angle }));
-  return points.length >= 3 ? polygonOf(points) : null;
+  const sides = cornered(points);
+  return sides ? upright(found("rectangle", sides.width, sides.height, { angle: sides.angle })) : polygonOf(points);
 }
 
-/** @param {Primitive[]} list @param {Pair} place */
+/** @param {Disc[]} list @param {Pair} place */
 const takes = (list, place) => {
   const at = list.findIndex(({ points }) => isNear(points[0], place));
   if (at >= 0) list.splice(at, 1);
@@ -139,27 +149,27 @@ const takes = (list, place) => {
 };
 
 // Whether there is one disc at each of these places, and no other.
-/** @param {Primitive[]} discs @param {Pair[]} places */
+/** @param {Disc[]} discs @param {Pair[]} places */
 function areAt(discs, places) {
   const left = [...discs];
   return left.length === places.length && places.every((place) => takes(left, place));
 }
 
 // A bar with a disc at each end.
-/** @param {Primitive[]} bars @param {Primitive[]} discs */
-function obroundOf([bar], discs) {
+/** @param {Bar} bar @param {Disc[]} discs */
+function obroundOf(bar, discs) {
   const [from, to] = bar.points;
   if (discs.some(({ width }) => width !== bar.width) || !areAt(discs, [from, to]) || !isMiddle(between(from, to))) return null;
   return upright(found("obround", longer(distance(from, to), bar.width), exact(bar.width), { angle: angleOf(from, to) }));
 }
 
 // KiCad's RoundRect: an outline, a disc at each of its corners, and a bar along each of its sides.
-/** @param {Pair[]} corners @param {Primitive[]} discs @param {Primitive[]} bars */
+/** @param {Pair[]} corners @param {Disc[]} discs @param {Bar[]} bars */
 function roundRectangleOf(corners, discs, bars) {
-  const sides = cornered(corners), [{ width: diameter }] = discs, left = [...bars];
+  const sides = cornered(corners), diameter = discs[0]?.width ?? NaN, left = [...bars];
   if (!sides || [...discs, ...bars].some(({ width }) => width !== diameter) || !areAt(discs, corners)) return null;
   const areSides = corners.every((corner, at) => {
-    const next = corners[(at + 1) % corners.length];
+    const next = /** @type {Pair} */ (corners[(at + 1) % corners.length]);
     const own = left.findIndex(({ points: [from, to] }) => (isNear(from, corner) && isNear(to, next)) || (isNear(from, next) && isNear(to, corner)));
     return own >= 0 && left.splice(own, 1).length === 1;
   });
@@ -172,9 +182,9 @@ function roundRectangle(width, height, diameter, angle) {
 }
 
 // Altium's: two rectangles across one another, and a disc in each corner.
-/** @param {Primitive[]} rectangles @param {Primitive[]} discs */
-function crossOf([one, other], discs) {
-  const [wide, high] = one.width >= other.width ? [one, other] : [other, one], [{ width: diameter }] = discs;
+/** @param {Rectangle} one @param {Rectangle} other @param {Disc[]} discs */
+function crossOf(one, other, discs) {
+  const [wide, high] = one.width >= other.width ? [one, other] : [other, one], diameter = discs[0]?.width ?? NaN;
   const [x, y] = [high.width / 2, wide.height / 2];
   const isOne = isMiddle(wide.points[0]) && isMiddle(high.points[0]) && discs.every(({ width }) => width === diameter)
     && Math.abs(wide.width - high.width - diameter) <= ROUNDED && Math.abs(high.height - wide.height - diameter) <= ROUNDED
@@ -183,19 +193,31 @@ function crossOf([one, other], discs) {
 }
 
 /**
+ * @template {Primitive["kind"]} K
+ * @param {Primitive[]} list
+ * @param {K} kind
+ * @returns {Extract<Primitive, {kind: K}>[]}
+ */
+function ofKind(list, kind) {
+  /** @type {(primitive: Primitive) => primitive is Extract<Primitive, {kind: K}>} */
+  const isOfKind = (primitive) => primitive.kind === kind;
+  return list.filter(isOfKind);
+}
+
+/**
  * What primitives make that all paint.
  * @param {Primitive[]} list
  * @returns {Found | null} null where it has no name here, or its middle is not where it is flashed
  */
 export function foundIn(list) {
-  if (list.length === 1) return ofOne(list[0]);
-  const of = (/** @type {Primitive["kind"]} */ kind) => list.filter((primitive) => primitive.kind === kind);
-  const discs = of("disc"), bars = of("bar"), outlines = of("outline"), rectangles = of("rectangle");
-  const counts = [outlines, discs, bars, rectangles].map(({ length }) => length).join(" ");
-  if (counts === "0 2 1 0") return obroundOf(bars, discs);
-  if (counts === "1 4 4 0" && outlines[0].points.length === 4) return roundRectangleOf(outlines[0].points, discs, bars);
-  if (counts === "0 4 0 2") return crossOf(rectangles, discs);
-  return null;
+  const [first] = list;
+  if (first && list.length === 1) return ofOne(first);
+  const discs = ofKind(list, "disc"), bars = ofKind(list, "bar"), outlines = ofKind(list, "outline"), rectangles = ofKind(list, "rectangle");
+  const counts = [outlines, discs, bars, rectangles].map(({ length }) => length).join(" "), [bar] = bars, [outline] = outlines;
+  const [one, other] = rectangles;
+  if (counts === "0 2 1 0" && bar) return obroundOf(bar, discs);
+  if (counts === "1 4 4 0" && outline) return roundRectangleOf(outline.points, discs, bars);
+  return counts === "0 4 0 2" && one && other ? crossOf(one, other, discs) : null;
 }
 
 /** @param {Primitive} primitive @returns {Pair[]} */

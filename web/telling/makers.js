@@ -40,8 +40,8 @@ export function dateWords(text) {
 /** @param {readonly string[]} comments @returns {Maker} */
 function makerInComments(comments) {
   for (const comment of comments) {
-    const found = DRILL.exec(comment) ?? CREATED.exec(comment);
-    if (found) return { program: found[1].trim(), date: found[2] ? dateWords(found[2]) : null };
+    const [, program, date] = DRILL.exec(comment) ?? CREATED.exec(comment) ?? [];
+    if (program) return { program: program.trim(), date: date ? dateWords(date) : null };
   }
   return { program: null, date: null };
 }
@@ -90,7 +90,6 @@ export function datesWords(dates) {
   const timeOf = (text) => Date.parse(text.replace(/^(\S+) (\S+) (?:UTC|([-+]\S+))$/, (_, day, time, zone) => `${day}T${time}${zone ?? "Z"}`));
   const areInstants = distinct.every((text) => / (?:UTC|[-+]\d\d:\d\d)$/.test(text) && Number.isFinite(timeOf(text)));
   if (!areInstants) return distinct.join("; ");
-  const ordered = [...distinct].sort((one, other) => timeOf(one) - timeOf(other));
-  const [first, last] = [ordered[0], ordered[ordered.length - 1]];
+  const ordered = [...distinct].sort((one, other) => timeOf(one) - timeOf(other)), [first = ""] = ordered, last = ordered.at(-1) ?? first;
   return timeOf(first) === timeOf(last) ? first : `from ${first} to ${last}`;
 }

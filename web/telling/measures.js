@@ -64,8 +64,18 @@ export function placeText([x, y], unit) {
  */
 export function sidesText(width, height, unit) {
   if (width.isExact && height.isExact) return `${sizeText(width.nm, unit)} by ${sizeText(height.nm, unit)} ${unit}`;
-  const [across, up] = [width, height].map(({ nm }) => lengthText({ nm, isExact: false }, unit).slice("about ".length));
-  return `about ${across} by ${up} ${unit}`;
+  /** @param {Length} length */
+  const rounded = ({ nm }) => lengthText({ nm, isExact: false }, unit).slice("about ".length);
+  return `about ${rounded(width)} by ${rounded(height)} ${unit}`;
+}
+
+/**
+ * Where a box lies, without the unit: `from 1.000, 2.000 to 3.000, 4.000`.
+ * @param {import("./paths.js").Box} box
+ * @param {Unit} unit
+ */
+export function boxText({ left, low, right, high }, unit) {
+  return `from ${placeText([Math.round(left), Math.round(low)], unit)} to ${placeText([Math.round(right), Math.round(high)], unit)}`;
 }
 
 /** @param {number} nm @returns {Length} */

@@ -25,7 +25,7 @@ class Lines {
       return one && joined(one, moved(one, (columns - 1) * stepX, (rows - 1) * stepY));
     }
     if (item.kind !== "flash") return boxOf(item.ways);
-    const block = this.boxOfBlock(item.number ?? -1), [[x, y]] = item.points;
+    const block = this.boxOfBlock(item.number), [[x, y]] = item.points;
     return block && moved(turned(block, item.turn), x, y);
   }
 

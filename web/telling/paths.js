@@ -10,15 +10,25 @@
  */
 
 /**
- * An item, in the words of a line that inserts it (docs/formats.md, "Scripts").
- * @typedef {object} Item
- * @property {"flash" | "draw" | "arc" | "region" | "hit" | "rout" | "repeat"} kind
- * @property {number | null} number of its aperture or tool
- * @property {Pair[]} points the point of a flash or a hit, those of a rout, else the start
- * @property {Way[]} ways of a draw, an arc, a region and a rout
- * @property {string} turn of a flash and a draw: r0 to r270, m0 to m270
- * @property {boolean} isDark
- * @property {{columns: number, rows: number, stepX: number, stepY: number, objects: number} | null} repeat
+ * What an item has, in the words of a line that inserts it (docs/formats.md, "Scripts"): the number of its aperture or tool; the
+ * point of a flash or a hit, those of a rout, else the start; the ways of a draw, an arc, a region and a rout; the turn of a flash
+ * and a draw, r0 to r270, m0 to m270; and what a repeat is.
+ * @template {string} K
+ * @template {number | null} N
+ * @template {Pair[]} P
+ * @template {Way[]} W
+ * @template R
+ * @typedef {{kind: K, number: N, points: P, ways: W, turn: string, isDark: boolean, repeat: R}} Said
+ */
+/** @typedef {{columns: number, rows: number, stepX: number, stepY: number, objects: number}} Repeat */
+/**
+ * @typedef {Said<"flash", number, [at: Pair], never[], null>} Flash
+ * @typedef {Said<"draw" | "arc", number, [start: Pair], [Way], null>} Stroke
+ * @typedef {Said<"region", null, [start: Pair], Way[], null>} Region
+ * @typedef {Said<"hit", number, [at: Pair], never[], null>} Hit
+ * @typedef {Said<"rout", number, [start: Pair, ...more: Pair[]], Way[], null>} Rout
+ * @typedef {Said<"repeat", null, never[], never[], Repeat>} Repeated
+ * @typedef {Flash | Stroke | Region | Hit | Rout | Repeated} Item
  */
 
 /** @param {string[]} words @param {number} from @returns {Pair} */
@@ -41,32 +51,45 @@ function waysOf(words, first) {
   return ways;
 }
 
-/** @param {string[]} words @returns {Pair[]} */
-function pairsOf(words) {
-  /** @type {Pair[]} */
-  const found = [];
-  for (let at = 0; at + 1 < words.length; at += 2) found.push(pair(words, at));
-  return found;
+/** @param {string[]} words @returns {Rout} */
+function routOf(words) {
+  /** @type {Rout["points"]} */
+  const points = [pair(words, 2)];
+  /** @type {Way[]} */
+  const ways = [];
+  for (let at = 4, [from] = points; at + 1 < words.length; at += 2) {
+    const to = pair(words, at);
+    points.push(to);
+    ways.push(way(from, to));
+    from = to;
+  }
+  return { ...OTHER, kind: "rout", number: Number(words[1]), points, ways };
 }
 
-/** @type {Record<string, (words: string[]) => Partial<Item>>} */
-const KINDS = {
-  flash: (words) => ({ number: Number(words[1]), points: [pair(words, 2)], turn: words[4], isDark: words[5] !== "clear" }),
-  draw: (words) => ({ number: Number(words[1]), points: [pair(words, 2)], ways: [way(pair(words, 2), pair(words, 4))],
-    turn: words[6], isDark: words[7] !== "clear" }),
-  arc: (words) => ({ number: Number(words[1]), points: [pair(words, 2)],
-    ways: [way(pair(words, 2), pair(words, 4), pair(words, 6), words[8] === "cw")], isDark: words[9] !== "clear" }),
-  region: (words) => ({ points: [pair(words, 2)], ways: waysOf(words, 2), isDark: words[1] !== "clear" }),
-  hit: (words) => ({ number: Number(words[1]), points: [pair(words, 2)] }),
-  rout: (words) => {
-    const points = pairsOf(words.slice(2));
-    return { number: Number(words[1]), points, ways: points.slice(1).map((to, at) => way(points[at], to)) };
-  },
-  repeat: (words) => {
-    const [columns, rows, stepX, stepY, objects] = words.slice(1, 6).map(Number);
-    return { repeat: { columns, rows, stepX, stepY, objects } };
-  },
-};
+/** @param {string[]} words @returns {Repeated} */
+function repeatOf(words) {
+  const [columns = NaN, rows = NaN, stepX = NaN, stepY = NaN, objects = NaN] = words.slice(1, 6).map(Number);
+  return { ...OTHER, kind: "repeat", number: null, points: [], ways: [], repeat: { columns, rows, stepX, stepY, objects } };
+}
+
+// What items have where their words say nothing else.
+const OTHER = { turn: "r0", isDark: true, repeat: null };
+
+/** @param {string[]} words @returns {Item | null} */
+function saidBy(words) {
+  const [kind] = words, number = Number(words[1]), at = pair(words, 2);
+  switch (kind) {
+    case "flash": return { ...OTHER, kind, number, points: [at], ways: [], turn: words[4] ?? "r0", isDark: words[5] !== "clear" };
+    case "draw": return { ...OTHER, kind, number, points: [at], ways: [way(at, pair(words, 4))], turn: words[6] ?? "r0", isDark: words[7] !== "clear" };
+    case "arc": return { ...OTHER, kind, number, points: [at], ways: [way(at, pair(words, 4), pair(words, 6), words[8] === "cw")],
+      isDark: words[9] !== "clear" };
+    case "region": return { ...OTHER, kind, number: null, points: [at], ways: waysOf(words, 2), isDark: words[1] !== "clear" };
+    case "hit": return { ...OTHER, kind, number, points: [at], ways: [] };
+    case "rout": return routOf(words);
+    case "repeat": return repeatOf(words);
+    default: return null;
+  }
+}
 
 /**
  * An item by its words.
@@ -74,19 +97,15 @@ const KINDS = {
  * @returns {Item | null} null where the words are none of an item
  */
 export function itemOf(line) {
-  const words = line.trim().split(/\s+/), [kind] = words;
-  if (!Object.hasOwn(KINDS, kind)) return null;
-  /** @type {Item} */
-  const item = { kind: /** @type {Item["kind"]} */ (kind), number: null, points: [], ways: [], turn: "r0", isDark: true, repeat: null,
-    ...KINDS[kind](words) };
-  return isWhole(item) ? item : null;
+  const item = saidBy(line.trim().split(/\s+/));
+  return item && isWhole(item) ? item : null;
 }
 
 // Whether all its places are in whole nm, as those of a station are.
-/** @param {Item} item */
+/** @param {{number: number | null, points: Pair[], ways: Way[], repeat: Repeat | null}} item */
 function isWhole({ number, points, ways, repeat }) {
   const places = [...points, ...ways.flatMap(({ to, centre }) => centre ? [to, centre] : [to])];
-  return points.length + (repeat ? 1 : 0) > 0 && [number ?? 0, ...repeat ? Object.values(repeat) : [], ...places.flat()].every(Number.isSafeInteger);
+  return [number ?? 0, ...repeat ? Object.values(repeat) : [], ...places.flat()].every(Number.isSafeInteger);
 }
 
 /** @type {string[]} */
@@ -101,7 +120,7 @@ export function itemsOf(lines) {
   /** @type {{words: string, objects: string[]}[]} */
   const items = [];
   for (const line of lines) {
-    const last = items[items.length - 1];
+    const last = items.at(-1);
     if (!line.startsWith(" ") || !last) items.push({ words: line, objects: NO_OBJECTS });
     else if (last.objects === NO_OBJECTS) last.objects = [line.trim()];
     else last.objects.push(line.trim());
@@ -127,7 +146,7 @@ export function distance([ax, ay], [bx, by]) {
 /** @param {Way} arc @returns {number} */
 function sweepOf({ from, to, centre, isClockwise }) {
   if (!centre || isSame(from, to)) return 2 * Math.PI;
-  const [start, end] = [from, to].map(([x, y]) => Math.atan2(y - centre[1], x - centre[0]));
+  const [x, y] = centre, start = Math.atan2(from[1] - y, from[0] - x), end = Math.atan2(to[1] - y, to[0] - x);
   const turn = (isClockwise ? start - end : end - start) % (2 * Math.PI);
   return turn <= 0 ? turn + 2 * Math.PI : turn;
 }
@@ -156,10 +175,15 @@ export function lengthOf(ways) {
  * @returns {Pair[]}
  */
 export function cornersOf(ways) {
-  if (!ways.length) return [];
-  const all = [ways[0].from, ...ways.map(({ to }) => to)];
-  const corners = all.filter((corner, at) => at === 0 || !isSame(corner, all[at - 1]));
-  if (corners.length > 1 && isSame(corners[0], corners[corners.length - 1])) corners.pop();
+  const [first] = ways;
+  if (!first) return [];
+  const corners = [first.from];
+  let last = first.from;
+  for (const { to } of ways) {
+    if (!isSame(to, last)) corners.push(to);
+    last = to;
+  }
+  if (corners.length > 1 && isSame(first.from, last)) corners.pop();
   return corners;
 }
 
@@ -190,9 +214,9 @@ function reaches(arc) {
   const axes = passed(arc);
   if (!arc.centre || !axes.length) return { points: [], isExact: true };
   const [x, y] = arc.centre, { nm, isExact } = distance(arc.from, arc.centre);
-  /** @type {Record<number, Pair>} */
-  const at = { 0: [x + nm, y], 2: [x, y + nm], 4: [x - nm, y], 6: [x, y - nm] };
-  return { points: axes.map((axis) => at[axis]), isExact };
+  /** @param {number} axis @returns {Pair} */
+  const at = (axis) => axis === 0 ? [x + nm, y] : axis === 2 ? [x, y + nm] : axis === 4 ? [x - nm, y] : [x, y - nm];
+  return { points: axes.map(at), isExact };
 }
 
 /**
@@ -220,6 +244,14 @@ export function joined(one, other) {
   if (!one || !other) return one ?? other;
   return { left: Math.min(one.left, other.left), low: Math.min(one.low, other.low), right: Math.max(one.right, other.right),
     high: Math.max(one.high, other.high), isExact: one.isExact && other.isExact };
+}
+
+/**
+ * The sides of a box.
+ * @param {Box} box
+ */
+export function sidesOf({ left, low, right, high, isExact }) {
+  return { width: { nm: right - left, isExact }, height: { nm: high - low, isExact } };
 }
 
 /**

@@ -80,8 +80,8 @@ class Making {
 
   /** @param {string} component */
   component(component) {
-    const said = this.components.get(component) ?? new Map();
-    const details = [".CVal", ".CPkg"].flatMap((name) => said.get(name)?.fields.map(plain).join(", ") ?? []);
+    const said = this.components.get(component);
+    const details = [".CVal", ".CPkg"].flatMap((name) => said?.get(name)?.fields.map(plain).join(", ") ?? []);
     return this.entry("component", component, () => ({ text: component, detail: details.join(", "), keys: [component, ...details] }));
   }
 
@@ -149,7 +149,7 @@ class OfLayer {
   /** @param {string} words those of an item; or the head of one, its kind and number @returns {Entry[]} */
   ofNumber(words) {
     const [kind, word] = words.split(" ", 2), number = Number(word);
-    if (kind === "region" || kind === "repeat" || !Number.isInteger(number)) return [];
+    if (kind === "region" || kind === "repeat" || word === undefined || !Number.isInteger(number)) return [];
     const key = kind === "flash" ? word : `pen ${word}`, known = this.byNumber.get(key);
     if (known) return known;
     const { making, layer } = this, entries = [making.aperture(layer, number), ...this.ofAttributes(layer.ofAperture(number))];

@@ -2,6 +2,7 @@
 
 import { boxOfPrimitives, foundIn, primitiveOf, upright } from "./macro_shapes.js";
 import { counted, exact, lengthText, sidesText, sizeText } from "./measures.js";
+import { sidesOf } from "./paths.js";
 
 /** @typedef {import("./measures.js").Length} Length */
 /** @typedef {import("./measures.js").Unit} Unit */
@@ -32,18 +33,20 @@ const nm = (text) => Math.round(Number(text) * 1e6);
 const HEAD = /^(aperture|block|tool) (\d+)/;
 const STANDARD = /^%ADD\d+([CROP]),([-+.\dX]*)\*%$/;
 const TOOL = /^T\d+C([.\d]+)$/;
-/** @type {Record<string, "circle" | "rectangle" | "obround">} */
-const NAMES = { C: "circle", R: "rectangle", O: "obround" };
+/** @type {Map<string, "circle" | "rectangle" | "obround">} */
+const NAMES = new Map([["C", "circle"], ["R", "rectangle"], ["O", "obround"]]);
+/** How many parameters stand before the hole. */
+const HOLE_AT = new Map([["C", 1], ["R", 2], ["O", 2], ["P", 3]]);
 
 /** @param {number} number @param {string} template @param {string[]} parameters @returns {Shape} */
 function standard(number, template, parameters) {
-  const sizes = parameters.map(nm), holeAt = { C: 1, R: 2, O: 2, P: 3 }[template] ?? 0;
-  const hole = sizes.length > holeAt && sizes[holeAt] > 0 ? sizes[holeAt] : null, width = exact(sizes[0]);
+  const sizes = parameters.map(nm), [size = NaN, other = NaN] = sizes, width = exact(size);
+  const bore = sizes[HOLE_AT.get(template) ?? 0] ?? 0, hole = bore > 0 ? bore : null;
   if (template === "P") {
     const corners = Number(parameters[1]), step = 360 / corners, angle = Number(parameters[2] ?? 0);
     return shape("polygon", number, { width, height: width, corners, angle: ((angle % step) + step) % step, hole });
   }
-  return shape(NAMES[template], number, { width, height: template === "C" ? width : exact(sizes[1]), hole });
+  return shape(NAMES.get(template) ?? "unknown", number, { width, height: template === "C" ? width : exact(other), hole });
 }
 
 /** @param {number} number @param {string[]} lines @returns {Shape} */
@@ -51,15 +54,13 @@ function ofPrimitives(number, lines) {
   const list = lines.map(primitiveOf);
   /** @type {import("./macro_shapes.js").Primitive[]} */
   const primitives = list.flatMap((primitive) => primitive ?? []);
-  if (!primitives.length || primitives.length < list.length) return shape("unknown", number);
-  const last = primitives[primitives.length - 1], before = primitives.slice(0, -1);
+  const last = primitives.at(-1), before = primitives.slice(0, -1);
+  if (!last || primitives.length < list.length) return shape("unknown", number);
   const hasHole = !last.isOn && last.kind === "disc" && last.points[0].every((each) => each === 0);
   const body = hasHole ? before : primitives, found = body.length && body.every(({ isOn }) => isOn) ? foundIn(body) : null;
   if (found) return shape(found.kind, number, { ...found, hole: hasHole ? last.width : null });
   const box = boxOfPrimitives(primitives), parts = primitives.length;
-  if (!box) return shape("primitives", number, { parts });
-  const { left, low, right, high, isExact } = box;
-  return shape("primitives", number, { parts, width: { nm: right - left, isExact }, height: { nm: high - low, isExact } });
+  return shape("primitives", number, box ? { parts, ...sidesOf(box) } : { parts });
 }
 
 /** @param {string} kind @param {number} number @param {string[]} lines @returns {Shape} */
@@ -72,8 +73,8 @@ function shapeOf(kind, number, lines) {
     const diameter = exact(nm(TOOL.exec(lines[0] ?? "")?.[1]));
     return Number.isFinite(diameter.nm) ? shape("tool", number, { width: diameter, height: diameter }) : shape("unknown", number);
   }
-  const found = STANDARD.exec(lines[0] ?? "");
-  if (found) return standard(number, found[1], found[2].split("X"));
+  const [, template, parameters = ""] = STANDARD.exec(lines[0] ?? "") ?? [];
+  if (template) return standard(number, template, parameters.split("X"));
   return ofPrimitives(number, lines.filter((line) => /^\d/.test(line)));
 }
 
@@ -83,14 +84,14 @@ function shapeOf(kind, number, lines) {
  * @returns {Map<number, Shape>}
  */
 export function shapesOf(lines) {
-  /** @type {Map<number, Shape>} */
-  const shapes = new Map();
-  for (let at = 0; at < lines.length;) {
-    const head = HEAD.exec(lines[at]), from = at + 1;
-    for (at = from; at < lines.length && !HEAD.test(lines[at]); at++);
-    if (head) shapes.set(Number(head[2]), shapeOf(head[1], Number(head[2]), lines.slice(from, at)));
+  /** @type {{kind: string, number: number, below: string[]}[]} */
+  const heads = [];
+  for (const line of lines) {
+    const [, kind, number] = HEAD.exec(line) ?? [];
+    if (kind) heads.push({ kind, number: Number(number), below: [] });
+    else heads.at(-1)?.below.push(line);
   }
-  return shapes;
+  return new Map(heads.map(({ kind, number, below }) => [number, shapeOf(kind, number, below)]));
 }
 
 // As it lies once a flash has mirrored and turned it.
@@ -128,7 +129,7 @@ function bodyWords({ kind, width, height, angle, corners, parts }, unit, name) {
  * The words of an aperture as it is flashed: `round rectangle 1.00 by 1.20 mm`; the width is across and the height up as it lies.
  * @param {Shape} shape
  * @param {Unit} unit
- * @param {{turn?: string, name?: string}} more the turn of the flash, and the name of the aperture's macro
+ * @param {{turn?: string, name?: string | undefined}} more the turn of the flash, and the name of the aperture's macro
  * @returns {string} nothing where nothing is known
  */
 export function shapeWords(shape, unit, { turn = "r0", name } = {}) {
