@@ -24,12 +24,13 @@ export function white(width, height) {
  */
 export function bitsOf({ width, height, stride: bytes, bits }) {
   const made = white(width, height), { stride, words } = made, whole = bytes >> 2;
+  const byte = (/** @type {number} */ at) => /** @type {number} */ (bits[at]);
   for (let row = 0; row < height; row++) {
     let from = row * bytes, to = row * stride;
     for (const end = to + whole; to < end; to++, from += 4) {
-      words[to] = bits[from] << 24 | bits[from + 1] << 16 | bits[from + 2] << 8 | bits[from + 3];
+      words[to] = byte(from) << 24 | byte(from + 1) << 16 | byte(from + 2) << 8 | byte(from + 3);
     }
-    for (let left = bytes & 3, shift = 24; left > 0; left--, shift -= 8) words[to] |= bits[from++] << shift;
+    for (let left = bytes & 3, shift = 24; left > 0; left--, shift -= 8) words[to] |= byte(from++) << shift;
   }
   return made;
 }
@@ -41,7 +42,7 @@ export function bitsOf({ width, height, stride: bytes, bits }) {
  */
 export function addBlack(into, other) {
   checkSides(into, other);
-  for (let at = 0; at < into.words.length; at++) into.words[at] |= other.words[at];
+  for (let at = 0; at < into.words.length; at++) into.words[at] |= /** @type {number} */ (other.words[at]);
 }
 
 /**
@@ -50,7 +51,7 @@ export function addBlack(into, other) {
  * @returns {Bits | null}
  */
 export function joinedBits([first, ...others]) {
-  if (!others.length) return first ?? null;
+  if (!first || !others.length) return first ?? null;
   const made = { ...first, words: first.words.slice() };
   for (const other of others) addBlack(made, other);
   return made;
@@ -101,8 +102,9 @@ export function blackBox({ width, height, stride, words }) {
     while (first < end && words[first] === 0) first++;
     if (first === end) continue;
     while (words[last] === 0) last--;
-    left = Math.min(left, (first - start) * 32 + Math.clz32(words[first]));
-    right = Math.max(right, (last - start) * 32 + Math.clz32(words[last] & -words[last]) + 1);
+    const firstWord = words[first] ?? 0, lastWord = words[last] ?? 0;
+    left = Math.min(left, (first - start) * 32 + Math.clz32(firstWord));
+    right = Math.max(right, (last - start) * 32 + Math.clz32(lastWord & -lastWord) + 1);
     top = Math.min(top, row);
     low = row + 1;
   }
@@ -123,7 +125,7 @@ export function cropped({ stride, words }, { column: left, row: top, width, heig
     const from = Math.floor((top + row) / times) * stride, to = row * made.stride;
     for (let column = 0; column < width; column++) {
       const at = Math.floor((left + column) / times);
-      if (words[from + (at >> 5)] >>> (31 - (at & 31)) & 1) made.words[to + (column >> 5)] |= 0x80000000 >>> (column & 31);
+      if (/** @type {number} */ (words[from + (at >> 5)]) >>> (31 - (at & 31)) & 1) made.words[to + (column >> 5)] |= 0x80000000 >>> (column & 31);
     }
   }
   return made;
@@ -139,9 +141,9 @@ export function mirroredBits({ width, height, stride, words }) {
   for (let row = 0; row < height; row++) {
     // The reversed words of the row have its spare bits in front; what each lacks on its right comes from the next.
     const start = row * stride, last = start + stride - 1;
-    let word = reversed(words[last]);
+    let word = reversed(/** @type {number} */ (words[last]));
     for (let at = start; at <= last; at++) {
-      const next = at < last ? reversed(words[last - (at - start) - 1]) : 0;
+      const next = at < last ? reversed(/** @type {number} */ (words[last - (at - start) - 1])) : 0;
       made.words[at] = spare ? word << spare | next >>> (32 - spare) : word;
       word = next;
     }

@@ -40,8 +40,8 @@ const reachesOf = (radius) => Array.from({ length: radius + 1 }, (_, away) => Ma
 function openingsNear({ width, stride, words }, row, column, reach) {
   const at = row * stride + column, isLast = column === stride - 1, spare = 32 * stride - width;
   const real = (/** @type {boolean} */ isEnd) => (isEnd && spare ? 0xffffffff << spare : 0xffffffff);
-  const own = ~words[at] & real(isLast), left = column ? ~words[at - 1] : 0;
-  const right = isLast ? 0 : ~words[at + 1] & real(column === stride - 2);
+  const own = ~/** @type {number} */ (words[at]) & real(isLast), left = column ? ~/** @type {number} */ (words[at - 1]) : 0;
+  const right = isLast ? 0 : ~/** @type {number} */ (words[at + 1]) & real(column === stride - 2);
   let found = own;
   if (!(own | left | right)) return 0;
   for (let step = 1; step <= reach; step++) {
@@ -53,11 +53,12 @@ function openingsNear({ width, stride, words }, row, column, reach) {
 // The pixels of a word of plated holes that are no farther from one that is no plated hole than the wall is wide.
 /** @param {Bits} holes @param {number} row @param {number} column of words @param {number[]} reaches */
 function wallOf(holes, row, column, reaches) {
-  const word = holes.words[row * holes.stride + column];
+  const word = /** @type {number} */ (holes.words[row * holes.stride + column]);
   let found = 0;
   for (let away = 0; away < reaches.length && (found & word) !== word; away++) {
-    if (row >= away) found |= openingsNear(holes, row - away, column, reaches[away]);
-    if (row + away < holes.height) found |= openingsNear(holes, row + away, column, reaches[away]);
+    const reach = /** @type {number} */ (reaches[away]);
+    if (row >= away) found |= openingsNear(holes, row - away, column, reach);
+    if (row + away < holes.height) found |= openingsNear(holes, row + away, column, reach);
   }
   return found & word;
 }
@@ -70,19 +71,22 @@ function wallOf(holes, row, column, reaches) {
  * @throws {Error} where the pictures are of several windows
  */
 export function materialsOf({ board, copper, mask, silkscreen, plated, nonplated }, pitch) {
-  const { width, height, stride } = board, planes = [0, 1, 2].map(() => white(width, height));
+  const { width, height, stride } = board;
+  /** @type {Materials["planes"]} */
+  const planes = [white(width, height), white(width, height), white(width, height)];
   for (const picture of [copper, mask, silkscreen, plated, nonplated]) if (picture) checkSides(board, picture);
-  const [ones, twos, fours] = planes.map(({ words }) => words), reaches = reachesOf(wallPixels(pitch));
-  const within = board.words, none = new Uint32Array(within.length);
-  const [coppers, openings, prints, platedHoles, otherHoles] = [copper, mask, silkscreen, plated, nonplated]
-    .map((picture) => picture?.words ?? none);
+  const [{ words: ones }, { words: twos }, { words: fours }] = planes, reaches = reachesOf(wallPixels(pitch));
+  const within = board.words, none = new Uint32Array(within.length), wordsOf = (/** @type {Bits | null} */ picture) => picture?.words ?? none;
+  const coppers = wordsOf(copper), openings = wordsOf(mask), prints = wordsOf(silkscreen), platedHoles = wordsOf(plated);
+  const otherHoles = wordsOf(nonplated);
   for (let at = 0, column = 0, row = 0; at < within.length; at++) {
     const inside = within[at];
     if (inside) {
-      const through = platedHoles[at], undrilled = inside & ~otherHoles[at], isOpen = openings[at], isCopper = coppers[at];
-      const wall = through & undrilled ? wallOf(/** @type {Bits} */ (plated), row, column, reaches) & undrilled : 0;
+      const through = /** @type {number} */ (platedHoles[at]), undrilled = inside & ~/** @type {number} */ (otherHoles[at]);
+      const isOpen = /** @type {number} */ (openings[at]), isCopper = /** @type {number} */ (coppers[at]);
+      const wall = plated && through & undrilled ? wallOf(plated, row, column, reaches) & undrilled : 0;
       const solid = undrilled & ~through;
-      const print = solid & prints[at] & ~isOpen, rest = solid & ~print, bare = mask ? rest & isOpen : rest, covered = rest & ~bare;
+      const print = solid & /** @type {number} */ (prints[at]) & ~isOpen, rest = solid & ~print, bare = mask ? rest & isOpen : rest, covered = rest & ~bare;
       // Laminate is 1, mask 2, mask over copper 3, copper 4, silkscreen 5, wall 6.
       ones[at] = bare & ~isCopper | covered & isCopper | print;
       twos[at] = covered | wall;
@@ -93,7 +97,7 @@ export function materialsOf({ board, copper, mask, silkscreen, plated, nonplated
       row++;
     }
   }
-  return { width, height, planes: /** @type {[Bits, Bits, Bits]} */ (planes) };
+  return { width, height, planes };
 }
 
 /**
@@ -101,8 +105,8 @@ export function materialsOf({ board, copper, mask, silkscreen, plated, nonplated
  * @param {Materials} materials
  * @returns {Materials}
  */
-export function mirrored({ width, height, planes }) {
-  return { width, height, planes: /** @type {[Bits, Bits, Bits]} */ (planes.map(mirroredBits)) };
+export function mirrored({ width, height, planes: [ones, twos, fours] }) {
+  return { width, height, planes: [mirroredBits(ones), mirroredBits(twos), mirroredBits(fours)] };
 }
 
 // Eight pixels of a plane, each in four bits.
@@ -112,6 +116,9 @@ const SPREAD = Uint32Array.from({ length: 256 }, (_, byte) => {
   return spread;
 });
 
+/** @param {number} byte */
+const spreadOf = (byte) => /** @type {number} */ (SPREAD[byte]);
+
 /**
  * The materials in rows of four bits a pixel, the left one of two in the upper half of their byte, with room before each row.
  * @param {Materials} materials
@@ -119,19 +126,19 @@ const SPREAD = Uint32Array.from({ length: 256 }, (_, byte) => {
  * @returns {Uint8Array}
  */
 export function nibbleRows({ width, height, planes }, before = 0) {
-  const bytes = Math.ceil(width / 2), length = before + bytes, made = new Uint8Array(length * height), { stride } = planes[0];
-  const [ones, twos, fours] = planes.map(({ words }) => words);
+  const bytes = Math.ceil(width / 2), length = before + bytes, made = new Uint8Array(length * height);
+  const [{ words: ones, stride }, { words: twos }, { words: fours }] = planes;
   for (let row = 0; row < height; row++) {
     let to = row * length + before;
     const end = to + bytes;
     for (let at = row * stride; to < end; at++) {
-      const one = ones[at], two = twos[at], four = fours[at];
+      const one = /** @type {number} */ (ones[at]), two = /** @type {number} */ (twos[at]), four = /** @type {number} */ (fours[at]);
       if (!(one | two | four)) {
         to += 16;
         continue;
       }
       for (let shift = 24; shift >= 0 && to < end; shift -= 8) {
-        const eight = SPREAD[one >>> shift & 255] | SPREAD[two >>> shift & 255] << 1 | SPREAD[four >>> shift & 255] << 2;
+        const eight = spreadOf(one >>> shift & 255) | spreadOf(two >>> shift & 255) << 1 | spreadOf(four >>> shift & 255) << 2;
         made[to++] = eight >>> 24;
         if (to < end) made[to++] = eight >>> 16;
         if (to < end) made[to++] = eight >>> 8;
@@ -150,6 +157,6 @@ export function nibbleRows({ width, height, planes }, before = 0) {
  */
 export function materialAt({ planes }, column, row) {
   return planes.reduce((number, { stride, words }, place) => {
-    return number | (words[row * stride + (column >> 5)] >>> (31 - (column & 31)) & 1) << place;
+    return number | ((words[row * stride + (column >> 5)] ?? 0) >>> (31 - (column & 31)) & 1) << place;
   }, 0);
 }

@@ -32,7 +32,7 @@ export class Outline {
   constructor(lines, loops) {
     this.lines = lines;
     this.loops = loops;
-    const [xs, ys] = [0, 1].map((at) => lines.flatMap((line) => line.map((place) => place[at])));
+    const places = lines.flat(), xs = places.map(([x]) => x), ys = places.map(([, y]) => y);
     const least = (/** @type {number[]} */ list) => list.reduce((one, other) => Math.min(one, other));
     const most = (/** @type {number[]} */ list) => list.reduce((one, other) => Math.max(one, other));
     /** The least box around its lines, in nm. */
@@ -64,11 +64,12 @@ const pixelWay = (way, grid) => Float64Array.from(way.flatMap(([x, y]) => [grid.
 // Whether the middle of a pixel lies in a way: whether it is crossed an odd number of times to the right of it.
 /** @param {Float64Array} way @param {number} column @param {number} row */
 function isIn(way, column, row) {
-  let isInside = false;
+  let isInside = false, [left = 0, above = 0] = way;
   for (let at = 3; at < way.length; at += 2) {
-    const above = way[at - 2], below = way[at];
-    if (above > row === below > row) continue;
-    if (column < way[at - 3] + (row - above) / (below - above) * (way[at - 1] - way[at - 3])) isInside = !isInside;
+    const right = /** @type {number} */ (way[at - 1]), below = /** @type {number} */ (way[at]);
+    if (above > row !== below > row && column < left + (row - above) / (below - above) * (right - left)) isInside = !isInside;
+    left = right;
+    above = below;
   }
   return isInside;
 }

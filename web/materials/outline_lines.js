@@ -12,6 +12,7 @@ const CLEAR = / clear\b/;
  * @returns {{closed: Pair[][], isWhole: boolean}}
  */
 export function outlineLines(items) {
+  /** @type {Pair[][]} */
   const lines = [];
   let isWhole = true;
   for (const words of items) {

@@ -27,7 +27,7 @@ export function reduced(rows, width, height, colours, most) {
     counts.fill(0);
     for (let row = y * step; row < last; row++) {
       for (let column = 0, at = 0, left = step; column < width; column++) {
-        counts[at + (rows[row * bytes + (column >> 1)] >> (column & 1 ? 0 : 4) & 15)]++;
+        counts[at + (/** @type {number} */ (rows[row * bytes + (column >> 1)]) >> (column & 1 ? 0 : 4) & 15)]++;
         if (--left === 0) {
           at += colours.length;
           left = step;
@@ -45,11 +45,11 @@ export function reduced(rows, width, height, colours, most) {
 // The mean of the materials but nothing, which is the first; and how much of the square they are.
 /** @param {Uint32Array} counts @param {number} all @param {Uint8Array} channels @param {Uint8Array} pixels @param {number} to */
 function mix(counts, all, channels, pixels, to) {
-  const there = all - counts[0];
+  const there = all - (counts[0] ?? 0);
   if (there === 0) return;
   for (let channel = 0; channel < 3; channel++) {
     let sum = 0;
-    for (let number = 1; number < counts.length; number++) sum += counts[number] * channels[3 * number + channel];
+    for (let number = 1; number < counts.length; number++) sum += /** @type {number} */ (counts[number]) * /** @type {number} */ (channels[3 * number + channel]);
     pixels[to + channel] = Math.round(sum / there);
   }
   pixels[to + 3] = Math.round(255 * there / all);

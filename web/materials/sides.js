@@ -39,7 +39,11 @@ function lowestOf(layers) {
 // The plated holes of a side: those through all of the board, and those that end inside it.
 /** @param {Plotted[]} layers @param {Side} side */
 function platedOf(layers, side) {
-  const lowest = lowestOf(layers), through = [], ending = [];
+  const lowest = lowestOf(layers);
+  /** @type {Bits[]} */
+  const through = [];
+  /** @type {Bits[]} */
+  const ending = [];
   for (const layer of layers.filter(({ shows }) => HOLES.includes(shows))) {
     const { from, to } = spanOf(layer) ?? { from: 1, to: lowest };
     if (from === 1 && to >= lowest) through.push(layer.bits);
@@ -65,8 +69,9 @@ export function boardOf(layers) {
     const board = withinOutline(outline);
     if (board) return { board, told: null };
   }
-  if (!layers.length) throw new Error("no layer is there");
-  const { width, height } = layers[0].bits, made = layers.filter(({ shows }) => isMade(shows)).map(({ bits }) => bits);
+  const [first] = layers;
+  if (!first) throw new Error("no layer is there");
+  const { width, height } = first.bits, made = layers.filter(({ shows }) => isMade(shows)).map(({ bits }) => bits);
   const around = outlines.map(blackBox).find((box) => box), all = joinedBits(made), box = around ?? (all && blackBox(all));
   return { board: box ? boxBits(width, height, box) : white(width, height), told: around ? OPEN_OUTLINE : NO_OUTLINE };
 }

@@ -5,8 +5,9 @@
 function meanOf(numbers, channels) {
   const there = numbers.filter((number) => number > 0);
   if (!there.length) return 0;
-  const [red, green, blue] = [0, 1, 2].map((at) => Math.round(there.reduce((sum, number) => sum + channels[number][at], 0) / there.length));
-  return (Math.round(255 * there.length / 4) << 24 | blue << 16 | green << 8 | red) >>> 0;
+  /** @param {number} channel */
+  const mean = (channel) => Math.round(there.reduce((sum, number) => sum + (channels[number]?.[channel] ?? 0), 0) / there.length);
+  return (Math.round(255 * there.length / 4) << 24 | mean(2) << 16 | mean(1) << 8 | mean(0)) >>> 0;
 }
 
 // Two pixels in a byte of four bits each, in six bits.
@@ -28,6 +29,9 @@ export function colourSquares(rows, width, height, colours, pixels) {
     if (numbers.every((number) => number < channels.length)) means[four] = meanOf(numbers, channels);
   }
   for (let row = 0, to = 0; row < height; row += 2) {
-    for (let upper = row * bytes, end = upper + bytes; upper < end; upper++) pixels[to++] = means[SIX[rows[upper]] << 6 | SIX[rows[upper + bytes]]];
+    for (let upper = row * bytes, end = upper + bytes; upper < end; upper++) {
+      const above = /** @type {number} */ (SIX[/** @type {number} */ (rows[upper])]), below = /** @type {number} */ (SIX[/** @type {number} */ (rows[upper + bytes])]);
+      pixels[to++] = /** @type {number} */ (means[above << 6 | below]);
+    }
   }
 }

@@ -28,7 +28,7 @@ function countOf(word) {
 // A word of a row; the bits after its last column continue its last pixel, so that no run begins there.
 /** @param {Bits} picture @param {number} row @param {number} column of words */
 function wordAt({ width, stride, words }, row, column) {
-  const word = words[row * stride + column], spare = 32 * stride - width;
+  const word = /** @type {number} */ (words[row * stride + column]), spare = 32 * stride - width;
   if (!spare || column < stride - 1) return word;
   return word >>> spare & 1 ? word | ~(0xffffffff << spare) : word;
 }
@@ -56,15 +56,15 @@ function runsOf(picture, count) {
   const offsets = new Int32Array(height + 1), starts = new Uint16Array(count), isBlack = new Uint8Array(count);
   let at = 0;
   for (let row = 0; row < height; row++) {
-    let before = 0;
-    isBlack[at++] = wordAt(picture, row, 0) >>> 31;
+    let before = 0, black = wordAt(picture, row, 0) >>> 31;
+    isBlack[at++] = black;
     for (let column = 0; column < stride; column++) {
       const word = wordAt(picture, row, column);
       let changes = changesOf(word, before) & (column ? 0xffffffff : 0x7fffffff);
       for (; changes; at++) {
         const place = Math.clz32(changes);
         starts[at] = column * 32 + place;
-        isBlack[at] = isBlack[at - 1] ^ 1;
+        isBlack[at] = black ^= 1;
         changes &= ~(0x80000000 >>> place);
       }
       before = word;
@@ -79,19 +79,20 @@ function runsOf(picture, count) {
 /** @param {Alternating} runs @param {boolean} isWhole @returns {Union} */
 function piecesOf({ width, height, offsets, starts, isBlack }, isWhole) {
   const pieces = new Union(starts.length + 1);
-  const endOf = (/** @type {number} */ at, /** @type {number} */ end) => (at + 1 < end ? starts[at + 1] : width);
-  for (let row = 0; row < height; row++) {
-    const first = offsets[row], end = offsets[row + 1], isAtSide = row === 0 || row === height - 1;
-    let above = row ? offsets[row - 1] : 0;
+  const endOf = (/** @type {number} */ at, /** @type {number} */ end) => (at + 1 < end ? /** @type {number} */ (starts[at + 1]) : width);
+  for (let row = 0, above = 0, first = 0; row < height; row++) {
+    const end = /** @type {number} */ (offsets[row + 1]), isAtSide = row === 0 || row === height - 1;
     for (let at = first; at < end; at++) {
-      const black = isBlack[at], until = endOf(at, end) + black, from = starts[at] - black;
+      const black = /** @type {number} */ (isBlack[at]), until = endOf(at, end) + black, from = /** @type {number} */ (starts[at]) - black;
       if (isWhole && !black && (isAtSide || at === first || at === end - 1)) pieces.join(0, at + 1);
       if (row === 0) continue;
       while (endOf(above, first) <= from) above++;
-      for (let touched = above; touched < first && starts[touched] < until; touched++) {
+      for (let touched = above; touched < first && /** @type {number} */ (starts[touched]) < until; touched++) {
         if (isBlack[touched] === black) pieces.join(touched + 1, at + 1);
       }
     }
+    above = first;
+    first = end;
   }
   return pieces;
 }
@@ -104,15 +105,15 @@ function boardPieces({ starts, isBlack }, pieces) {
   for (let at = 0; at < starts.length; at++) {
     const piece = at + 1;
     if (pieces.find(piece) !== piece) continue;
-    holder[piece] = starts[at] === 0 ? 0 : pieces.find(at);
+    const held = starts[at] === 0 ? 0 : pieces.find(at);
+    holder[piece] = held;
     if (isBlack[at]) {
       // A line in the board is board; one around board becomes it below.
-      isBoard[piece] = isBoard[holder[piece]];
+      isBoard[piece] = /** @type {number} */ (isBoard[held]);
       continue;
     }
-    const line = holder[piece];
-    isBoard[piece] = isBoard[holder[line]] ^ 1;
-    encloses[line] = 1;
+    isBoard[piece] = /** @type {number} */ (isBoard[/** @type {number} */ (holder[held])]) ^ 1;
+    encloses[held] = 1;
     isAny = true;
   }
   for (let piece = 1; piece <= starts.length; piece++) if (encloses[piece]) isBoard[piece] = 1;
@@ -144,10 +145,10 @@ export function withinPart(lines, isBoardAt) {
   const runs = runsOf(lines, runCount(lines)), pieces = piecesOf(runs, false), { width, height, offsets, starts, isBlack } = runs;
   /** @type {Map<number, {length: number, column: number, row: number}>} */
   const longest = new Map();
-  for (let row = 0; row < height; row++) {
-    for (let at = offsets[row]; at < offsets[row + 1]; at++) {
-      const length = (at + 1 < offsets[row + 1] ? starts[at + 1] : width) - starts[at], piece = pieces.find(at + 1);
-      if (!isBlack[at] && length > (longest.get(piece)?.length ?? 0)) longest.set(piece, { length, column: starts[at] + (length >> 1), row });
+  for (let row = 0, at = 0; row < height; row++) {
+    for (const end = /** @type {number} */ (offsets[row + 1]); at < end; at++) {
+      const from = /** @type {number} */ (starts[at]), length = (at + 1 < end ? /** @type {number} */ (starts[at + 1]) : width) - from, piece = pieces.find(at + 1);
+      if (!isBlack[at] && length > (longest.get(piece)?.length ?? 0)) longest.set(piece, { length, column: from + (length >> 1), row });
     }
   }
   const board = new Set([...longest].filter(([, { column, row }]) => isBoardAt(column, row)).map(([piece]) => piece));
@@ -158,10 +159,9 @@ export function withinPart(lines, isBoardAt) {
 /** @param {Alternating} runs @param {(at: number) => boolean} isPicked */
 function picked({ width, height, offsets, starts }, isPicked) {
   const made = white(width, height);
-  for (let row = 0; row < height; row++) {
-    const end = offsets[row + 1];
-    for (let at = offsets[row]; at < end; at++) {
-      if (isPicked(at)) blacken(made, row, starts[at], at + 1 < end ? starts[at + 1] : width);
+  for (let row = 0, at = 0; row < height; row++) {
+    for (const end = /** @type {number} */ (offsets[row + 1]); at < end; at++) {
+      if (isPicked(at)) blacken(made, row, /** @type {number} */ (starts[at]), at + 1 < end ? /** @type {number} */ (starts[at + 1]) : width);
     }
   }
   return made;
