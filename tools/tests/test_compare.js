@@ -230,7 +230,7 @@ suite("the parts", () => {
   });
 
   test("what is no canonical text is told", () => {
-    for (const text of ["X1Y1D03*\n", "hello\n", "%LPX*%\n%XX*%\n", "G37*\n", "D10*\n", "%AB*%\n"]) {
+    for (const text of ["X1Y1D03*\n", "hello\n", "constructor\n", "__proto__\n", "%LPX*%\n%XX*%\n", "G37*\n", "D10*\n", "%AB*%\n"]) {
       assert.throws(() => readCanonical("gerber", Buffer.from(text), new Shapes()), /no line of a canonical text/, text);
     }
     assert.throws(() => readCanonical("drill", Buffer.from("T1\n"), new Shapes()), /no line of a canonical text/);

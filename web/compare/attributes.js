@@ -48,10 +48,10 @@ function ofFile(kind, text) {
   /** @type {string[]} */
   const comments = [];
   for (const [, comment, own] of text.matchAll(kind === "drill" ? DRILL : GERBER)) {
-    const standard = comment === undefined ? null : STANDARD.exec(comment);
+    const [, command, said = ""] = STANDARD.exec(comment ?? "") ?? [];
     if (own !== undefined) attributes.set(...named(own));
-    else if (standard && standard[1] === "F") attributes.set(...named(standard[2]));
-    else if (comment !== undefined && !standard) comments.push(comment.trim());
+    else if (command === "F") attributes.set(...named(said));
+    else if (comment !== undefined && !command) comments.push(comment.trim());
   }
   return { attributes, comments };
 }
@@ -63,9 +63,9 @@ function ofTools(text) {
   /** @type {Map<number, string>} */
   const tools = new Map();
   for (const line of text.split(/\r\n|\r|\n/)) {
-    const comment = /^[^;]*;(.*)$/.exec(line), standard = comment && STANDARD.exec(comment[1]), tool = TOOL.exec(line);
-    if (standard && standard[1] === "A") held.set(...named(standard[2]));
-    if (standard && standard[1] === "D") held.clear();
+    const [, comment = ""] = /^[^;]*;(.*)$/.exec(line) ?? [], [, command, said = ""] = STANDARD.exec(comment) ?? [], tool = TOOL.exec(line);
+    if (command === "A") held.set(...named(said));
+    if (command === "D") held.clear();
     if (tool) tools.set(Number(tool[1]), [...held].map(([name, fields]) => `${name},${fields}`).sort().join("\n"));
     if (/^[ \t]*(%|M30)/.test(line)) break;
   }
@@ -89,15 +89,15 @@ function ofItems({ kind, items, entries }, bytes) {
   if (!SETS.test(latin1(bytes))) return items.map(() => "");
   if (kind === "drill") {
     const tools = ofTools(latin1(bytes));
-    return items.map((_, at) => tools.get(entries[at]) ?? "");
+    return entries.map((entry) => tools.get(entry) ?? "");
   }
   const reading = readAttributes(bytes);
   if (reading.count !== items.length) throw new NotJoined("the file", "another number of items");
   /** @type {Map<string, string>} */
   const known = new Map();
   const apertures = new Map([...reading.apertures].map(([number, attributes]) => [number, linesOf(attributes)]));
-  return items.map((_, at) => {
-    const line = [saidOf(reading.items[at]), apertures.get(entries[at]) ?? ""].filter((part) => part).join("\n");
+  return reading.items.map((said, at) => {
+    const line = [saidOf(said), apertures.get(entries[at] ?? -1) ?? ""].filter((part) => part).join("\n");
     const same = known.get(line);
     if (same === undefined) known.set(line, line);
     return same ?? line;
@@ -142,19 +142,21 @@ const told = (fields) => (fields === undefined ? null : plainText(fields));
  * @param {string[]} other
  */
 function compareItems(differences, items, places, one, other) {
-  /** @type {Map<string, number[]>} */
+  /** @type {Map<string, {at: number, line: string, second: string}[]>} */
   const unlike = new Map();
-  places.forEach((place, at) => {
-    if (place < 0 || one[at] === other[place]) return;
-    const equal = unlike.get(items[at]);
-    if (equal) equal.push(at);
-    else unlike.set(items[at], [at]);
+  items.forEach((item, at) => {
+    const place = places[at] ?? -1, line = one[at] ?? "", second = other[place] ?? "";
+    if (place < 0 || line === second) return;
+    const equal = unlike.get(item);
+    if (equal) equal.push({ at, line, second });
+    else unlike.set(item, [{ at, line, second }]);
   });
   for (const equal of unlike.values()) {
-    const first = equal.map((at) => ({ at, line: one[at] })), second = equal.map((at) => other[places[at]]).sort();
-    first.sort((a, b) => (a.line < b.line ? -1 : a.line > b.line ? 1 : 0));
-    first.forEach(({ at, line }, place) => {
-      if (line !== second[place]) differences.add("items", fieldsOf(line), fieldsOf(second[place]), at);
+    const seconds = equal.map(({ second }) => second).sort();
+    equal.sort((a, b) => (a.line < b.line ? -1 : a.line > b.line ? 1 : 0));
+    equal.forEach(({ at, line }, place) => {
+      const second = seconds[place] ?? "";
+      if (line !== second) differences.add("items", fieldsOf(line), fieldsOf(second), at);
     });
   }
 }
@@ -177,7 +179,7 @@ const undated = (text) => text.replace(DATE, "");
 /** @param {string[]} first @param {string[]} second @returns {Pick<SaidDifferences, "dates" | "comments">} */
 function comparedComments(first, second) {
   const one = alone(first, second), other = alone(second, first);
-  const isDated = one.length === other.length && one.every((text, at) => undated(text) === undated(other[at]));
+  const isDated = one.length === other.length && one.every((text, at) => undated(text) === undated(other[at] ?? ""));
   if (!one.length && !other.length) return { dates: [], comments: [] };
   /** @type {Said} */
   const said = { name: "comment", of: "comment", first: told(one[0]), second: told(other[0]), count: Math.max(one.length, other.length), place: null };
@@ -197,7 +199,7 @@ function comparedComments(first, second) {
  */
 export function comparedSaid(first, second, places) {
   const differences = new Differences();
-  const [one, other] = [first, second].map(({ layer, bytes }) => ofFile(layer.kind, latin1(bytes)));
+  const ofSide = (/** @type {Side} */ { layer, bytes }) => ofFile(layer.kind, latin1(bytes)), one = ofSide(first), other = ofSide(second);
   differences.add("file", one.attributes, other.attributes, null);
   let isRead = true;
   try {

@@ -69,8 +69,7 @@ const OPERATION = /^X(-?\d+)Y(-?\d+)(?:I(-?\d+)J(-?\d+))?D0([123])\*$/;
 const DEFINITION = /^ADD(\d+)(.*)$/;
 const REPEAT = /^SRX(\d+)Y(\d+)I(-?[\d.]+)J(-?[\d.]+)$/;
 const MOVE = "2", FLASH = "3";
-/** @type {Record<string, string>} */
-const MODES = { "G01*": "l", "G02*": "cw", "G03*": "ccw" };
+const MODES = new Map([["G01*", "l"], ["G02*", "cw"], ["G03*", "ccw"]]);
 
 // Objects in order, and what they stand in.
 class Home {
@@ -147,9 +146,9 @@ class GerberReader {
 
   /** @param {string} line @param {string} text */
   define(line, text) {
-    const found = DEFINITION.exec(text);
-    if (!found) throw new NotCanonical(line);
-    this.known.set(Number(found[1]), this.shapes.numberOf(this.macros.get(found[2]) ?? found[2]));
+    const [, number, what] = DEFINITION.exec(text) ?? [];
+    if (what === undefined) throw new NotCanonical(line);
+    this.known.set(Number(number), this.shapes.numberOf(this.macros.get(what) ?? what));
   }
 
   /** @param {string} text */
@@ -165,9 +164,9 @@ class GerberReader {
   /** @param {string} line @param {string} text */
   repeat(line, text) {
     if (text !== "SR") {
-      const found = REPEAT.exec(text);
-      if (!found) throw new NotCanonical(line);
-      this.homes.push(new Home(`repeat ${found[1]} ${found[2]} ${nmOf(found[3])} ${nmOf(found[4])}`));
+      const [, columns, rows, i, j] = REPEAT.exec(text) ?? [];
+      if (i === undefined || j === undefined) throw new NotCanonical(line);
+      this.homes.push(new Home(`repeat ${columns} ${rows} ${nmOf(i)} ${nmOf(j)}`));
       return;
     }
     const { head, items } = this.closed(text);
@@ -183,15 +182,16 @@ class GerberReader {
 
   /** @param {string} words @param {number} entry */
   keep(words, entry) {
-    const home = this.homes[this.homes.length - 1];
+    const home = this.homes.at(-1) ?? this.layer;
     home.items.push(words);
     home.entries.push(entry);
   }
 
   /** @param {string} line */
   word(line) {
-    if (MODES[line]) {
-      this.mode = MODES[line];
+    const mode = MODES.get(line);
+    if (mode) {
+      this.mode = mode;
     } else if (line === "G36*") {
       this.region = [];
     } else if (line === "G37*") {
@@ -215,16 +215,15 @@ class GerberReader {
 
   // A circle is the same under each turn.
   get turned() {
-    return this.shapes.texts[this.shape].startsWith("C,") ? "r0" : this.mirror + this.turn;
+    return this.shapes.texts[this.shape]?.startsWith("C,") ? "r0" : this.mirror + this.turn;
   }
 
   /** @param {string} line */
   operation(line) {
-    const found = OPERATION.exec(line);
-    if (!found) throw new NotCanonical(line);
-    const [, x, y, i, j, code] = found;
+    const [, x, y, i, j, code] = OPERATION.exec(line) ?? [];
+    if (x === undefined || y === undefined) throw new NotCanonical(line);
     if (!this.region && this.shape < 0 && code !== MOVE) throw new NotCanonical(line);
-    if (this.region) this.trace(this.region, found);
+    if (this.region) this.trace(this.region, code === MOVE, x, y, i, j);
     else if (code === FLASH) this.keep(`flash ${this.shape} ${x} ${y} ${this.turned} ${this.polarity}`, this.aperture);
     else if (code !== MOVE) this.stroke(x, y, i, j);
     this.x = x;
@@ -243,9 +242,16 @@ class GerberReader {
     return `${Number(this.x) + Number(i)} ${Number(this.y) + Number(j)}`;
   }
 
-  /** @param {string[]} words @param {RegExpExecArray} found */
-  trace(words, [, x, y, i, j, code]) {
-    if (code === MOVE) words.push(x, y);
+  /**
+   * @param {string[]} words
+   * @param {boolean} isStart
+   * @param {string} x
+   * @param {string} y
+   * @param {string | undefined} i
+   * @param {string | undefined} j
+   */
+  trace(words, isStart, x, y, i, j) {
+    if (isStart) words.push(x, y);
     else if (i === undefined) words.push("l", x, y);
     else words.push(this.mode, x, y, this.centre(i, j));
   }
@@ -270,10 +276,10 @@ class DrillReader {
 
   /** @param {string} line */
   read(line) {
-    const place = PLACE.exec(line);
-    if (place && this.shape < 0) throw new NotCanonical(line);
-    if (place) {
-      this.place(place[1], nmOf(place[2]), nmOf(place[3]));
+    const [, code, x, y] = PLACE.exec(line) ?? [];
+    if (x !== undefined && y !== undefined) {
+      if (this.shape < 0) throw new NotCanonical(line);
+      this.place(code, nmOf(x), nmOf(y));
     } else if (line === "M16" && this.rout) {
       this.keep(`rout ${this.shape} ${this.rout.join(" ")}`);
       this.rout = null;
@@ -299,9 +305,9 @@ class DrillReader {
 
   /** @param {string} line */
   toolLine(line) {
-    const found = TOOL.exec(line);
-    if (found) {
-      this.known.set(Number(found[1]), this.shapes.numberOf(`T${found[2]}`));
+    const [, number, diameter] = TOOL.exec(line) ?? [];
+    if (diameter !== undefined) {
+      this.known.set(Number(number), this.shapes.numberOf(`T${diameter}`));
       return;
     }
     this.tool = Number(line.slice(1));

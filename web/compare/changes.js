@@ -24,7 +24,9 @@ const SHARED = 0.25;
 
 /** @param {LooseItem} from @param {LooseItem} to */
 function differing(from, to) {
-  const parts = [], isHole = from.kind === "hit" || from.kind === "rout";
+  /** @type {string[]} */
+  const parts = [];
+  const isHole = from.kind === "hit" || from.kind === "rout";
   if (from.entry !== to.entry) parts.push(isHole ? "tool" : "aperture");
   if (from.polarity !== to.polarity) parts.push("polarity");
   if (from.turn !== to.turn) parts.push(from.kind === "arc" ? "direction" : "turn");
@@ -126,7 +128,9 @@ function changeOf({ from, to, parts }) {
  * @returns {Change[]}
  */
 export function changesOf(first, second, { went, came }) {
-  const loose = new Loose(went.map((place) => looseItem(place, first[place])), came.map((place) => looseItem(place, second[place])));
+  // (the places are those of a matching of both)
+  const ofList = (/** @type {readonly string[]} */ items) => (/** @type {number} */ place) => looseItem(place, /** @type {string} */ (items[place]));
+  const loose = new Loose(went.map(ofList(first)), came.map(ofList(second)));
   const hasEntry = (/** @type {LooseItem} */ { entry }) => entry !== "";
   loose.take(shiftedPairs(loose));
   for (const keyOf of SAME_PLACE) takeByKey(loose, keyOf, hasEntry);

@@ -11,6 +11,9 @@ const MOST_PIECES = 256;
 
 /** @type {Box} */
 const POINT = { left: 0, low: 0, right: 0, high: 0 };
+// To the right, up, to the left and down.
+/** @type {[x: number, y: number][]} */
+const QUARTERS = [[1, 0], [0, 1], [-1, 0], [0, -1]];
 /** @type {(text: string) => number} */
 const nm = (text) => Math.round(Number(text) * 1e6);
 
@@ -34,10 +37,11 @@ function widened(box, other) {
 function around(points) {
   const box = { left: Infinity, low: Infinity, right: -Infinity, high: -Infinity };
   for (let at = 0; at + 1 < points.length; at += 2) {
-    box.left = Math.min(box.left, points[at]);
-    box.right = Math.max(box.right, points[at]);
-    box.low = Math.min(box.low, points[at + 1]);
-    box.high = Math.max(box.high, points[at + 1]);
+    const x = /** @type {number} */ (points[at]), y = /** @type {number} */ (points[at + 1]);
+    box.left = Math.min(box.left, x);
+    box.right = Math.max(box.right, x);
+    box.low = Math.min(box.low, y);
+    box.high = Math.max(box.high, y);
   }
   return box;
 }
@@ -61,10 +65,10 @@ function turned(box, turn) {
  * @returns {Box | null}
  */
 function primitive(line) {
-  const [code, , ...words] = line.replace("*", "").split(","), numbers = words.map(nm);
-  if (code === "1") return shifted(centred(numbers[0], numbers[0]), numbers[1], numbers[2]);
-  if (code === "20") return widened(around(numbers.slice(1, 5)), centred(numbers[0], numbers[0]));
-  if (code === "21") return shifted(centred(numbers[0], numbers[1]), numbers[2], numbers[3]);
+  const [code, , ...words] = line.replace("*", "").split(","), numbers = words.map(nm), [a = NaN, b = NaN, c = NaN, d = NaN] = numbers;
+  if (code === "1") return shifted(centred(a, a), b, c);
+  if (code === "20") return widened(around(numbers.slice(1, 5)), centred(a, a));
+  if (code === "21") return shifted(centred(a, b), c, d);
   return code === "4" ? around(numbers.slice(1, -1)) : null;
 }
 
@@ -73,17 +77,15 @@ function primitive(line) {
  * @param {number[]} ends start, end and centre
  * @param {boolean} isClockwise
  */
-function arcBox([sx, sy, ex, ey, cx, cy], isClockwise) {
+function arcBox([sx = NaN, sy = NaN, ex = NaN, ey = NaN, cx = NaN, cy = NaN], isClockwise) {
   const radius = Math.max(Math.hypot(sx - cx, sy - cy), Math.hypot(ex - cx, ey - cy)), round = 2 * Math.PI;
   const start = Math.atan2(sy - cy, sx - cx), end = Math.atan2(ey - cy, ex - cx);
   const isWhole = sx === ex && sy === ey, box = around([sx, sy, ex, ey]);
   // How far a place of the circle lies from the start, along the arc.
   const along = (/** @type {number} */ angle) => ((isClockwise ? start - angle : angle - start) % round + round) % round;
   const passes = (/** @type {number} */ angle) => isWhole || along(angle) <= along(end);
-  return joined([box, ...[0, 1, 2, 3].filter((quarter) => passes(quarter * Math.PI / 2)).map((quarter) => {
-    const x = [1, 0, -1, 0][quarter], y = [0, 1, 0, -1][quarter];
-    return around([Math.floor(cx + x * radius), Math.floor(cy + y * radius), Math.ceil(cx + x * radius), Math.ceil(cy + y * radius)]);
-  })]) ?? box;
+  return joined([box, ...QUARTERS.filter((_, quarter) => passes(quarter * Math.PI / 2)).map(([x, y]) =>
+    around([Math.floor(cx + x * radius), Math.floor(cy + y * radius), Math.ceil(cx + x * radius), Math.ceil(cy + y * radius)]))]) ?? box;
 }
 
 /**
@@ -92,13 +94,13 @@ function arcBox([sx, sy, ex, ey, cx, cy], isClockwise) {
  * @returns {{kind: string, numbers: number[]}[]} numbers: start, end, and the centre of an arc
  */
 export function segmentsOf(words) {
+  /** @type {{kind: string, numbers: number[]}[]} */
   const segments = [];
-  let x = Number(words[2]), y = Number(words[3]);
-  for (let at = 4; at < words.length;) {
-    const kind = words[at], count = kind === "l" ? 2 : 4;
-    const numbers = [x, y, ...words.slice(at + 1, at + 1 + count).map(Number)];
+  let x = Number(words[2]), y = Number(words[3]), at = 4;
+  for (let kind = words[at]; kind !== undefined; kind = words[at]) {
+    const count = kind === "l" ? 2 : 4, numbers = [x, y, ...words.slice(at + 1, at + 1 + count).map(Number)];
     segments.push({ kind, numbers });
-    [, , x, y] = numbers;
+    [, , x = NaN, y = NaN] = numbers;
     at += 1 + count;
   }
   return segments;
@@ -131,11 +133,11 @@ export class Extents {
 
   /** @param {string} text @returns {Box | null} */
   reach(text) {
-    const [, sizes = ""] = text.split(","), sides = sizes.split("X").map(nm), lines = text.slice(1).split("\n");
+    const [, sizes = ""] = text.split(","), [side = NaN, other = NaN] = sizes.split("X").map(nm), lines = text.slice(1).split("\n");
     switch (text[0]) {
-      case "C": return centred(sides[0], sides[0]);
+      case "C": return centred(side, side);
       case "R":
-      case "O": return centred(sides[0], sides[1]);
+      case "O": return centred(side, other);
       case "T": return centred(nm(text.slice(1)), nm(text.slice(1)));
       case "M": return joined(lines.map(primitive));
       default: return joined(lines.filter((line) => line).map((line) => this.box(line)));
@@ -148,13 +150,13 @@ export class Extents {
    * @returns {Box}
    */
   box(item) {
-    const [head, ...objects] = item.split("\n  "), words = head.split(" ");
+    const [head = "", ...objects] = item.split("\n  "), words = head.split(" ");
     if (words[0] === "repeat") return this.repeat(words, objects);
     if (words[0] === "region") return joined(segmentsOf(words).map(segmentBox)) ?? around([Number(words[2]), Number(words[3])]);
-    const reach = this.shape(Number(words[1])), numbers = words.slice(2).map(Number);
+    const reach = this.shape(Number(words[1])), numbers = words.slice(2).map(Number), [x = NaN, y = NaN] = numbers;
     switch (words[0]) {
-      case "flash": return shifted(turned(reach, words[4]), numbers[0], numbers[1]);
-      case "draw": return widened(around(numbers.slice(0, 4)), turned(reach, words[6]));
+      case "flash": return shifted(turned(reach, words[4] ?? "r0"), x, y);
+      case "draw": return widened(around(numbers.slice(0, 4)), turned(reach, words[6] ?? "r0"));
       case "arc": return widened(arcBox(numbers, words[8] === "cw"), reach);
       default: return widened(around(numbers), reach);
     }
@@ -162,7 +164,7 @@ export class Extents {
 
   /** @param {string[]} words @param {string[]} objects */
   repeat(words, objects) {
-    const [columns, rows, stepX, stepY] = words.slice(1).map(Number), box = joined(objects.map((object) => this.box(object))) ?? POINT;
+    const [columns = NaN, rows = NaN, stepX = NaN, stepY = NaN] = words.slice(1).map(Number), box = joined(objects.map((object) => this.box(object))) ?? POINT;
     return joined([box, shifted(box, (columns - 1) * stepX, (rows - 1) * stepY)]) ?? box;
   }
 
@@ -174,8 +176,10 @@ export class Extents {
   boxes(item) {
     const words = item.split(" ");
     if (words[0] !== "draw" && words[0] !== "rout") return [this.box(item)];
-    const reach = this.shape(Number(words[1])), pen = words[0] === "draw" ? turned(reach, words[6]) : reach;
-    const points = words.slice(2, words[0] === "draw" ? 6 : undefined).map(Number), found = [];
+    const reach = this.shape(Number(words[1])), pen = words[0] === "draw" ? turned(reach, words[6] ?? "r0") : reach;
+    const points = words.slice(2, words[0] === "draw" ? 6 : undefined).map(Number);
+    /** @type {Box[]} */
+    const found = [];
     if (points.length < 4) return [this.box(item)];
     for (let at = 0; at + 3 < points.length; at += 2) found.push(...pieces(points.slice(at, at + 4)));
     return found.map((box) => widened(box, pen));
@@ -183,7 +187,7 @@ export class Extents {
 }
 
 /** @param {number[]} line from a point to another */
-function pieces([sx, sy, ex, ey]) {
+function pieces([sx = NaN, sy = NaN, ex = NaN, ey = NaN]) {
   const across = ex - sx, up = ey - sy;
   const count = Math.min(MOST_PIECES, Math.max(1, Math.ceil(Math.min(Math.abs(across), Math.abs(up)) / PIECE)));
   const place = (/** @type {number} */ at) => [sx + Math.round(across * at / count), sy + Math.round(up * at / count)];

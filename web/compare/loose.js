@@ -25,7 +25,7 @@ function relative(points, x, y) {
 /**
  * @param {number} place
  * @param {string} item
- * @param {{kind: string, entry?: string, turn?: string, polarity?: string, points: string[]}} parts
+ * @param {{kind: string, entry?: string | undefined, turn?: string | undefined, polarity?: string | undefined, points: string[]}} parts
  * @returns {LooseItem}
  */
 function made(place, item, { kind, entry = "", turn = "", polarity = "", points }) {
@@ -43,7 +43,7 @@ function looseRegion(place, item, words) {
     isX = !isX;
     return Number(word) - from;
   });
-  return { place, item, kind: "region", entry: "", turn: "", polarity: words[1], points: words.slice(2, 4), x, y, form: form.join(" ") };
+  return { place, item, kind: "region", entry: "", turn: "", polarity: words[1] ?? "", points: words.slice(2, 4), x, y, form: form.join(" ") };
 }
 
 /** @param {number} place @param {string} item @returns {LooseItem} */
@@ -61,7 +61,7 @@ function looseRepeat(place, item) {
  */
 export function looseItem(place, item) {
   if (item.startsWith("repeat")) return looseRepeat(place, item);
-  const words = item.split(" "), [kind, entry] = words;
+  const words = item.split(" "), [kind = "", entry] = words;
   switch (kind) {
     case "flash": return made(place, item, { kind, entry, points: words.slice(2, 4), turn: words[4], polarity: words[5] });
     case "draw": return made(place, item, { kind, entry, points: words.slice(2, 6), turn: words[6], polarity: words[7] });

@@ -17,12 +17,12 @@
 function numbered(first, second) {
   /** @type {Map<string, number>} */
   const known = new Map();
-  const [one, other] = [first, second].map((items) => Int32Array.from(items, (text) => {
+  const numbersOf = (/** @type {readonly string[]} */ items) => Int32Array.from(items, (text) => {
     let number = known.get(text);
     if (number === undefined) known.set(text, number = known.size);
     return number;
-  }));
-  return { one, other, count: known.size };
+  });
+  return { one: numbersOf(first), other: numbersOf(second), count: known.size };
 }
 
 /** Pairs of places of two lists of numbers. */
@@ -42,7 +42,7 @@ class Pairs {
    */
   take(at, place) {
     if (at < 0 || place < 0 || at >= this.one.length || place >= this.other.length) return false;
-    if (this.places[at] >= 0 || this.isTaken[place] || this.one[at] !== this.other[place]) return false;
+    if (/** @type {number} */ (this.places[at]) >= 0 || this.isTaken[place] || this.one[at] !== this.other[place]) return false;
     this.places[at] = place;
     this.isTaken[place] = 1;
     return true;
@@ -51,25 +51,25 @@ class Pairs {
   // What stands once in both lists.
   /** @param {number} count */
   single(count) {
-    const { one, other } = this, counts = [new Int32Array(count), new Int32Array(count)], at = new Int32Array(count);
+    const { one, other } = this, inOne = new Int32Array(count), inOther = new Int32Array(count), at = new Int32Array(count);
     one.forEach((number, place) => {
-      if (this.places[place] < 0) counts[0][number]++;
+      if (/** @type {number} */ (this.places[place]) < 0) inOne[number]++;
     });
     other.forEach((number, place) => {
       if (this.isTaken[place]) return;
-      counts[1][number]++;
+      inOther[number]++;
       at[number] = place;
     });
     one.forEach((number, place) => {
-      if (counts[0][number] === 1 && counts[1][number] === 1) this.take(place, at[number]);
+      if (inOne[number] === 1 && inOther[number] === 1) this.take(place, /** @type {number} */ (at[number]));
     });
   }
 
   // The neighbours of pairs.
   neighbours() {
-    const { places } = this;
-    for (let at = 0; at + 1 < places.length; at++) if (places[at] >= 0) this.take(at + 1, places[at] + 1);
-    for (let at = places.length - 1; at > 0; at--) if (places[at] >= 0) this.take(at - 1, places[at] - 1);
+    const { places } = this, placeOf = (/** @type {number} */ at) => /** @type {number} */ (places[at]);
+    for (let at = 0; at + 1 < places.length; at++) if (placeOf(at) >= 0) this.take(at + 1, placeOf(at) + 1);
+    for (let at = places.length - 1; at > 0; at--) if (placeOf(at) >= 0) this.take(at - 1, placeOf(at) - 1);
   }
 
   // What is left and equal, in order.
@@ -78,13 +78,14 @@ class Pairs {
     const { other, places, isTaken } = this, first = new Int32Array(count).fill(-1), next = new Int32Array(other.length);
     for (let place = other.length - 1; place >= 0; place--) {
       if (isTaken[place]) continue;
-      next[place] = first[other[place]];
-      first[other[place]] = place;
+      const number = /** @type {number} */ (other[place]);
+      next[place] = /** @type {number} */ (first[number]);
+      first[number] = place;
     }
     this.one.forEach((number, at) => {
-      if (places[at] >= 0 || first[number] < 0) return;
-      const place = first[number];
-      first[number] = next[place];
+      const place = /** @type {number} */ (first[number]);
+      if (/** @type {number} */ (places[at]) >= 0 || place < 0) return;
+      first[number] = /** @type {number} */ (next[place]);
       this.take(at, place);
     });
   }
@@ -137,15 +138,16 @@ export function longestRising(numbers) {
   const ends = [];
   const before = new Int32Array(numbers.length), isIn = new Uint8Array(numbers.length);
   for (let at = 0; at < numbers.length; at++) {
+    const number = /** @type {number} */ (numbers[at]);
     let low = 0, high = ends.length;
     while (low < high) {
       const middle = (low + high) >> 1;
-      if (numbers[ends[middle]] <= numbers[at]) low = middle + 1;
+      if (/** @type {number} */ (numbers[/** @type {number} */ (ends[middle])]) <= number) low = middle + 1;
       else high = middle;
     }
-    before[at] = low ? ends[low - 1] : -1;
+    before[at] = ends[low - 1] ?? -1;
     ends[low] = at;
   }
-  for (let at = ends.length ? ends[ends.length - 1] : -1; at >= 0; at = before[at]) isIn[at] = 1;
+  for (let at = ends.at(-1) ?? -1; at >= 0; at = /** @type {number} */ (before[at])) isIn[at] = 1;
   return isIn;
 }

@@ -51,21 +51,25 @@ export class Polarities {
  */
 function runsOf(polarities) {
   const runs = new Int32Array(polarities.length);
-  for (let at = 1; at < polarities.length; at++) {
-    runs[at] = runs[at - 1] + (polarities[at] === polarities[at - 1] && polarities[at] !== BOTH ? 0 : 1);
+  for (let at = 1, run = 0; at < polarities.length; at++) {
+    if (polarities[at] !== polarities[at - 1] || polarities[at] === BOTH) run++;
+    runs[at] = run;
   }
   return runs;
 }
 
-// The pairs of a matching whose order is not that of the others: each as its places in both lists.
-/** @param {number[][]} pairs @param {Int32Array} polarities by pairs */
+/** @typedef {{from: number, to: number, item: string}} Pair an item by its places in both lists */
+
+// The pairs of a matching whose order is not that of the others, by their numbers.
+/** @param {Pair[]} pairs @param {Int32Array} polarities by pairs */
 function unordered(pairs, polarities) {
-  const byFirst = Int32Array.from(pairs.keys()), bySecond = Int32Array.from(pairs.keys());
-  bySecond.sort((one, other) => pairs[one][1] - pairs[other][1]);
-  const first = runsOf(polarities), second = new Int32Array(pairs.length), runs = runsOf(bySecond.map((pair) => polarities[pair]));
-  bySecond.forEach((pair, at) => { second[pair] = runs[at]; });
-  byFirst.sort((one, other) => first[one] - first[other] || second[one] - second[other]);
-  const isIn = longestRising(byFirst.map((pair) => second[pair]));
+  const places = Int32Array.from(pairs, ({ to }) => to), byFirst = Int32Array.from(pairs.keys()), bySecond = Int32Array.from(pairs.keys());
+  const of = (/** @type {Int32Array} */ list, /** @type {number} */ pair) => /** @type {number} */ (list[pair]);
+  bySecond.sort((one, other) => of(places, one) - of(places, other));
+  const first = runsOf(polarities), second = new Int32Array(pairs.length), runs = runsOf(bySecond.map((pair) => of(polarities, pair)));
+  bySecond.forEach((pair, at) => { second[pair] = of(runs, at); });
+  byFirst.sort((one, other) => of(first, one) - of(first, other) || of(second, one) - of(second, other));
+  const isIn = longestRising(byFirst.map((pair) => of(second, pair)));
   return [...byFirst].filter((_, at) => !isIn[at]);
 }
 
@@ -86,25 +90,32 @@ function common(one, other) {
  *   item of the other polarity that has another place beside it now
  */
 export function reordered(first, places, shapes, extents) {
-  const polarities = new Polarities(shapes), pairs = [...places].map((place, at) => [at, place]).filter(([, place]) => place >= 0);
-  const own = Int32Array.from(pairs, ([at]) => polarities.of(first[at]));
+  /** @type {Pair[]} */
+  const pairs = [];
+  first.forEach((item, from) => {
+    const to = places[from] ?? -1;
+    if (to >= 0) pairs.push({ from, to, item });
+  });
+  const polarities = new Polarities(shapes), own = Int32Array.from(pairs, ({ item }) => polarities.of(item));
   if (own.every((polarity) => polarity === own[0]) && own[0] !== BOTH) return [];
-  const found = unordered(pairs, own);
+  const found = unordered(pairs, own), pairAt = (/** @type {number} */ number) => /** @type {Pair} */ (pairs[number]);
   if (found.length * pairs.length > MOST_PAIRS) {
-    return found.map((pair) => ({ from: pairs[pair][0], to: pairs[pair][1], boxes: [extents.box(first[pairs[pair][0]])] }));
+    return found.map(pairAt).map(({ from, to, item }) => ({ from, to, boxes: [extents.box(item)] }));
   }
   /** @type {Map<number, Box>} */
   const known = new Map();
   const boxOf = (/** @type {number} */ pair) => {
     let box = known.get(pair);
-    if (!box) known.set(pair, box = extents.box(first[pairs[pair][0]]));
+    if (!box) known.set(pair, box = extents.box(pairAt(pair).item));
     return box;
   };
   return found.map((pair) => {
-    const [from, to] = pairs[pair], boxes = [];
+    const { from, to } = pairAt(pair);
+    /** @type {Box[]} */
+    const boxes = [];
     for (let other = 0; other < pairs.length; other++) {
       if (own[other] === own[pair] && own[pair] !== BOTH) continue;
-      const [at, place] = pairs[other];
+      const { from: at, to: place } = pairAt(other);
       const box = (at < from) === (place < to) ? null : common(boxOf(pair), boxOf(other));
       if (box && other !== pair) boxes.push(box);
     }

@@ -25,11 +25,20 @@ export const NOT_READ = "refused";
 /** @param {PairFound} pair @returns {import("./layers.js").Outcome | "refused"} */
 export const outcomeOf = ({ refused, compared }) => (refused.length ? NOT_READ : compared?.outcome ?? SAME);
 
+/** @param {PairFound} pair @returns {[first: Layer, second: Layer]} */
+function bothOf({ layers: [first, second] }) {
+  if (!first || !second) throw new RangeError("a pair has two layers");
+  return [first, second];
+}
+
 /**
  * Whether both show another thing.
  * @param {PairFound} pair
  */
-export const isAnother = ({ layers: [first, second] }) => first.layerFunction.name !== second.layerFunction.name;
+export function isAnother(pair) {
+  const [first, second] = bothOf(pair);
+  return first.layerFunction.name !== second.layerFunction.name;
+}
 
 /**
  * Whether both make the same.
@@ -42,22 +51,22 @@ export const isSamePair = (pair) => outcomeOf(pair) === SAME && !isAnother(pair)
  * @param {PairFound} pair
  */
 export function labelOfPair(pair) {
-  const [first, second] = pair.layers;
+  const [first, second] = bothOf(pair);
   return isAnother(pair) ? `${first.layerFunction.label}, now ${second.layerFunction.label}` : first.layerFunction.label;
 }
 
 /** What each item of a changed layer is of: net, component and pin, where the files have them. */
 export class Owners {
   /** @param {PairFound} pair */
-  constructor({ layers, bytes, compared }) {
-    const isGerber = compared !== null && compared.changes.length > 0 && layers[0].kind !== DRILL && compared.said.isRead;
+  constructor(pair) {
+    const { bytes, compared } = pair, [{ kind }] = bothOf(pair);
+    const isGerber = compared !== null && compared.changes.length > 0 && kind !== DRILL && compared.said.isRead;
     this.readings = isGerber ? bytes.map((file) => readAttributes(file).items) : [];
   }
 
   /** @param {import("./changes.js").Change} change */
   words({ from, to }) {
-    if (!this.readings.length) return "";
-    const said = from === null ? this.readings[1][/** @type {number} */ (to)] : this.readings[0][from];
+    const [first, second] = this.readings, said = from === null ? second?.[to ?? -1] : first?.[from];
     return attributeWords(said?.attributes ?? []);
   }
 }
@@ -81,7 +90,8 @@ export function outcomeWords(pair) {
  * @param {PairFound} pair
  * @returns {string[]}
  */
-export function besides({ layers: [first, second], compared }) {
+export function besides(pair) {
+  const [first, second] = bothOf(pair), { compared } = pair;
   const names = first.file.name === second.file.name ? [] : [`the file is called ${second.file.name} now`];
   if (!compared) return names;
   const { dates, attributes, comments, isRead } = compared.said;

@@ -22,6 +22,20 @@ const JOB = /\.gbrjob$/i;
 /** @type {(path: string) => string} */
 const nameOf = (path) => path.replace(/^.*[\\/]/, "");
 
+/** @param {unknown} value @returns {Record<string, unknown>} */
+const fieldsOf = (value) => (typeof value === "object" && value !== null ? /** @type {Record<string, unknown>} */ (value) : {});
+
+// What a job file says of files; nothing where it is none.
+/** @param {Uint8Array} bytes @returns {unknown[]} */
+function filesOfJob(bytes) {
+  try {
+    const { FilesAttributes: files } = fieldsOf(JSON.parse(new TextDecoder().decode(bytes)));
+    return Array.isArray(files) ? files : [];
+  } catch {
+    return [];
+  }
+}
+
 /**
  * What the job files among files say that others show (Gerber Job Format, "FilesAttributes").
  * @param {BoardFile[]} files with all their bytes
@@ -31,14 +45,8 @@ export function functionsOfJobs(files) {
   /** @type {Map<string, string>} */
   const found = new Map();
   for (const { name, bytes } of files.filter((file) => JOB.test(file.name))) {
-    let job;
-    try {
-      job = JSON.parse(new TextDecoder().decode(bytes));
-    } catch {
-      continue;
-    }
-    for (const entry of Array.isArray(job?.FilesAttributes) ? job.FilesAttributes : []) {
-      const { Path: path, FileFunction: value } = entry ?? {};
+    for (const entry of filesOfJob(bytes)) {
+      const { Path: path, FileFunction: value } = fieldsOf(entry);
       if (typeof path === "string" && typeof value === "string" && nameOf(path) !== name) found.set(nameOf(path), value);
     }
   }
@@ -103,6 +111,7 @@ class Unpaired {
       const likely = one.flatMap((first) => other.filter((second) => fits(first, second)).map((second) => ({ first, second,
         common: commonEnd(first.file.name, second.file.name), isSame: first.file.name === second.file.name })));
       likely.sort((a, b) => Number(b.isSame) - Number(a.isSame) || b.common - a.common);
+      /** @type {Set<Layer>} */
       const taken = new Set();
       for (const { first, second } of likely) {
         if (taken.has(first) || taken.has(second)) continue;

@@ -38,7 +38,7 @@ export class Difference {
     const { first, second } = this, { stride, height } = first;
     for (let row = 0; row < height; row++) {
       for (let at = row * stride, column = 0; column < stride; at++, column++) {
-        const one = first.bits[at], other = second.bits[at];
+        const one = /** @type {number} */ (first.bits[at]), other = /** @type {number} */ (second.bits[at]);
         if (one === other) continue;
         this.runs(row, column, one & ~other, true, act);
         this.runs(row, column, other & ~one, false, act);

@@ -47,11 +47,12 @@ class Cells {
 
   /** @param {number} row @param {number} column */
   unmarked(row, column) {
-    const start = row * (this.columns + 1);
+    const { next } = this, start = row * (this.columns + 1);
     let at = column;
-    while (this.next[start + at] !== at) {
-      this.next[start + at] = this.next[start + this.next[start + at]];
-      at = this.next[start + at];
+    for (let to = /** @type {number} */ (next[start + at]); to !== at; to = /** @type {number} */ (next[start + at])) {
+      const further = /** @type {number} */ (next[start + to]);
+      next[start + at] = further;
+      at = further;
     }
     return at;
   }

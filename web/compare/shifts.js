@@ -34,7 +34,10 @@ function votedShifts(went, came) {
       continue;
     }
     const one = [...group].sort(onBoard), other = [...others].sort(onBoard);
-    for (const part of [0, 0.5, 1]) vote(one[Math.round(part * (one.length - 1))], other[Math.round(part * (other.length - 1))], least / 2);
+    for (const part of [0, 0.5, 1]) {
+      const from = one[Math.round(part * (one.length - 1))], to = other[Math.round(part * (other.length - 1))];
+      if (from && to) vote(from, to, least / 2);
+    }
   }
   return [...found.values()].filter(({ votes }) => votes > 1)
     .sort((one, other) => other.votes - one.votes || Math.hypot(one.dx, one.dy) - Math.hypot(other.dx, other.dy)).slice(0, MOST_SHIFTS);
@@ -52,9 +55,12 @@ export function shiftedPairs({ went, came }) {
   const found = [];
   let left = went;
   for (const { dx, dy } of votedShifts(grouped(went, byForm), grouped(came, byForm))) {
-    const pairs = [], rest = [];
+    /** @type {Joined[]} */
+    const pairs = [];
+    /** @type {LooseItem[]} */
+    const rest = [];
     for (const from of left) {
-      const others = waiting.get(`${from.x + dx} ${from.y + dy} ${from.form}`), to = others?.[others.length - 1];
+      const others = waiting.get(`${from.x + dx} ${from.y + dy} ${from.form}`), to = others?.at(-1);
       if (to) pairs.push({ from, to, parts: [] });
       else rest.push(from);
       others?.pop();
@@ -84,7 +90,9 @@ const AROUND = [-1, 0, 1].flatMap((across) => [-1, 0, 1].map((up) => ({ across, 
 function pairsWithin(went, came, radius, forms) {
   const cellOf = (/** @type {LooseItem} */ { form, x, y }, across = 0, up = 0) =>
     cellNumber(forms.get(form) ?? -1, Math.floor(x / radius) + across, Math.floor(y / radius) + up);
-  const cells = grouped(came, (one) => cellOf(one)), taken = new Set(), found = [];
+  const cells = grouped(came, (one) => cellOf(one)), taken = new Set(/** @type {LooseItem[]} */ ([]));
+  /** @type {Joined[]} */
+  const found = [];
   for (const from of went) {
     /** @type {LooseItem | null} */
     let to = null;
@@ -92,9 +100,9 @@ function pairsWithin(went, came, radius, forms) {
     for (const { across, up } of AROUND) {
       const others = cells.get(cellOf(from, across, up)) ?? [];
       for (let at = 0; at < others.length && at < MOST_LOOKED; at++) {
-        const distance = Math.hypot(others[at].x - from.x, others[at].y - from.y);
-        if (distance > least || others[at].form !== from.form || taken.has(others[at])) continue;
-        to = others[at];
+        const other = /** @type {LooseItem} */ (others[at]), distance = Math.hypot(other.x - from.x, other.y - from.y);
+        if (distance > least || other.form !== from.form || taken.has(other)) continue;
+        to = other;
         least = distance;
       }
     }

@@ -6,7 +6,7 @@ import { segmentBox, segmentsOf } from "./extents.js";
 
 // A segment as a text that is the same whichever way it is gone.
 /** @param {{kind: string, numbers: number[]}} segment */
-function segmentKey({ kind, numbers: [sx, sy, ex, ey, ...centre] }) {
+function segmentKey({ kind, numbers: [sx = NaN, sy = NaN, ex = NaN, ey = NaN, ...centre] }) {
   const isTurned = sx > ex || sx === ex && sy > ey, other = kind === "cw" ? "ccw" : "cw";
   const way = kind === "l" ? "l" : isTurned ? other : kind;
   return `${way} ${isTurned ? [ex, ey, sx, sy] : [sx, sy, ex, ey]} ${centre}`;
@@ -37,7 +37,7 @@ function contourBoxes(first, second) {
  * @returns {Box[]}
  */
 export function boxesOf({ from, to, parts }, first, second, extents, isFine = true) {
-  const one = from === null ? null : first[from], other = to === null ? null : second[to];
+  const one = first[from ?? -1] ?? null, other = second[to ?? -1] ?? null;
   if (one !== null && other !== null && parts.length === 1 && parts[0] === "contour") {
     const boxes = contourBoxes(one, other);
     if (boxes.length) return boxes;

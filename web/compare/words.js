@@ -3,8 +3,7 @@
 import { named, plainText } from "../attributes/index.js";
 import { counted, mm, placeWords } from "../nets/index.js";
 
-/** @type {Record<string, string>} */
-const NAMES = { C: "circle", R: "rectangle", O: "obround" };
+const NAMES = new Map([["C", "circle"], ["R", "rectangle"], ["O", "obround"]]);
 /** @type {(text: string) => string} */
 const short = (text) => mm(Math.round(Number(text) * 1e6));
 
@@ -17,9 +16,9 @@ export function shapeWords(text) {
   if (text[0] === "T") return `tool of ${short(text.slice(1))}`;
   if (text[0] === "M") return "shape of primitives";
   if (text[0] === "B") return `block of ${counted(text.split("\n").length - 1, "object")}`;
-  const [template, sizes] = text.split(","), [width, ...more] = sizes.split("X"), isCircle = template === "C";
-  const hole = more[isCircle ? 0 : 1], sides = isCircle ? short(width) : `${short(width)} by ${short(more[0])}`;
-  return `${NAMES[template]} of ${sides}${hole === undefined ? "" : ` with a hole of ${short(hole)}`}`;
+  const [template = "", sizes = ""] = text.split(","), [width = "", ...more] = sizes.split("X"), isCircle = template === "C";
+  const hole = more[isCircle ? 0 : 1], sides = isCircle ? short(width) : `${short(width)} by ${short(more[0] ?? "")}`;
+  return `${NAMES.get(template) ?? template} of ${sides}${hole === undefined ? "" : ` with a hole of ${short(hole)}`}`;
 }
 
 /**
@@ -28,7 +27,7 @@ export function shapeWords(text) {
  * @param {import("./canonical.js").Shapes} shapes
  */
 export function itemWords(item, shapes) {
-  const words = item.split("\n")[0].split(" "), [kind] = words, shape = shapeWords(shapes.texts[Number(words[1])] ?? "C,0");
+  const [head = ""] = item.split("\n"), words = head.split(" "), [kind] = words, shape = shapeWords(shapes.texts[Number(words[1])] ?? "C,0");
   const at = (/** @type {number} */ first) => placeWords({ x: Number(words[first]), y: Number(words[first + 1]) });
   const clear = item.endsWith(" clear") || item.startsWith("region clear") ? "clear " : "";
   switch (kind) {
@@ -59,7 +58,12 @@ export function attributeWords(attributes) {
  * @returns {string}
  */
 export function changeWords({ what, from, to, parts, dx, dy }, { first, second, shapes }) {
-  const one = from === null ? "" : itemWords(first.items[from], shapes), other = to === null ? "" : itemWords(second.items[to], shapes);
+  /** @param {readonly string[]} items @param {number | null} place */
+  const wordsAt = (items, place) => {
+    const item = items[place ?? -1];
+    return item === undefined ? "" : itemWords(item, shapes);
+  };
+  const one = wordsAt(first.items, from), other = wordsAt(second.items, to);
   switch (what) {
     case "came": return `came: ${other}`;
     case "went": return `went: ${one}`;
