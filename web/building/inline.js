@@ -21,10 +21,14 @@ const TYPES = /^ *\/\*\*(?:[^*]|\*(?!\/))*\*\/\n/gm;
 
 /**
  * 'a, b as c' as [[a, a], [b, c]].
- * @type {(list: string) => string[][]}
+ * @type {(list: string) => [from: string, to: string][]}
  */
-const pairs = (list) => list.split(",").map((part) => part.trim()).filter((part) => part)
-  .map((part) => part.split(/\s+as\s+/)).map(([name, alias = name]) => [name, alias]);
+const pairs = (list) => list.split(",").map((part) => part.trim()).filter((part) => part).map((part) => {
+  const [name = "", alias = name] = part.split(/\s+as\s+/);
+  return [name, alias];
+});
+
+/** @typedef {[path: string, name: string]} Origin of a name: its module, and what it is called there */
 
 class Inliner {
   constructor() {
@@ -32,7 +36,7 @@ class Inliner {
     this.names = new Map();
     /** @type {Map<string, Set<string>>} what each exports, by its name */
     this.exports = new Map();
-    /** @type {Map<string, Map<string, string[]> | null>} what indexes hand on, by their paths */
+    /** @type {Map<string, Map<string, Origin> | null>} what indexes hand on, by their paths */
     this.indexes = new Map();
     /** @type {string[]} */
     this.open = [];
@@ -43,14 +47,14 @@ class Inliner {
   /**
    * Of each name that an index hands on, the path of the module that it is from, and its name there.
    * @param {string} path
-   * @returns {Map<string, string[]> | null} null of a module that does anything else
+   * @returns {Map<string, Origin> | null} null of a module that does anything else
    */
   index(path) {
     const known = this.indexes.get(path);
     if (known !== undefined) return known;
     const text = /** @type {string} */ (readFileSync(path, "utf8")).replace(TYPES, "").replace(LINE_COMMENTS, "");
-    const handed = [...text.matchAll(REEXPORT)].flatMap(([, list, source]) =>
-      pairs(list).map(([from, to]) => /** @type {[string, string[]]} */ ([to, [resolve(dirname(path), source), from]])));
+    const handed = [...text.matchAll(REEXPORT)].flatMap(([, list = "", source = ""]) =>
+      pairs(list).map(([from, to]) => /** @type {[string, Origin]} */ ([to, [resolve(dirname(path), source), from]])));
     const found = handed.length && !text.replace(REEXPORT, "").trim() ? new Map(handed) : null;
     this.indexes.set(path, found);
     return found;
@@ -60,7 +64,7 @@ class Inliner {
    * The module that a name is from, and the name there: past indexes.
    * @param {string} path
    * @param {string} name
-   * @returns {string[]}
+   * @returns {Origin}
    */
   origin(path, name) {
     const found = this.index(path)?.get(name);
@@ -71,10 +75,10 @@ class Inliner {
    * Names that a module takes of another one, by the names in the whole of the modules that they are from.
    * @param {string} path
    * @param {string} source
-   * @param {string[][]} wanted
+   * @param {[from: string, to: string][]} wanted
    */
   taken(path, source, wanted) {
-    /** @type {Map<string, string[][]>} */
+    /** @type {Map<string, [from: string, to: string][]>} */
     const found = new Map();
     for (const [from, to] of wanted) {
       const [origin, name] = this.origin(resolve(dirname(path), source), from), module = this.add(origin);
@@ -109,15 +113,15 @@ class Inliner {
       exported.push(...pairs(list).map(([from, to]) => `${to}: ${from}`));
       return "";
     });
-    for (const [, list] of text.matchAll(SEVERAL)) exported.push(...[...list.matchAll(/(\w+) =/g)].map(([, name]) => name));
-    for (const [, name] of text.matchAll(EXPORTED)) if (!exported.includes(name)) exported.push(name);
+    for (const [, list = ""] of text.matchAll(SEVERAL)) exported.push(...[...list.matchAll(/(\w+) =/g)].map(([, name = ""]) => name));
+    for (const [, name = ""] of text.matchAll(EXPORTED)) if (!exported.includes(name)) exported.push(name);
     text = text.replace(/^export (?=(?:async )?(?:function\*?|class|const|let) )/gm, "");
     const left = /^(?:import|export)\b.*/m.exec(text);
     if (left) throw new Error(`${path}: this form is not read: ${left[0]}`);
     const name = `module${this.names.size}`;
     this.names.set(path, name);
     this.open.pop();
-    this.exports.set(name, new Set(exported.map((word) => word.split(":")[0])));
+    this.exports.set(name, new Set(exported.map((word) => word.replace(/:.*/, ""))));
     this.texts.push(`const ${name} = (() => {\n${text.replace(INDENTS, "")}\nreturn { ${exported.join(", ")} };\n})();\n`);
     return name;
   }

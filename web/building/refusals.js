@@ -34,8 +34,10 @@ const PARAGRAPH = /^\*\*(\d+), ([^*]+?)\.?\*\*((?:,? (?:and )?\*\*\d+, [^*]+\*\*
 
 /** @param {string} section @param {Told} into */
 function paragraphs(section, into) {
-  for (const [, number, name, others, text] of section.matchAll(PARAGRAPH)) {
-    const heads = [[number, name], ...[...others.matchAll(/\*\*(\d+), ([^*]+?)\.?\*\*/g)].map((found) => found.slice(1))];
+  for (const [, number = "", name = "", others = "", text = ""] of section.matchAll(PARAGRAPH)) {
+    /** @type {[number: string, name: string][]} */
+    const heads = [[number, name]];
+    for (const [, each = "", its = ""] of others.matchAll(/\*\*(\d+), ([^*]+?)\.?\*\*/g)) heads.push([each, its]);
     for (const [each, its] of heads) into[each] ??= { name: plain(its), text: opening(text.replace(/^:/, "")) };
   }
 }
@@ -52,12 +54,12 @@ export function refusalsOf(page) {
   const general = {};
   /** @type {Told} */
   const drill = {};
-  for (const [, number, name, meaning, advice] of section("Lines of a script").matchAll(
+  for (const [, number = "", name = "", meaning = "", advice = ""] of section("Lines of a script").matchAll(
     /^\| (\d+) \| ([^|]+) \| ([^|]+) \| ([^|]+) \|$/gm)) {
     general[number] = { name: plain(name), text: `${plain(meaning)}: ${plain(advice)}.` };
   }
   paragraphs(section("Gerber files"), general);
   paragraphs(section("Drill files"), drill);
-  for (const number of Object.keys(drill)) general[number] ??= drill[number];
+  for (const [number, told] of Object.entries(drill)) general[number] ??= told;
   return { general, drill };
 }
