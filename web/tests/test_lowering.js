@@ -171,6 +171,7 @@ suite("what is not known stops it", () => {
   stops("an access past 32 bits", withCode(0x42, 0, 0x28, 2, ...unsigned(2n ** 32n), 0x1a), /more than 32 bits/);
   stops("an access to another memory", withCode(0x42, 0, 0x28, 0x42, 0, 0, 0x1a), /another memory/);
   stops("a body that is cut off", sections(...ONE_FUNCTION, MEMORY, [10, 1, 9, 0, 0x0b]), /ends too early/);
+  stops("a body more than there are functions", sections(...ONE_FUNCTION, MEMORY, [10, 2, 2, 0, 0x0b, 2, 0, 0x0b]), /a body of no function/);
 });
 
 suite("the station's module", () => {

@@ -25,8 +25,10 @@ export class Reader {
   }
 
   byte() {
-    if (this.at >= this.end) throw new Unknown("the file ends too early", this.at);
-    return this.bytes[this.at++];
+    const byte = this.bytes[this.at];
+    if (this.at >= this.end || byte === undefined) throw new Unknown("the file ends too early", this.at);
+    this.at++;
+    return byte;
   }
 
   /** @param {number} count */

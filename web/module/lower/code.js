@@ -100,7 +100,7 @@ export class Body {
       case WIDE: return this.copy(start, 8);
       case TYPES: return this.copy(start, reader.count());
       case LOAD: return this.put(I32_WRAP, opcode, ...this.access());
-      case STORE: return this.store(STORED[opcode - 0x36], [opcode, ...this.access()]);
+      case STORE: return this.store(/** @type {number} */ (STORED[opcode - 0x36]), [opcode, ...this.access()]);
       case BRANCHES:
         for (let left = reader.count(); left >= 0; left--) reader.count();
         return this.copy(start, 0);

@@ -126,8 +126,10 @@ class Module {
 
   /** @param {Reader} reader @param {number} number */
   body(reader, number) {
+    const parameters = this.parameters[this.types[number] ?? -1];
+    if (parameters === undefined) throw new Unknown("a body of no function", reader.at);
     const inner = reader.part(reader.count());
-    const made = new Body(inner, this.parameters[this.types[number]], this.table?.is64 ?? false).rewritten();
+    const made = new Body(inner, parameters, this.table?.is64 ?? false).rewritten();
     this.bodies++;
     return joined([unsigned(made.length), made]);
   }
