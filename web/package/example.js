@@ -12,7 +12,7 @@ const station = await Station.open();
 station.run("load top gerber top.gbr", bytes);
 console.log("layers:", station.ask("layers").join("; "));
 
-const [x0, y0, x1, y1] = station.ask("box top")[0].split(" ").map(Number);
+const [box = ""] = station.ask("box top"), [x0 = 0, y0 = 0, x1 = 0, y1 = 0] = box.split(" ").map(Number);
 const [place] = station.ask(`in top ${Math.floor(x0)} ${Math.floor(y0)} ${Math.ceil(x1)} ${Math.ceil(y1)}`);
 console.log(`item ${place}:`, station.ask(`item top ${place}`)[0]);
 station.run(`move top ${place} 500000 0`);
