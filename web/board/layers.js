@@ -94,6 +94,7 @@ export function recogniseFiles(files, areNamed) {
     else others.push(file);
   }
   layers.sort((one, other) => one.layerFunction.height - other.layerFunction.height);
+  /** @type {Set<string>} */
   const taken = new Set();
   for (const layer of layers) {
     for (let number = 2; taken.has(layer.name); number++) layer.name = `${layer.layerFunction.name}-${number}`;

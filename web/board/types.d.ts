@@ -30,6 +30,7 @@ declare namespace Board {
   /** A line, or where it has a centre an arc. */
   interface Side { from: Pair; to: Pair; centre?: Pair; isClockwise?: boolean }
   interface Arc extends Side { centre: Pair }
+  /** One side at least. */
   type Sides = [Side, ...Side[]];
   /** Sides that a round pen follows; `isFilled` where what they enclose belongs to it. */
   interface Shape { sides: Sides; radius: number; isFilled: boolean }

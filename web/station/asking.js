@@ -34,7 +34,7 @@ export function* itemsOf(station, name) {
 // The kind of an item by its words, and the number of its aperture or tool, null where it has none.
 /** @param {string} item */
 export function headOf(item) {
-  const [kind, number] = item.split(" ", 2);
+  const [kind = "", number] = item.split(" ", 2);
   return { kind, number: kind === "region" || kind === "repeat" ? null : Number(number) };
 }
 
@@ -58,8 +58,8 @@ export function look(station, { places, entries, attributes, list }) {
   const items = places.map(({ name, place }) => {
     const item = asked(station, `item ${name} ${place}`);
     if (item.code) return null;
-    const [box] = asked(station, `box ${name} ${place}`).answer.split("\n");
-    return { words: item.answer.split("\n")[0], box };
+    const [line = ""] = item.answer.split("\n"), [box = ""] = asked(station, `box ${name} ${place}`).answer.split("\n");
+    return { words: line, box };
   });
   return {
     layers: linesOf(station, "layers"), items,

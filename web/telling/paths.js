@@ -18,16 +18,16 @@
  * @template {Pair[]} P
  * @template {Way[]} W
  * @template R
- * @typedef {{kind: K, number: N, points: P, ways: W, turn: string, isDark: boolean, repeat: R}} Said
+ * @typedef {{kind: K, number: N, points: P, ways: W, turn: string, isDark: boolean, repeat: R}} Worded
  */
 /** @typedef {{columns: number, rows: number, stepX: number, stepY: number, objects: number}} Repeat */
 /**
- * @typedef {Said<"flash", number, [at: Pair], never[], null>} Flash
- * @typedef {Said<"draw" | "arc", number, [start: Pair], [Way], null>} Stroke
- * @typedef {Said<"region", null, [start: Pair], Way[], null>} Region
- * @typedef {Said<"hit", number, [at: Pair], never[], null>} Hit
- * @typedef {Said<"rout", number, [start: Pair, ...more: Pair[]], Way[], null>} Rout
- * @typedef {Said<"repeat", null, never[], never[], Repeat>} Repeated
+ * @typedef {Worded<"flash", number, [at: Pair], never[], null>} Flash
+ * @typedef {Worded<"draw" | "arc", number, [start: Pair], [Way], null>} Stroke
+ * @typedef {Worded<"region", null, [start: Pair], Way[], null>} Region
+ * @typedef {Worded<"hit", number, [at: Pair], never[], null>} Hit
+ * @typedef {Worded<"rout", number, [start: Pair, ...more: Pair[]], Way[], null>} Rout
+ * @typedef {Worded<"repeat", null, never[], never[], Repeat>} Repeated
  * @typedef {Flash | Stroke | Region | Hit | Rout | Repeated} Item
  */
 
@@ -76,7 +76,7 @@ function repeatOf(words) {
 const OTHER = { turn: "r0", isDark: true, repeat: null };
 
 /** @param {string[]} words @returns {Item | null} */
-function saidBy(words) {
+function itemBy(words) {
   const [kind] = words, number = Number(words[1]), at = pair(words, 2);
   switch (kind) {
     case "flash": return { ...OTHER, kind, number, points: [at], ways: [], turn: words[4] ?? "r0", isDark: words[5] !== "clear" };
@@ -97,7 +97,7 @@ function saidBy(words) {
  * @returns {Item | null} null where the words are none of an item
  */
 export function itemOf(line) {
-  const item = saidBy(line.trim().split(/\s+/));
+  const item = itemBy(line.trim().split(/\s+/));
   return item && isWhole(item) ? item : null;
 }
 
