@@ -47,6 +47,17 @@ suite("ways to convert", () => {
     assert.deepEqual(convertedOf("gerber", bytes, { format: "x" }).refusals, ["the format: two digits are wanted, as 2.4"]);
   });
 
+  test("a refusal quotes what the file has there, also where each object of JavaScript has that name", () => {
+    for (const name of ["constructor", "toString", "hasOwnProperty", "unit"]) {
+      const drill = Buffer.from(`M48\nMETRIC\n--${name}\nT1C0.8\n%\nT1\nX1.0Y1.0\nM30\n`), gerber = Buffer.from(`%FSLAX24Y24*%\n%MOMM*%\n--${name}*\nM02*\n`);
+      const quoted = name === "unit" ? "the unit" : `--${name}`;
+      assert.ok(convertedOf("drill", drill).refusals[0].startsWith(`line 3: ${quoted} is no line that is known`), name);
+      assert.ok(convertedOf("gerber", gerber).refusals[0].startsWith(`line 3: ${quoted}* is no command that is known`), name);
+    }
+    const { refusals } = convertedOf("drill", Buffer.from("M48\nMETRIC\nT1\n%\nT1\nX1Y1\nM30\n"), { tools: "--constructor" });
+    assert.deepEqual(refusals, ["tool --constructor: a number and a diameter are wanted, as 1=0.8mm"]);
+  });
+
   test("a file that is read as it stands has none", () => {
     assert.equal(convertedOf("gerber", Buffer.from(written("no_format"))), null);
   });

@@ -1,5 +1,6 @@
 // Old and foreign files in the form that the station reads, by the modules of web/convert.
 
+import { faultWords } from "./faults.js";
 import {
   askedChoices, choiceWords, convertDrill, convertGerber, digitsOf, refusalText, toldChanges, toolOf, waysToConvert,
 } from "../convert/index.js";
@@ -19,7 +20,8 @@ import {
  */
 /**
  * What a file is converted to, with the changes, or why it is refused, with the choices that are asked for; null where it needs none.
- * @typedef {{ bytes?: Uint8Array, changes?: string[], refusals?: string[], asks?: { name: string }[] } | null} Converted
+ * @typedef {{ bytes: Uint8Array, changes: string[], refusals?: undefined, asks?: undefined } | Refused | null} Converted
+ * @typedef {{ refusals: string[], asks: import("../convert/index.js").Choice[], bytes?: undefined, changes?: undefined }} Refused
  */
 
 // A choice of a person that cannot be used.
@@ -46,16 +48,16 @@ function drill(bytes, { unit, digits, zeros, tools = "", report = null }) {
 }
 
 // What the commands' options are called on the page.
-const NAMES = { unit: "the unit", digits: "the digits", zeros: "the zeros", report: "the report", tool: "the diameter",
-  arcs: "the arcs", nearest: "the nearest nm", repeat: "the repeating of points", format: "the format" };
+const NAMES = new Map([["unit", "the unit"], ["digits", "the digits"], ["zeros", "the zeros"], ["report", "the report"], ["tool", "the diameter"],
+  ["arcs", "the arcs"], ["nearest", "the nearest nm"], ["repeat", "the repeating of points"], ["format", "the format"]]);
 
 /** @param {string} text */
-const onPage = (text) => text.replace(/\(--\w+\)/g, "(chosen)").replace(/--(\w+)/g, (whole, name) => NAMES[name] ?? whole);
+const onPage = (text) => text.replace(/\(--\w+\)/g, "(chosen)").replace(/--(\w+)/g, (whole, name) => NAMES.get(name) ?? whole);
 
 /** @param {Uint8Array} one @param {Uint8Array} other */
 const isSame = (one, other) => one.length === other.length && one.every((byte, at) => byte === other[at]);
 
-/** @param {Board.LayerKind} kind @param {string[]} texts */
+/** @param {Board.LayerKind} kind @param {string[]} texts @returns {Refused} */
 const refused = (kind, texts) => ({ refusals: texts.map(onPage), asks: askedChoices(kind, texts) });
 
 // What a file is converted to under a person's choices, as the options of tools/to_gerber and tools/to_xnc have them: its
@@ -69,7 +71,7 @@ export function convertedOf(kind, bytes, choices = {}) {
     if (isSame(made.bytes, bytes)) return null;
     return { bytes: made.bytes, changes: ("account" in made ? made.account : toldChanges(made.changes)).map(onPage) };
   } catch (fault) {
-    return refused(kind, [fault?.message ?? String(fault)]);
+    return refused(kind, [faultWords(fault)]);
   }
 }
 
@@ -77,12 +79,13 @@ export function convertedOf(kind, bytes, choices = {}) {
 // or of any angle: each with its choices, these in words, and what it comes to.
 /** @param {Board.LayerKind} kind @param {Uint8Array} bytes */
 export function waysOf(kind, bytes) {
+  /** @type {Map<string, Converted>} */
   const known = new Map();
   /** @param {Choices} choices */
   const convertedBy = (choices) => {
-    const key = JSON.stringify(choices);
-    if (!known.has(key)) known.set(key, convertedOf(kind, bytes, choices));
-    return known.get(key);
+    const key = JSON.stringify(choices), found = known.get(key), made = found === undefined ? convertedOf(kind, bytes, choices) : found;
+    known.set(key, made);
+    return made;
   };
   return waysToConvert((choices) => convertedBy(choices)?.asks ?? null)
     .map((choices) => ({ choices, words: choiceWords(kind, choices), converted: convertedBy(choices) }));
