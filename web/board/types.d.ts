@@ -40,4 +40,77 @@ declare namespace Board {
   interface Entry { number: number; words: string; width: number; height: number; shape: string | null; hasHole: boolean }
   /** A path on the board, and the width that is stroked along it. */
   interface Outline { path: Path2D; width: number }
+
+  // ---- What the worker of a station is asked of its board, by kinds, and what it answers (web/worker/main.js; web/machine asks) ----
+
+  /** An item by its layer's name and its place in that layer's list. */
+  interface Place { name: string; place: number }
+  /** An item as the worker lists it; its box is four numbers, or empty. */
+  interface Listed extends Place { words: string; box: string }
+  /** What items are alike by: the number of an aperture or tool, or a kind. */
+  interface Alike { name: string; key: string }
+  /** What items share, by its kind and its own name among those of the kind (web/telling/search_index.js). */
+  interface Share { kind: "net" | "component" | "pin" | "aperture" | "tool" | "attribute"; id: string }
+  /** A layer or picture that is compared. */
+  interface Compared { name: string; label: string; isOpened: boolean }
+  /** A line for the station, with the bytes of its file where it is a load. */
+  interface Sent { line: string; bytes?: Uint8Array }
+  /** What the worker is told of the layers, so that it can speak of them. */
+  interface Telling {
+    unit: string; layers: { name: string; label: string; shows: string; kind: LayerKind; fileName: string }[];
+  }
+  interface Asked {
+    lines: { isGroup: boolean; lines: Sent[] };
+    boxes: { names: string[] };
+    look: { places: Place[]; entries: string[]; attributes: string | null; list: { name: string; from: number } | null };
+    under: Point & { pile: string[]; below: Place | null };
+    pile: Point & { pile: string[] };
+    inside: { names: string[]; box: Box; most: number };
+    touched: { names: string[]; box: Box; most: number };
+    like: { by: string; of: Alike[]; most: number };
+    gap: { pair: { name: string; words: string }[] };
+    tally: { names: string[]; lit: { name: string; number: number } | null };
+    lit: { of: Share } & Telling;
+    shared: { of: Share; most: number } & Telling;
+    dropped: { files: { id: string; bytes: Uint8Array }[] };
+    withAttributes: { depth: number; entries: Sent[]; layers: { name: string; canonical: Uint8Array }[] };
+    compare: { steps: number; colours: string[] };
+    compareView: { steps: number; colours: string[] };
+    compareTwo: { pair: Compared[]; names: string[] };
+    compareTwoView: { names: string[]; colours: string[] };
+    pictures: { names: string[]; line: string };
+    picture: { name: string; picture: import("../bytes/index.js").Picture | null; line?: string };
+    stop: {};
+  }
+  /** What a line came to: its reply, and the bytes of a plot or a text. */
+  interface Applied { code: number; reply: string; bytes?: Uint8Array | null }
+  type Nothing = Record<string, never>;
+  interface Lines { answers: Applied[]; isStopped: boolean }
+  interface Boxes { boxes: string[] }
+  interface Places { places: Place[] }
+  interface Looked {
+    layers: string[]; items: ({ words: string; box: string } | null)[]; entries: Record<string, string[]>;
+    attributes: { name: string; lines: string[] } | null; list: { name: string; from: number; words: string[] } | null;
+  }
+  /** How many items each number of a layer has, by their kinds, and those that are lit. */
+  interface Tallies {
+    layers: Record<string, { counts: Record<string, Record<string, number>>; entries: string[] }>; lit: Listed[] | null;
+  }
+  /** An answer in words; or why the files can't be read for it. */
+  interface Answer<T> { found: T | null; why: string | null }
+  /** A picture of a comparison in the colours of its parts. */
+  interface Sheet { bitmaps: ImageBitmap[]; count: number }
+  /** The pixels of the view that are in both, in the first alone and in the second alone. */
+  interface Sheets { sheets: Sheet[] | null; window?: string; samples?: number; isWhole: boolean }
+  interface Differing extends Sheets { differing: { name: string; box: Box | null }[] | null; count?: number; box?: Box | null }
+  interface Counts { counts: number[] | null; box?: Box | null; window?: string; isWhole?: boolean; isSameText?: boolean | null }
+  interface Answered {
+    lines: Lines; boxes: Boxes; look: Looked; under: { found: Place | null }; pile: { items: Listed[]; isMore: boolean };
+    inside: Places; touched: Places; like: Places; gap: { gap: Gap | null }; tally: Tallies;
+    lit: Answer<{ items: Listed[]; count: number; entries: Record<string, string[]> }>; shared: Answer<Places & { count: number }>;
+    dropped: { files: { id: string; words: string[] }[] };
+    withAttributes: { files: { name: string; bytes: Uint8Array | null; why?: string }[] };
+    compare: Differing; compareView: Sheets; compareTwo: Counts; compareTwoView: Sheets;
+    pictures: { pictures: Uint8Array[] | null }; picture: Nothing; stop: Nothing;
+  }
 }

@@ -6,8 +6,9 @@ import {
   withinOutline,
 } from "../materials/index.js";
 import { boxFrom, isInWindow, joined, windowLine } from "../board/index.js";
-import { asked, itemsOf } from "../station/index.js";
 import { Plating } from "./plating.js";
+import { itemsOf } from "../station/index.js";
+import { lineOf } from "./answers.js";
 import { windowOf } from "./opened.js";
 
 // An outline that is known by its picture alone is drawn whole, by so many pixels along a side at most, and so many in all: 8 MB.
@@ -21,20 +22,31 @@ const NO_LAYERS = "no layer of copper, mask, silkscreen, holes or outline is ope
 /** The name of the picture for the page: no layer has a blank in its name. */
 const NAME = "the board";
 
+/** @typedef {import("../bytes/index.js").Picture} Picture */
+/** @typedef {Worker.MadeLayer} Layer */
+/** @typedef {ReturnType<typeof bitsOf>} Bits */
+/** @typedef {{ shows: string, said: string | null, bits: Bits }} Plotted */
+/** @typedef {{ board: Bits, told: string | null }} Made the pixels of a board, and what is told of them */
+
 export class BoardSide {
   // The drawing, whose station has the layers.
+  /** @param {import("./drawing.js").Drawing} drawing @param {WebAssembly.Module} compiled */
   constructor(drawing, compiled) {
     this.drawing = drawing;
     this.plating = new Plating(compiled);
     // The window and the pictures in it, by the layers' names; the outlines by the words of their items, and what lies within one that
     // is known by its picture alone.
-    this.window = null;
+    this.window = "";
+    /** @type {Map<string, Picture>} */
     this.pictures = new Map();
+    /** @type {Map<string, { words: string, outline: Outline | null }>} */
     this.outlines = new Map();
+    /** @type {{ key: string, found: Made | null } | null} */
     this.within = null;
   }
 
   // The picture of a layer in a window of the view.
+  /** @param {string} name @param {string} window @param {Picture} picture */
   take(name, window, picture) {
     if (window !== this.window) this.pictures.clear();
     this.window = window;
@@ -42,14 +54,16 @@ export class BoardSide {
   }
 
   // Hands the page the side of a view all of whose layers are drawn.
-  send() {
-    const { drawing } = this, { number, window, samples, made } = drawing.view, { bitmap, lacks } = this.composed();
-    drawing.post({ kind: "picture", number, window, samples, name: NAME, bitmap, isPart: false, lacks, side: made.side }, bitmap ? [bitmap] : []);
+  /** @param {Worker.Wanted} view @param {Worker.MadeSide} made */
+  send({ number, window, samples }, made) {
+    const { bitmap, lacks } = this.composed(made);
+    this.drawing.post({ kind: "picture", number, window, samples, name: NAME, bitmap, isPart: false, lacks, side: made.side }, bitmap ? [bitmap] : []);
   }
 
   // The bitmap of the side, as it lies from above, and what lacks.
-  composed() {
-    const { made } = this.drawing.view, layers = made.layers.filter(({ name }) => this.pictures.has(name));
+  /** @param {Worker.MadeSide} made @returns {{ bitmap: ImageBitmap | null, lacks: string[] }} */
+  composed(made) {
+    const layers = made.layers.filter(({ name }) => this.pictures.has(name));
     if (!layers.length) return { bitmap: null, lacks: [NO_LAYERS] };
     const plotted = layers.flatMap((layer) => this.plottedOf(layer)), { pitch, width, height } = windowOf(this.window);
     const { board, told } = this.boardIn(layers, plotted), { materials, lacks } = sideFromAbove(plotted, made.side, board, pitch);
@@ -61,14 +75,16 @@ export class BoardSide {
   }
 
   // The pictures of a layer: of holes those with plating and those without.
+  /** @param {Layer} layer @returns {Plotted[]} */
   plottedOf({ name, shows, said, bare }) {
-    const plain = () => [{ shows, said, bits: bitsOf(this.pictures.get(name)) }];
+    const picture = this.pictures.get(name), plain = () => (picture ? [{ shows, said, bits: bitsOf(picture) }] : []);
     if (!bare.length) return plain();
     const parts = this.plating.parts(this.drawing.station, name, bare, this.window);
     return parts ? [{ shows, said, bits: bitsOf(parts.plated) }, { shows: "nonplated", said: null, bits: bitsOf(parts.bare) }] : plain();
   }
 
   // The pixels of the board, and what is told of them.
+  /** @param {Layer[]} layers @param {Plotted[]} plotted @returns {Made} */
   boardIn(layers, plotted) {
     const outlines = layers.filter(({ shows }) => shows === OUTLINE);
     for (const { name } of outlines) {
@@ -80,19 +96,21 @@ export class BoardSide {
     const around = outlines.map(({ name }) => this.boxOf(name)).find((box) => box);
     const box = around ?? joined(layers.filter(({ shows }) => isMade(shows)).map(({ name }) => this.boxOf(name)));
     if (!box || isInWindow(window, box)) return boardOf(plotted);
-    const column = (x) => Math.floor((x - left) / pitch), row = (y) => height - 1 - Math.floor((y - low) / pitch);
+    const column = (/** @type {number} */ x) => Math.floor((x - left) / pitch), row = (/** @type {number} */ y) => height - 1 - Math.floor((y - low) / pitch);
     return { told: around ? OPEN_OUTLINE : NO_OUTLINE,
       board: boxBits(width, height, { left: column(box.left), top: row(box.high), right: column(box.right) + 1, low: row(box.low) + 1 }) };
   }
 
+  /** @param {string} name */
   boxOf(name) {
-    return boxFrom(asked(this.drawing.station, `box ${name}`).answer.split("\n")[0]);
+    return boxFrom(lineOf(this.drawing.station, `box ${name}`));
   }
 
   // What lies within the outline of a layer; null where it encloses nothing.
+  /** @param {string} name @returns {Made | null} */
   withinOf(name) {
     const { drawing, window } = this, { left, low, pitch, width, height } = windowOf(window);
-    const items = drawing.layers.get(name)?.items > MOST_ITEMS ? null : [...itemsOf(drawing.station, name)], words = items?.join("\n") ?? "";
+    const items = (drawing.layers.get(name)?.items ?? 0) > MOST_ITEMS ? null : [...itemsOf(drawing.station, name)], words = items?.join("\n") ?? "";
     let known = this.outlines.get(name);
     if (known?.words !== words) this.outlines.set(name, known = { words, outline: items && Outline.of(items) });
     if (known.outline) {
@@ -106,6 +124,7 @@ export class BoardSide {
 
   // The same of an outline with open lines or others than lines, by its whole picture: with the view's pixels, or where these would be
   // too many with coarser ones.
+  /** @param {string} name @param {string[]} items @returns {Made | null} */
   withinPicture(name, items) {
     const { drawing, window: line } = this, { left, low, pitch, width, height } = windowOf(line), box = this.boxOf(name);
     if (!box) return null;
@@ -114,7 +133,7 @@ export class BoardSide {
     const long = Math.max(east - west, north - south) / pitch, all = (east - west) / pitch * ((north - south) / pitch);
     const times = Math.max(1, Math.ceil(long / (SIDE - 2)), Math.ceil(Math.sqrt(all / PIXELS)));
     // Its pixels are those of the view, or begin where one of the view does.
-    const before = (from, to) => Math.ceil((from - to) / (pitch * times)), coarse = pitch * times;
+    const before = (/** @type {number} */ from, /** @type {number} */ to) => Math.ceil((from - to) / (pitch * times)), coarse = pitch * times;
     const [columns, rows] = [before(left, west), before(low, south)], whole = { x: left - columns * coarse, y: low - rows * coarse, pitch: coarse,
       width: Math.ceil((east - left) / coarse) + columns, height: Math.ceil((north - low) / coarse) + rows };
     const picture = drawing.pictureIn(name, windowLine(whole));

@@ -18,8 +18,7 @@ export class Undrawn extends Error {}
 export class CheckedLayer {
   /**
    * @param {WebAssembly.Module} compiled
-   * @param {{layer: import("../board/index.js").Layer, items: import("../nets/index.js").SaidItems, reading: *}} known what the follower
-   *   knows of it since it was loaded
+   * @param {import("./follower.js").Followed} known what the follower knows of it since it was loaded
    * @param {Uint8Array} bytes its canonical text now
    */
   constructor(compiled, known, bytes) {
@@ -70,7 +69,10 @@ export class CheckedLayer {
     return this.withStation((station) => Array.from(itemsOf(station, NAME), linesOfItem).flat());
   }
 
-  /** The tools that its file calls not plated. */
+  /**
+   * The tools that its file calls not plated.
+   * @returns {ReadonlySet<number | null>}
+   */
   get tools() {
     return this.layer.kind === DRILL ? toolsWithoutPlating(latin1(this.layer.file.bytes)) : new Set();
   }
@@ -92,10 +94,10 @@ export class CheckedLayer {
 
   /** The places of the items that tie two nets or more, by their attributes. */
   get ties() {
-    const { items, reading } = this.known, tied = new Set();
+    const { items: { items }, reading } = this.known, tied = new Set();
     if (this.layer.kind !== GERBER) return [];
     reading?.items.forEach(({ attributes }, place) => {
-      if ((named(attributes, ".N")?.fields.length ?? 0) > 1) tied.add(items.items[place].words);
+      if ((named(attributes, ".N")?.fields.length ?? 0) > 1) tied.add(items[place]?.words);
     });
     return tied.size ? this.placesOf((words) => tied.has(words)) : [];
   }

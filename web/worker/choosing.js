@@ -1,6 +1,9 @@
 // Which items of the station are to be picked: those that a box touches, and those that are like others.
 
-import { asked, headOf, itemsOf, linesOf } from "../station/index.js";
+import { boxOf, countsOf } from "./answers.js";
+import { headOf, itemsOf } from "../station/index.js";
+
+/** @typedef {import("../station/index.js").Station} Station */
 
 // No coordinate of a question is greater, in nm.
 const FAR = 4e9;
@@ -8,6 +11,7 @@ const FAR = 4e9;
 const LF = 10, ZERO = 48;
 
 // Calls `run` with each place that lies in a box: the answer has a line of digits for each, millions on a large layer.
+/** @param {Station} station @param {string} name @param {number[]} box @param {(place: number) => void} run */
 function eachIn(station, name, box, run) {
   if (station.ask(new TextEncoder().encode(`in ${name} ${box.join(" ")}`))) return;
   let place = 0;
@@ -22,14 +26,14 @@ function eachIn(station, name, box, run) {
 }
 
 // Whether an item's own box touches a box. One that paints nothing has none.
+/** @param {Station} station @param {string} name @param {number} place @param {Board.Box} box */
 function isTouched(station, name, place, { left, low, right, high }) {
-  const [own] = asked(station, `box ${name} ${place}`).answer.split("\n");
-  if (!own) return false;
-  const [itsLeft, itsLow, itsRight, itsHigh] = own.split(" ").map(Number);
-  return itsLeft <= right && itsRight >= left && itsLow <= high && itsHigh >= low;
+  const own = boxOf(station, `box ${name} ${place}`);
+  return own !== null && own.left <= right && own.right >= left && own.low <= high && own.high >= low;
 }
 
 // Which items of a layer lie completely to the left of a box, to the right, below or above, a 1 for each: the others are few.
+/** @param {Station} station @param {string} name @param {number} count @param {Board.Box} box */
 function besideOf(station, name, count, { left, low, right, high }) {
   const isBeside = new Uint8Array(count);
   const sides = [[-FAR, -FAR, left - 1, FAR], [right + 1, -FAR, FAR, FAR], [-FAR, -FAR, FAR, low - 1], [-FAR, high + 1, FAR, FAR]];
@@ -37,10 +41,14 @@ function besideOf(station, name, count, { left, low, right, high }) {
   return isBeside;
 }
 
-/** The places of the items whose boxes touch a box, edges too; a few more than `most` at most. */
+/**
+ * The places of the items whose boxes touch a box, edges too; a few more than `most` at most.
+ * @param {Station} station
+ * @param {Board.Asked["touched"]} message
+ * @returns {Board.Places}
+ */
 export function touched(station, { names, box, most }) {
-  const counts = new Map(linesOf(station, "layers").map((line) => line.split(" ")).map(([name, , count]) => [name, Number(count)]));
-  const places = [];
+  const counts = countsOf(station), places = [];
   for (const name of names) {
     const count = counts.get(name) ?? 0, isBeside = besideOf(station, name, count, box);
     for (let place = 0; place < count && places.length <= most; place++) {
@@ -53,6 +61,9 @@ export function touched(station, { names, box, most }) {
 /**
  * The places of the items of layers that are like one of `of`, { name, key }, in its layer; a few more than `most` at most. A
  * key is a kind, or the number of an aperture or a tool, as the page has it (picking_like.js of its machine).
+ * @param {Station} station
+ * @param {Board.Asked["like"]} message
+ * @returns {Board.Places}
  */
 export function like(station, { by, of, most }) {
   const places = [], what = by === "kind" ? "kind" : "number";

@@ -7,7 +7,14 @@ import { windowAtPitch } from "../board/index.js";
 
 /** @typedef {import("../board/index.js").PlotWindow} PlotWindow */
 /** @typedef {import("../bytes/index.js").Picture} Picture */
-/** @typedef {import("../compare/index.js").PairFound & {sides: import("./compared_side.js").SideLayer[], by: string, owners: Owners | null}} Pair */
+/** @typedef {import("../board/index.js").Layer} Layer */
+/** @typedef {import("../compare/index.js").PairFound} PairFound */
+/** @typedef {import("./compared_side.js").Side} Side */
+/** @typedef {import("./compared_side.js").SideLayer} SideLayer */
+/**
+ * @typedef {Omit<PairFound, "layers" | "bytes"> & {layers: [Layer, Layer], bytes: [Uint8Array, Uint8Array], sides: [SideLayer, SideLayer],
+ *   by: string, owners: Owners | null}} Pair
+ */
 
 /**
  * What came of a pair, for people.
@@ -44,7 +51,7 @@ function pixelsOf(first, second) {
   for (let row = 0, at = 0; row < height; row++) {
     for (let column = 0; column < width; column++, at++) {
       const byte = row * stride + (column >> 3), bit = 128 >> (column & 7);
-      const inA = (first.bits[byte] & bit) !== 0, inB = (second.bits[byte] & bit) !== 0;
+      const inA = ((first.bits[byte] ?? 0) & bit) !== 0, inB = ((second.bits[byte] ?? 0) & bit) !== 0;
       pixels[at] = inA ? (inB ? BOTH : ONLY_A) : inB ? ONLY_B : EMPTY;
     }
   }
@@ -63,29 +70,42 @@ function closer({ x, y, pitch, width, height }, zoom) {
 }
 
 export class ComparedBoards {
-  /** @param {import("./compared_side.js").Side[]} sides */
+  /** @param {[Side, Side]} sides */
   constructor(sides) {
     this.sides = sides;
-    const [first, second] = sides.map(({ layers }) => layers.map(({ layer }) => layer));
     /** @type {Map<Uint8Array, string>} */
     const contents = new Map();
-    const contentOf = (/** @type {import("../board/index.js").Layer} */ { file: { bytes } }) => {
+    const contentOf = (/** @type {Layer} */ { file: { bytes } }) => {
       const known = contents.get(bytes) ?? latin1(bytes);
       contents.set(bytes, known);
       return known;
     };
-    const { pairs, ...rest } = pairedLayers(first, second, [sides[0].functions, sides[1].functions], contentOf);
+    const [first, second] = sides, layersOf = (/** @type {Side} */ { layers }) => layers.map(({ layer }) => layer);
+    const { pairs, ...rest } = pairedLayers(layersOf(first), layersOf(second), [first.functions, second.functions], contentOf);
     this.rest = rest;
     /** @type {Pair[]} */
-    this.pairs = pairs.map(({ first: one, second: other, by }) => this.pairOf(by, [one, other]));
+    this.pairs = pairs.map(({ first: one, second: other, by }) => this.pairOf(by, one, other));
   }
 
-  /** @param {string} by @param {import("../board/index.js").Layer[]} layers @returns {Pair} */
-  pairOf(by, layers) {
-    const sides = layers.map((layer, at) => this.sides[at].layers.find((one) => one.layer === layer));
-    const refused = sides.flatMap(({ why }, at) => (why === null ? [] : [`${"AB"[at]}: ${why}`])), bytes = sides.map((side) => side.bytes);
-    const isSameFile = !sides.some(({ isEdited }) => isEdited) && isEqual(bytes[0], bytes[1]);
-    return { layers, sides, by, bytes, refused, isSameFile, compared: null, window: null, owners: null };
+  /** @param {string} by @param {Layer} first @param {Layer} second @returns {Pair} */
+  pairOf(by, first, second) {
+    const one = this.sides[0].layerOf(first), other = this.sides[1].layerOf(second);
+    const refused = [one, other].flatMap(({ why }, at) => (why === null ? [] : [`${"AB"[at]}: ${why}`]));
+    const isSameFile = !one.isEdited && !other.isEdited && isEqual(one.bytes, other.bytes);
+    return { layers: [first, second], sides: [one, other], by, bytes: [one.bytes, other.bytes], refused, isSameFile, compared: null, window: null, owners: null };
+  }
+
+  /** @param {number} at */
+  pair(at) {
+    const pair = this.pairs[at];
+    if (!pair) throw new Error("there is no such pair");
+    return pair;
+  }
+
+  /** @param {Pair} pair @param {0 | 1} side */
+  givenOf({ layers, bytes }, side) {
+    const { name, kind } = layers[side];
+    return { kind, text: this.sides[side].text(name), bytes: bytes[side] };
   }
 
   /**
@@ -95,44 +115,44 @@ export class ComparedBoards {
    * @returns {PairRow}
    */
   compare(at, pitch) {
-    const pair = this.pairs[at], names = pair.layers.map(({ name }) => name);
+    const pair = this.pair(at), names = pair.layers.map(({ name }) => name);
     if (!pair.refused.length && !pair.isSameFile) {
-      const [first, second] = names.map((name, side) => ({ kind: pair.layers[side].kind, text: this.sides[side].text(name), bytes: pair.bytes[side] }));
-      pair.compared = new Compared(first, second);
-      const box = pair.compared.changes.length ? pair.compared.box() : null;
-      if (box) this.see(pair, windowAtPitch(box, pitch));
+      const compared = new Compared(this.givenOf(pair, 0), this.givenOf(pair, 1)), box = compared.changes.length ? compared.box() : null;
+      pair.compared = compared;
+      if (box) this.see(pair, compared, windowAtPitch(box, pitch));
     }
     const notes = pair.sides.flatMap((one, side) => one.notes.map((note) => `${"AB"[side]}: ${note}`));
     return { title: labelOfPair(pair), files: pair.layers.map(({ file }) => file.name), names, by: pair.by, outcome: outcomeOf(pair), isSame: isSamePair(pair),
       words: outcomeWords(pair), besides: [...notes, ...besides(pair)], places: pair.compared?.places.length ?? 0 };
   }
 
-  /** @param {Pair} pair @param {PlotWindow} window */
-  see(pair, window) {
+  /** @param {Pair} pair @param {Compared} compared @param {PlotWindow} window */
+  see(pair, compared, window) {
     const [first, second] = this.pictures(pair, window);
     pair.window = window;
-    pair.compared.see(new Difference(first, second, window));
+    compared.see(new Difference(first, second, window));
     // (the pictures are let go: those of places are made when they are looked at)
-    pair.compared.difference = null;
+    compared.difference = null;
   }
 
-  /** @param {Pair} pair @param {PlotWindow} window */
-  pictures({ layers }, window) {
-    return layers.map(({ name }, side) => this.sides[side].picture(name, window));
+  /** @param {Pair} pair @param {PlotWindow} window @returns {[Picture, Picture]} */
+  pictures({ layers: [first, second] }, window) {
+    return [this.sides[0].picture(first.name, window), this.sides[1].picture(second.name, window)];
   }
 
   /**
    * A place with its picture.
-   * @param {{pair: number, place: number, width: number, height: number, zoom?: number}} asked
+   * @param {Worker.ComparingAsked["place"]} asked
    * @returns {PlaceShown}
    */
   place({ pair: at, place: number, width, height, zoom = 1 }) {
-    const pair = this.pairs[at], { compared } = pair, place = compared.places[number];
-    pair.owners ??= new Owners(pair);
+    const pair = this.pair(at), { compared } = pair, place = compared?.places[number];
+    if (!compared || !place) throw new Error("there is no such place");
+    const owners = pair.owners ??= new Owners(pair);
     const window = closer(windowOfPlace(place.box, width, height), zoom), [first, second] = this.pictures(pair, window);
-    const changes = place.owners.map((owner) => compared.changes[owner]);
+    const changes = place.owners.flatMap((owner) => compared.changes[owner] ?? []);
     const lines = changes.slice(0, MOST_CHANGES).map((change) => {
-      const of = pair.owners.words(change);
+      const of = owners.words(change);
       return `${changeWords(change, compared)}${of && ` (${of})`}`;
     });
     return { line: placeLine(place), changes: lines, more: changes.length - lines.length, box: place.box,

@@ -4,7 +4,8 @@
 import { Station } from "../station/index.js";
 import { functionsOfJobs, tellByJobs } from "../compare/index.js";
 import { isPbm, latin1, latin1Bytes, readPbm } from "../bytes/index.js";
-import { recognise, recogniseFiles, windowLine } from "../board/index.js";
+import { recogniseFiles, windowLine } from "../board/index.js";
+import { loadedLayer } from "./loaded.js";
 import { withAttributes } from "./attributes.js";
 
 /** @typedef {import("../board/index.js").Layer} Layer */
@@ -20,8 +21,8 @@ import { withAttributes } from "./attributes.js";
  * @property {boolean} isEdited whether lines made another thing of it than its file is
  *
  * @typedef {object} BoardLines the lines that a board's station accepted, and its layers
- * @property {{line: string, bytes?: Uint8Array}[]} lines those of loads with their files
- * @property {{name: string, kind: "gerber" | "drill", fileName: string, bytes: Uint8Array}[]} layers with files that say what each shows
+ * @property {Board.Sent[]} lines those of loads with their files
+ * @property {{name: string, kind: Board.LayerKind, fileName: string, bytes: Uint8Array}[]} layers with files that say what each shows
  * @property {BoardFile | null} job
  */
 
@@ -38,12 +39,10 @@ const COMMENTS = /G0?4(?![^*%]*#@!\s*T[AOD])[^*%]*\*/g;
 const isEqual = (one, other) => one.length === other.length && one.every((byte, at) => byte === other[at]);
 
 export class Side {
-  /** @param {WebAssembly.Module} compiled @param {string} title */
-  constructor(compiled, title) {
+  /** @param {WebAssembly.Module} compiled @param {number} depth how many steps its station can undo */
+  constructor(compiled, depth) {
     this.compiled = compiled;
-    this.title = title;
-    /** @type {Station | null} */
-    this.station = null;
+    this.station = new Station(compiled, depth);
     /** @type {SideLayer[]} */
     this.layers = [];
     /** @type {string[]} the names of files that are no layers */
@@ -65,7 +64,6 @@ export class Side {
 
   /** @param {BoardFile[]} files */
   openFiles(files) {
-    this.station = new Station(this.compiled, 1);
     this.functions = functionsOfJobs(files);
     const { layers, others } = recogniseFiles(files.filter(({ name, bytes }) => !JOB.test(name) && !isPbm(bytes)), false);
     tellByJobs(layers, this.functions);
@@ -83,28 +81,39 @@ export class Side {
    * A layer that was refused, by bytes that it was converted to, or why it stays refused.
    * @param {number} at
    * @param {{bytes: Uint8Array | null, words: string}} found
+   * @returns {string | null} why it is refused
    */
   mend(at, { bytes, words }) {
     const one = this.layers[at];
+    if (!one) throw new Error("there is no such layer");
     one.why = bytes === null ? words : this.load(one, bytes);
-    if (one.why !== null) return;
-    Object.assign(one, { bytes });
-    one.notes.push(words);
+    if (bytes !== null && one.why === null) {
+      one.bytes = bytes;
+      one.notes.push(words);
+    }
+    return one.why;
   }
 
-  /** @param {BoardLines & {depth: number}} given */
-  async openLines({ lines, layers, job, depth }) {
-    this.station = new Station(this.compiled, depth);
+  /**
+   * What is known of a layer.
+   * @param {Layer} layer
+   */
+  layerOf(layer) {
+    const found = this.layers.find((one) => one.layer === layer);
+    if (!found) throw new Error(`${layer.name} is a layer of the other board`);
+    return found;
+  }
+
+  /** @param {BoardLines} board @param {number} depth */
+  async openLines({ lines, layers, job }, depth) {
     if (job) this.functions = functionsOfJobs([job]);
     const taken = lines.filter(({ line }) => !LOOKING.test(line));
     for (const { line, bytes } of taken) {
       const reply = this.apply(line, bytes ?? null);
       if (reply !== null) throw new Error(`a line of the board is refused (${reply}): ${line.slice(0, 80)}`);
     }
-    this.layers = layers.map(({ name, kind, fileName, bytes }) => {
-      const layer = recognise({ name: fileName, bytes }, true);
-      return { layer: Object.assign(layer, { name, kind }), bytes, why: null, notes: [], isEdited: false };
-    });
+    this.layers = layers.map(({ name, kind, fileName, bytes }) =>
+      ({ layer: loadedLayer({ name: fileName, bytes }, name, kind), bytes, why: null, notes: [], isEdited: false }));
     tellByJobs(this.layers.map(({ layer }) => layer), this.functions);
     if (taken.some(({ line }) => !/^\s*load\s/.test(line))) await this.carry(taken, depth);
   }
@@ -118,17 +127,16 @@ export class Side {
     const { files } = await withAttributes(this.compiled, { layers: given, entries: lines, depth });
     given.forEach(({ one, canonical }, at) => {
       const comments = [...latin1(one.bytes).matchAll(COMMENTS)].map(([comment]) => comment).join("\n");
-      const said = files[at].bytes ?? canonical;
-      one.bytes = latin1Bytes(`${comments}\n${latin1(said)}`);
-      if (files[at].bytes === null) one.notes.push(`what its file says of its items is not compared: ${files[at].why}`);
+      const file = files[at], said = file?.bytes ?? null;
+      one.bytes = latin1Bytes(`${comments}\n${latin1(said ?? canonical)}`);
+      if (said === null) one.notes.push(`what its file says of its items is not compared: ${file?.why}`);
     });
   }
 
   // The text of a layer as its file has it.
   /** @param {SideLayer} one */
   asLoaded({ layer, bytes }) {
-    const side = new Side(this.compiled, "");
-    side.station = new Station(this.compiled, 1);
+    const side = new Side(this.compiled, 1);
     try {
       return side.apply(`load ${layer.name} ${layer.kind} ${layer.name}`, bytes) === null ? side.text(layer.name) : new Uint8Array();
     } finally {

@@ -2,23 +2,38 @@
 // { call, fault }.
 
 import { convertedOf, firstOf, waysOf } from "./converting.js";
+import { faultWords, unknown } from "./faults.js";
 import { filesOfArchive } from "../zip/index.js";
 
-/** @type {Record<string, (given: { layer?: Board.LayerKind, bytes: Uint8Array, choices?: import("./converting.js").Choices, archive?: string }) => unknown>} */
-const kinds = {
-  // The choices under which a file is offered first, with what comes of them.
-  first: ({ layer, bytes }) => firstOf(layer, bytes),
-  converted: ({ layer, bytes, choices }) => convertedOf(layer, bytes, choices),
-  unpack: ({ bytes, archive }) => filesOfArchive(bytes, archive),
-  ways: ({ layer, bytes }) => waysOf(layer, bytes).map(({ choices, words }) => ({ choices, words })),
-};
+/** @typedef {Worker.ConvertingAnswered[keyof Worker.ConvertingAnswered]} AnyAnswer */
 
-self.onmessage = async ({ data }) => {
-  const { call, kind } = data;
+/** @param {Worker.ConvertingAsked["unpack"]} message @returns {Promise<Worker.ConvertingAnswered["unpack"]>} */
+const unpack = ({ bytes, archive }) => filesOfArchive(bytes, archive);
+
+/** @param {Worker.ConvertingAsked["ways"]} message @returns {Worker.ConvertingAnswered["ways"]} */
+const ways = ({ layer, bytes }) => waysOf(layer, bytes).map(({ choices, words }) => ({ choices, words }));
+
+/** @param {Worker.ToConverting} message @returns {AnyAnswer | Promise<AnyAnswer>} */
+function answered(message) {
+  switch (message.kind) {
+    // The choices under which a file is offered first, with what comes of them.
+    case "first": return firstOf(message.layer, message.bytes);
+    case "converted": return convertedOf(message.layer, message.bytes, message.choices);
+    case "unpack": return unpack(message);
+    case "ways": return ways(message);
+    default: return unknown(message);
+  }
+}
+
+/** @type {(message: Worker.FromConverting, over?: Transferable[]) => void} */
+const post = (message, over = []) => self.postMessage(message, over);
+
+self.onmessage = async (/** @type {MessageEvent<Worker.ToConverting>} */ { data }) => {
+  const { call } = data;
   try {
-    const answer = await kinds[kind](data), { files = [] } = /** @type {{ files?: import("../zip/index.js").PackedFile[] }} */ (answer ?? {});
-    self.postMessage({ call, answer }, files.map(({ bytes }) => bytes.buffer));
+    const answer = await answered(data);
+    post({ call, answer }, answer && "files" in answer ? answer.files.map(({ bytes }) => bytes.buffer) : []);
   } catch (fault) {
-    self.postMessage({ call, fault: fault instanceof Error ? fault.message : String(fault) });
+    post({ call, fault: faultWords(fault) });
   }
 };

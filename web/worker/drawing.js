@@ -19,8 +19,27 @@ const PART_MS = 200, LONG_MS = 1000;
 const text = new TextEncoder();
 const words = new TextDecoder();
 
+/** @typedef {import("../bytes/index.js").Picture & { dirty?: number[] }} Picture a part of one has the numbers of the tiles that it lacks */
+/** @typedef {import("../station/index.js").Station} Station */
+/** @typedef {import("./opened.js").Opened} Opened */
+/** @typedef {Worker.Wanted} Wanted */
+/** @typedef {Worker.WantedLayer} Layer */
+
+// How many tiles a view's window has.
+/** @param {Wanted} view */
+function tilesIn({ window }) {
+  const { width, height } = windowOf(window);
+  return Math.ceil(width / 64) * Math.ceil(height / 64);
+}
+
 export class Drawing {
   // `post` hands a message to the page, with what goes over to it.
+  /**
+   * @param {Station} station
+   * @param {Map<string, { kind: string, items: number }>} layers
+   * @param {Worker.PostFromStation} post
+   * @param {WebAssembly.Module} compiled
+   */
   constructor(station, layers, post, compiled) {
     this.station = station;
     this.side = new BoardSide(this, compiled);
@@ -28,16 +47,24 @@ export class Drawing {
     this.layers = layers;
     this.post = post;
     // Pictures beside the layers, by the names that the page gave them.
+    /** @type {Map<string, Opened>} */
     this.opened = new Map();
+    /** @type {Wanted | null} */
     this.view = null;
     // The window that the station has, and that of the script, as lines.
+    /** @type {string | null} */
     this.current = null;
+    /** @type {string | null} */
     this.scripted = null;
     // Of the window as it is: which layers the page has, by their names, and how they looked.
+    /** @type {Map<string, string>} */
     this.sent = new Map();
     // How long each layer took, and what is still to be drawn.
+    /** @type {Map<string, number>} */
     this.took = new Map();
+    /** @type {Layer[]} */
     this.waiting = [];
+    /** @type {{ layer: Layer, start: number, sent: number, spent: number, tiles: number } | null} */
     this.part = null;
     // Whether the page has still to be told that all is drawn; since when it is drawn, and when the page was told how far.
     this.isOwed = false;
@@ -45,10 +72,12 @@ export class Drawing {
     this.told = 0;
   }
 
+  /** @param {string} line */
   apply(line) {
     return this.station.apply(text.encode(line));
   }
 
+  /** @param {string | null} line */
   use(line) {
     if (line === this.current || line === null) return;
     this.current = this.apply(line) === 0 ? line : this.current;
@@ -60,10 +89,12 @@ export class Drawing {
   }
 
   // A line `window` of the script was accepted.
+  /** @param {string} line */
   windowed(line) {
     this.current = this.scripted = line;
   }
 
+  /** @param {Wanted} view */
   show(view) {
     this.view = view;
     this.current = view.window === this.current ? this.current : "";
@@ -85,37 +116,42 @@ export class Drawing {
   }
 
   // Tells the page how far the drawing is, now and then where it takes long.
-  tell() {
+  /** @param {Wanted} view */
+  tell(view) {
     const now = performance.now();
     if (now - this.since < LONG_MS || now - this.told < PART_MS || !this.waiting.length) return;
     this.told = now;
-    const count = this.view.layers.length, part = this.part ? Math.min(0.99, this.part.tiles / this.tiles()) : 0;
-    this.post({ kind: "drawing", number: this.view.number, drawn: count - this.waiting.length, count, part });
+    const count = view.layers.length, part = this.part ? Math.min(0.99, this.part.tiles / tilesIn(view)) : 0;
+    this.post({ kind: "drawing", number: view.number, drawn: count - this.waiting.length, count, part });
   }
 
   // Draws the next layer, or a part of it; answers whether more is to be done.
   step() {
-    if (!this.waiting.length) return this.end();
-    const isNew = this.current !== this.view.window;
-    this.use(this.view.window);
-    if (this.current !== this.view.window) return this.stop("The view cannot be set.");
+    const { view, waiting: [first] } = this;
+    if (!view) return false;
+    if (!first) return this.end(view);
+    const isNew = this.current !== view.window;
+    this.use(view.window);
+    if (this.current !== view.window) return this.stop("The view cannot be set.");
     if (isNew) this.sent.clear();
-    const layer = this.part?.layer ?? this.waiting[0];
-    if (layer.isOpened) this.drawOpened(layer);
-    else if (this.part || this.isHeavy(layer)) this.drawPart(layer);
-    else this.drawWhole(layer);
-    this.tell();
-    return this.waiting.length > 0 || this.end();
+    const layer = this.part?.layer ?? first;
+    if (layer.isOpened) this.drawOpened(view, layer);
+    else if (this.part || this.isHeavy(layer)) this.drawPart(view, layer);
+    else this.drawWhole(view, layer);
+    this.tell(view);
+    return this.waiting.length > 0 || this.end(view);
   }
 
   // All is drawn, which the page is told once.
-  end() {
-    if (this.isOwed && this.view.made) this.side.send();
-    if (this.isOwed) this.post({ kind: "drawn", number: this.view.number });
+  /** @param {Wanted} view */
+  end(view) {
+    if (this.isOwed && view.made) this.side.send(view, view.made);
+    if (this.isOwed) this.post({ kind: "drawn", number: view.number });
     this.isOwed = false;
     return false;
   }
 
+  /** @param {string} why */
   stop(why) {
     this.waiting = [];
     this.isOwed = false;
@@ -123,86 +159,86 @@ export class Drawing {
     return false;
   }
 
-  isHeavy(layer) {
-    const took = this.took.get(layer.name);
-    return took === undefined ? this.layers.get(layer.name)?.items > HEAVY_ITEMS : took > HEAVY_MS;
+  /** @param {Layer} layer */
+  isHeavy({ name }) {
+    const took = this.took.get(name);
+    return took === undefined ? (this.layers.get(name)?.items ?? 0) > HEAVY_ITEMS : took > HEAVY_MS;
   }
 
-  drawWhole(layer) {
+  /** @param {Wanted} view @param {Layer} layer */
+  drawWhole(view, layer) {
     const start = performance.now();
     const code = this.apply(`plot ${layer.name} view`);
     this.waiting.shift();
     if (code) return this.post({ kind: "undrawn", name: layer.name, code });
     const drawn = Number(words.decode(this.station.reply).split(" ")[1]);
-    if (drawn > this.tiles() / 2) this.took.set(layer.name, performance.now() - start);
-    this.send(layer, drawn, () => pictureOf(this.station.file), false);
-  }
-
-  tiles() {
-    const [, , , , width, height] = this.view.window.split(" ").map(Number);
-    return Math.ceil(width / 64) * Math.ceil(height / 64);
+    if (drawn > tilesIn(view) / 2) this.took.set(layer.name, performance.now() - start);
+    this.send(view, layer, drawn, () => pictureOf(this.station.file), false);
   }
 
   // A heavy layer: tiles of it, and of those that were loaded before it, since the station draws in that order. When
   // none is left, the layer is plotted whole.
-  drawPart(layer) {
+  /** @param {Wanted} view @param {Layer} layer */
+  drawPart(view, layer) {
     const number = [...this.layers.keys()].indexOf(layer.name);
-    this.part ??= { layer, start: performance.now(), sent: performance.now(), spent: 0, tiles: 0 };
+    const part = this.part ??= { layer, start: performance.now(), sent: performance.now(), spent: 0, tiles: 0 };
     const start = performance.now();
     const code = this.station.redraw(PART);
-    this.part.spent += performance.now() - start;
+    part.spent += performance.now() - start;
     const drawn = code ? 0 : Number(words.decode(this.station.reply).split(" ")[1]);
-    this.part.tiles += drawn;
-    const isClean = drawn < PART || this.station.tile(number, this.tiles() - 1) !== null;
+    part.tiles += drawn;
+    const isClean = drawn < PART || this.station.tile(number, tilesIn(view) - 1) !== null;
     if (!isClean) {
-      if (performance.now() - this.part.sent < PART_MS) return;
-      this.part.sent = performance.now();
-      this.send(layer, -1, () => this.tilesOf(number), true);
+      if (performance.now() - part.sent < PART_MS) return;
+      part.sent = performance.now();
+      this.send(view, layer, -1, () => this.tilesOf(view, number), true);
       return;
     }
-    this.took.set(layer.name, Math.max(this.part.spent, this.took.get(layer.name) ?? 0));
+    this.took.set(layer.name, Math.max(part.spent, this.took.get(layer.name) ?? 0));
     this.part = null;
     this.sent.delete(layer.name);
-    this.drawRest(layer);
+    this.drawRest(view, layer);
   }
 
-  drawRest(layer) {
+  /** @param {Wanted} view @param {Layer} layer */
+  drawRest(view, layer) {
     const code = this.apply(`plot ${layer.name} view`);
     this.waiting.shift();
     if (code) return this.post({ kind: "undrawn", name: layer.name, code });
-    this.send(layer, 1, () => pictureOf(this.station.file), false);
+    this.send(view, layer, 1, () => pictureOf(this.station.file), false);
   }
 
   // The picture of the tiles that are clean, and the numbers of the others.
-  tilesOf(number) {
-    const [, , , , width, height] = this.view.window.split(" ").map(Number);
-    const stride = width + 7 >> 3;
-    const picture = { width, height, stride, bits: new Uint8Array(stride * height), dirty: [] };
-    for (let tile = 0, count = this.tiles(); tile < count; tile++) {
+  /** @param {Wanted} view @param {number} number of the layer @returns {Picture} */
+  tilesOf(view, number) {
+    const { width, height } = windowOf(view.window), stride = width + 7 >> 3, picture = { width, height, stride, bits: new Uint8Array(stride * height) };
+    /** @type {number[]} */
+    const dirty = [];
+    for (let tile = 0, count = tilesIn(view); tile < count; tile++) {
       const rows = this.station.tile(number, tile);
       if (rows) putTile(picture, rows, tile);
-      else picture.dirty.push(tile);
+      else dirty.push(tile);
     }
-    return picture;
+    return { ...picture, dirty };
   }
 
   // Hands the layer's picture over, but where the page has it already.
-  send(layer, drawn, picture, isPart) {
-    const looks = `${layer.colour} ${this.view.samples}`;
-    if (drawn === 0 && this.sent.get(layer.name) === looks) return;
-    if (this.view.made) {
-      if (!isPart) this.side.take(layer.name, this.view.window, picture());
-      this.sent.set(layer.name, looks);
+  /** @param {Wanted} view @param {Layer} layer @param {number} drawn @param {() => Picture} picture @param {boolean} isPart */
+  send(view, layer, drawn, picture, isPart) {
+    const { number, window, samples, made } = view, { name, colour } = layer, looks = `${colour} ${samples}`;
+    if (drawn === 0 && this.sent.get(name) === looks) return;
+    if (made) {
+      if (!isPart) this.side.take(name, window, picture());
+      this.sent.set(name, looks);
       return;
     }
-    const bitmap = this.bitmapOf(picture(), layer.colour);
-    if (!isPart) this.sent.set(layer.name, looks);
-    this.post({ kind: "picture", number: this.view.number, window: this.view.window, samples: this.view.samples,
-      name: layer.name, bitmap, isPart }, bitmap ? [bitmap] : []);
+    const bitmap = this.bitmapOf(view, picture(), colour);
+    if (!isPart) this.sent.set(name, looks);
+    this.post({ kind: "picture", number, window, samples, name, bitmap, isPart }, bitmap ? [bitmap] : []);
   }
 
-  bitmapOf(picture, colour) {
-    const { samples } = this.view;
+  /** @param {Wanted} view @param {Picture} picture @param {string} colour */
+  bitmapOf({ samples }, picture, colour) {
     const width = Math.ceil(picture.width / samples), height = Math.ceil(picture.height / samples);
     const image = new ImageData(width, height);
     const isAny = paint(picture, samples, inkOf(colour), new Uint32Array(image.data.buffer), width);
@@ -218,37 +254,43 @@ export class Drawing {
   }
 
   // A picture beside the layers; null where it goes.
+  /** @param {string} name @param {Opened | null} opened */
   keep(name, opened) {
     if (opened) this.opened.set(name, opened);
     else this.opened.delete(name);
     this.sent.delete(name);
   }
 
-  drawOpened({ name, colour }) {
+  /** @param {Wanted} view @param {Layer} layer */
+  drawOpened({ number, window, samples }, { name, colour }) {
     this.waiting.shift();
     if (this.sent.get(name) === colour) return;
-    const { left, low, pitch, width, height } = windowOf(this.view.window);
-    const seen = { left, low, right: left + width * pitch, top: low + height * pitch, pitch: pitch * this.view.samples };
+    const { left, low, pitch, width, height } = windowOf(window);
+    const seen = { left, low, right: left + width * pitch, top: low + height * pitch, pitch: pitch * samples };
     const part = this.opened.get(name)?.partIn(seen, colour) ?? null;
     this.sent.set(name, colour);
+    /** @type {ImageBitmap | null} */
     let bitmap = null;
     if (part) {
       const canvas = new OffscreenCanvas(part.image.width, part.image.height);
       canvas.getContext("2d").putImageData(part.image, 0, 0);
       bitmap = canvas.transferToImageBitmap();
     }
-    this.post({ kind: "picture", number: this.view.number, name, bitmap,
-      place: { left: part?.left, top: part?.top, pitch: part?.pitch } }, bitmap ? [bitmap] : []);
+    // (where it has no part in the view, it lies where that does)
+    const place = part ?? seen;
+    this.post({ kind: "picture", number, name, bitmap, place: { left: place.left, top: place.top, pitch: place.pitch } }, bitmap ? [bitmap] : []);
   }
 
   // The raw PBM files of layers in a window as they are now; null where the station refuses one.
+  /** @param {string[]} names @param {string} line @returns {Uint8Array[] | null} */
   filesIn(names, line) {
     this.use(line);
-    const files = names.map((name) => this.current === line && this.apply(`plot ${name} view`) === 0 ? this.station.file : null);
-    return files.includes(null) ? null : files;
+    const files = names.flatMap((name) => this.current === line && this.apply(`plot ${name} view`) === 0 ? this.station.file : []);
+    return files.length === names.length ? files : null;
   }
 
   // The picture of a layer in a window as it is now, or null.
+  /** @param {string} name @param {string} line */
   pictureIn(name, line) {
     this.use(line);
     return this.current === line && this.apply(`plot ${name} view`) === 0 ? pictureOf(this.station.file) : null;

@@ -1,7 +1,7 @@
 // A station that follows a page's: it takes the same lines, and keeps the pictures of copper and of holes at one pitch, so
 // that what each edit joins and cuts is found from the tiles that the station drew again.
 
-import { DRILL, HEAD, boxFrom, isInWindow, joined, recognise, windowAtPitch, windowLine } from "../board/index.js";
+import { DRILL, GERBER, HEAD, boxFrom, isInWindow, joined, windowAtPitch, windowLine } from "../board/index.js";
 import { NotJoined, readAttributes } from "../attributes/index.js";
 import {
   Desk, alignmentOf, alignmentWords, isEnough, numbersOf, padsOf, placeWords, pointsOfAttributes, pointsOfNetlist, saidItems,
@@ -9,7 +9,29 @@ import {
 } from "../nets/index.js";
 import { headOf, linesOf } from "../station/index.js";
 import { latin1 } from "../bytes/index.js";
+import { loadedLayer } from "./loaded.js";
 import { pictureOf } from "./pictures.js";
+
+/** @typedef {import("../board/index.js").Box} Box */
+/** @typedef {import("../nets/index.js").SaidItems} SaidItems */
+
+/**
+ * What is known of a layer since it was loaded.
+ * @typedef {object} Followed
+ * @property {import("../board/index.js").Layer} layer
+ * @property {Board.Point[]} pads the centres of its pads
+ * @property {SaidItems} items
+ * @property {import("../attributes/index.js").Reading | null} reading what its file says of its items, where it can be joined to them
+ */
+
+/**
+ * Where there is copper: its nets, the layers that make them, with their names, and the window of their pictures.
+ * @typedef {object} Found
+ * @property {Desk} desk
+ * @property {ReturnType<typeof stackOf>} stack
+ * @property {string[]} shown copper from the top, then holes
+ * @property {import("../board/index.js").PlotWindow} window
+ */
 
 const text = new TextEncoder();
 // The most pixels of a side: a board that is larger has a coarser pitch.
@@ -28,41 +50,55 @@ export class Follower {
   constructor(station, pitch) {
     this.station = station;
     this.pitch = pitch;
-    // By the names of the script: the layer, what its file says of its items, and the centres of its pads.
+    /** @type {Map<string, Followed>} by the names of the script */
     this.layers = new Map();
+    /** @type {import("../nets/index.js").Netlist | null} */
     this.netlist = null;
-    // Why a netlist is compared with nothing, if it is not.
+    // By how much the netlist is moved, and why it is compared with nothing, if it is not.
+    this.shift = { x: 0, y: 0 };
+    /** @type {string | null} */
     this.misfit = null;
-    this.desk = null;
+    /** @type {Found | null} */
+    this.found = null;
     // The layers that lines named since the nets were found last; null where it may be any.
+    /** @type {Set<string> | null} */
     this.touched = new Set();
   }
 
+  /** @param {string} line @param {Uint8Array | null} file */
   apply(line, file = null) {
     return this.station.apply(text.encode(line), file);
   }
 
   /**
    * Takes a line that the page's station accepted.
-   * @param {{line: string, name?: string, bytes?: Uint8Array}} given
+   * @param {Worker.FollowedLine} given
    */
-  take({ line, name, bytes }) {
-    const [word, layer, kind] = line.trim().split(/[ \t]+/);
+  take(given) {
+    const { line } = given, [word = "", layer = "", kind] = line.trim().split(/[ \t]+/);
     if (LOOKS.has(word)) return;
-    const code = this.apply(line, bytes ?? null);
+    const code = this.apply(line, "bytes" in given ? given.bytes : null);
     if (code) throw new Error(`${line}: refused ${code}, which the page's station accepted`);
     if (OF_ALL.has(word)) this.touched = null;
     else this.touched?.add(layer);
-    if (word === "load") this.loaded(layer, kind, name, bytes);
+    if (word === "load" && "bytes" in given) this.loaded(layer, kind === DRILL ? DRILL : GERBER, given.name, given.bytes);
   }
 
+  /** @param {string} name @param {Board.LayerKind} kind @param {string} fileName @param {Uint8Array} bytes */
   loaded(name, kind, fileName, bytes) {
-    const layer = recognise({ name: fileName, bytes: bytes.subarray(0, HEAD) }, true);
-    layer.name = name;
-    layer.kind = kind;
-    const items = saidItems(this.station, name);
+    const layer = loadedLayer({ name: fileName, bytes: bytes.subarray(0, HEAD) }, name, kind), items = saidItems(this.station, name);
     this.layers.set(name, { layer, pads: padsOf(items), items, reading: kind === DRILL ? null : readingOf(bytes, items.items.length) });
-    this.desk = null;
+    this.found = null;
+  }
+
+  /**
+   * A layer that was loaded.
+   * @param {string} name
+   */
+  layer(name) {
+    const found = this.layers.get(name);
+    if (!found) throw new Error(`${name} is not followed`);
+    return found;
   }
 
   /**
@@ -79,6 +115,7 @@ export class Follower {
   unplatedCentres() {
     return [...this.layers.values()].flatMap(({ layer, pads, items: { items, blocks } }) => {
       if (layer.layerFunction.name === "nonplated") return pads;
+      /** @type {ReadonlySet<number | null>} */
       const tools = layer.kind === DRILL ? toolsWithoutPlating(latin1(layer.file.bytes)) : new Set();
       return tools.size ? padsOf({ items: items.filter(({ words }) => tools.has(headOf(words).number)), blocks }) : [];
     });
@@ -90,89 +127,99 @@ export class Follower {
    */
   compareWith(netlist) {
     this.netlist = netlist;
-    if (this.desk) this.takePoints();
+    if (this.found) this.takePoints(this.found);
   }
 
-  takePoints() {
-    const { desk, netlist } = this, { copper } = this.stack;
+  /** @param {Found} found */
+  takePoints({ desk, stack }) {
+    const { netlist } = this;
     this.shift = { x: 0, y: 0 };
     this.misfit = null;
     if (!netlist) {
-      const said = copper.map(({ layer }) => ({ label: layer.name, ...this.layers.get(layer.name) }));
+      const said = stack.copper.map(({ layer: { name } }) => ({ label: name, ...this.layer(name) }));
       desk.compareWith(pointsOfAttributes(said, this.unplatedCentres()));
       return;
     }
     const alignment = alignmentOf(netlist, [...this.layers.values()].flatMap(({ pads }) => pads));
     this.shift = { x: alignment.x, y: alignment.y };
     if (!isEnough(alignment)) this.misfit = `only ${alignmentWords(alignment, netlist, placeWords(alignment))}: nothing is compared`;
-    desk.compareWith(this.misfit === null ? pointsOfNetlist(netlist, numbersOf(this.stack), alignment) : []);
+    desk.compareWith(this.misfit === null ? pointsOfNetlist(netlist, numbersOf(stack), alignment) : []);
   }
 
   /**
    * Finds the nets as the document is now.
-   * @returns {object | null} what was joined and cut, as `settleInWords` of a desk gives it; null where the nets are found for the
+   * @returns {ReturnType<Desk["settleInWords"]>} what was joined and cut, as `settleInWords` of a desk gives it; null where the nets are found for the
    *   first time, or where there is no copper
    */
   settle() {
-    const { touched } = this;
+    const { touched, found } = this;
     this.touched = new Set();
-    if (!this.desk || !this.isInside(touched)) return this.begin();
-    const { desk } = this;
+    if (!found || !this.isInside(found, touched)) return this.begin();
+    const { desk, shown, window } = found;
     let isOther = false;
-    this.shown.forEach((name, at) => {
+    shown.forEach((name, at) => {
       if (touched && !touched.has(name)) return;
-      const bands = this.dirtyBands(name);
+      const bands = this.dirtyBands(name, window);
       if (!bands.length) return;
       isOther = true;
-      this.draw(name, at);
+      this.draw(name, desk, at);
       for (const [first, last] of bands) desk.changed(at, first * TILE, Math.min(desk.grid.height, (last + 1) * TILE) - 1);
     });
-    if (!isOther) return { joins: [], cuts: [], appeared: [], vanished: [], before: desk.nets.count, after: desk.nets.count };
+    const { nets } = desk;
+    if (!isOther) return nets && { joins: [], cuts: [], appeared: [], vanished: [], before: nets.count, after: nets.count };
     return desk.settleInWords();
   }
 
   begin() {
-    this.desk = null;
-    this.stack = stackOf([...this.layers.values()].map(({ layer }) => layer));
-    const { copper, holes } = this.stack, boxes = [...copper, ...holes].map(({ layer }) => this.boxOf(layer.name)).filter((box) => box);
-    if (!copper.length || !boxes.length) return null;
-    this.shown = [...copper, ...holes].map(({ layer }) => layer.name);
-    this.window = this.windowOf(boxes);
-    if (this.apply(windowLine(this.window))) throw new Error("the window of the nets cannot be set");
-    const layers = [...copper.map(({ layer }) => ({ name: layer.name, passes: null })),
-      ...holes.map(({ layer, from, to }) => ({ name: layer.name, passes: [from, to] }))];
-    const desk = new Desk(this.window, layers);
-    this.desk = desk;
-    this.shown.forEach((name, at) => {
-      this.draw(name, at);
+    this.found = null;
+    const stack = stackOf([...this.layers.values()].map(({ layer }) => layer)), { copper, holes } = stack;
+    const boxes = [...copper, ...holes].flatMap(({ layer }) => this.boxOf(layer.name) ?? []), around = joined(boxes);
+    if (!copper.length || !around) return null;
+    const window = this.windowOf(boxes, around), shown = [...copper, ...holes].map(({ layer }) => layer.name);
+    if (this.apply(windowLine(window))) throw new Error("the window of the nets cannot be set");
+    const desk = new Desk(window, [...copper.map(({ layer }) => ({ name: layer.name, passes: null })), ...holes.map(({ layer, from, to }) => {
+      /** @type {[number, number]} */
+      const passes = [from, to];
+      return { name: layer.name, passes };
+    })]);
+    const found = { desk, stack, shown, window };
+    this.found = found;
+    shown.forEach((name, at) => {
+      this.draw(name, desk, at);
       desk.changed(at, 0, desk.grid.height - 1);
     });
     desk.settle();
-    this.takePoints();
+    this.takePoints(found);
     return null;
   }
 
-  windowOf(boxes) {
+  /** @param {Box[]} boxes @param {Box} around all of them */
+  windowOf(boxes, around) {
     const sides = boxes.flatMap(({ left, low, right, high }) => [right - left, high - low]);
     const least = Math.ceil(Math.max(...sides) / MOST_SIDE);
-    return windowAtPitch(joined(boxes), Math.max(this.pitch, least));
+    return windowAtPitch(around, Math.max(this.pitch, least));
   }
 
+  /** @param {string} name */
   boxOf(name) {
     return boxFrom(linesOf(this.station, `box ${name}`)[0]);
   }
 
   // Whether the copper and the holes that lines touched lie in the window still.
-  isInside(touched) {
-    return this.shown.every((name) => {
+  /** @param {Found} found @param {Set<string> | null} touched */
+  isInside({ shown, window }, touched) {
+    return shown.every((name) => {
       const box = !touched || touched.has(name) ? this.boxOf(name) : null;
-      return !box || isInWindow(this.window, box);
+      return !box || isInWindow(window, box);
     });
   }
 
   // The bands of tiles that the station has to draw again, as the first and the last of each stretch.
-  dirtyBands(name) {
-    const { width, height } = this.window, across = Math.ceil(width / TILE), down = Math.ceil(height / TILE), bands = [];
+  /** @param {string} name @param {Found["window"]} window */
+  dirtyBands(name, { width, height }) {
+    const across = Math.ceil(width / TILE), down = Math.ceil(height / TILE);
+    /** @type {[first: number, last: number][]} */
+    const bands = [];
     const number = this.numbers().indexOf(name);
     for (let band = 0; band < down; band++) {
       let isDirty = false;
@@ -190,14 +237,16 @@ export class Follower {
     return linesOf(this.station, "layers").map((line) => line.split(" ")[0]);
   }
 
-  draw(name, at) {
+  /** @param {string} name @param {Desk} desk @param {number} at its place there */
+  draw(name, desk, at) {
     const code = this.apply(`plot ${name} view`);
     if (code) throw new Error(`${name} cannot be drawn: refused ${code}`);
-    this.desk.pictures[at].bits.set(pictureOf(this.station.file).bits);
+    desk.pictures[at]?.bits.set(pictureOf(this.station.file).bits);
   }
 }
 
 // What a file says of its items, where it can be joined to them.
+/** @param {Uint8Array} bytes @param {number} count */
 function readingOf(bytes, count) {
   try {
     const reading = readAttributes(bytes);

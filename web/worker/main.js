@@ -1,9 +1,11 @@
 // The worker: the station, and the messages of the page to it. A message is { number, kind, .. }, its answer has the same
 // number; pictures come between them, without one. What the page asks goes before what is still to be drawn.
 
-import { Station, asked, inside, look } from "../station/index.js";
+import { Station, inside, look } from "../station/index.js";
+import { faultWords, unknown } from "./faults.js";
 import { gap, shapes } from "./apart.js";
 import { like, touched } from "./choosing.js";
+import { lineOf } from "./answers.js";
 import { near, pileAt, under } from "./lying.js";
 import { tally } from "./tallies.js";
 import { droppedOf, withAttributes } from "./attributes.js";
@@ -19,12 +21,26 @@ const SLICE_MS = 50;
 const text = new TextEncoder();
 const words = new TextDecoder();
 
-let station = null, drawing = null, compiled = null, telling = null;
-let layers = new Map();
+/**
+ * What there is once the station is open; its layers are by their names, each with how many items it had when it was loaded.
+ * @typedef {object} Open
+ * @property {WebAssembly.Module} compiled
+ * @property {Station} station
+ * @property {Map<string, { kind: string, items: number }>} layers
+ * @property {Drawing} drawing
+ * @property {Telling} telling
+ */
+/** @type {Open | null} */
+let opened = null;
 // Whether lines are being applied, so that nothing is drawn between them; and whether they are to be stopped.
 let isApplying = false, isStopping = false;
 
-/** @type {(message: object, over?: Transferable[]) => void} */
+function here() {
+  if (!opened) throw new Error("no station is open");
+  return opened;
+}
+
+/** @type {Worker.PostFromStation} */
 const post = (message, over = []) => self.postMessage(message, over);
 
 // Draws on after every message that waits.
@@ -32,12 +48,12 @@ const channel = new MessageChannel();
 let isGoing = false;
 channel.port1.onmessage = () => {
   isGoing = false;
-  if (isApplying) return;
+  if (isApplying || !opened) return;
   try {
-    if (drawing.step()) goOn();
+    if (opened.drawing.step()) goOn();
   } catch (fault) {
     if (fault instanceof WebAssembly.RuntimeError) post({ fault: faultWords(fault) });
-    else drawing.stop(String(fault));
+    else opened.drawing.stop(String(fault));
   }
 };
 
@@ -47,12 +63,10 @@ function goOn() {
   channel.port2.postMessage(null);
 }
 
+/** @param {Worker.StationAsked["open"]} message */
 async function open({ module, depth }) {
-  compiled = await WebAssembly.compile(module);
-  station = new Station(compiled, depth);
-  layers = new Map();
-  drawing = new Drawing(station, layers, post, compiled);
-  telling = new Telling(station, depth);
+  const compiled = await WebAssembly.compile(module), station = new Station(compiled, depth), layers = new Map();
+  opened = { compiled, station, layers, drawing: new Drawing(station, layers, post, compiled), telling: new Telling(station, depth) };
   return {};
 }
 
@@ -60,17 +74,18 @@ const LOOKING = new Set(["plot", "redraw"]);
 
 /**
  * One line of a script.
- * @param {{line: string, bytes?: Uint8Array | null}} given its bytes are those of a load
+ * @param {Board.Sent} given its bytes are those of a load
+ * @returns {Board.Applied}
  */
 function applied({ line, bytes: file }) {
-  const [command, ...rest] = line.split(/[ \t]+/).filter((word) => word);
+  const { station, drawing, telling, layers } = here(), [command = "", name = "", kind = ""] = line.split(/[ \t]+/).filter((word) => word);
   if (LOOKING.has(command)) drawing.useScripted();
   const code = station.apply(text.encode(line), file ?? null);
-  const reply = words.decode(station.reply).trimEnd();
+  const reply = words.decode(station.reply).trimEnd(), items = Number(reply.split(" ")[1]);
   const isPut = code === 0 && (command === "plot" || command === "write");
   if (code === 0 && command === "window") drawing.windowed(line);
-  if (code === 0) telling.heard(line, file, Number(reply.split(" ")[1]));
-  if (code === 0 && command === "load") layers.set(rest[0], { kind: rest[1], items: Number(reply.split(" ")[1]) });
+  if (code === 0) telling.heard(line, file, items);
+  if (code === 0 && command === "load") layers.set(name, { kind, items });
   return { code, reply, bytes: isPut ? station.file : null };
 }
 
@@ -78,6 +93,7 @@ const pause = () => new Promise((done) => setTimeout(done));
 
 // The lines of a gesture, one after another until one is refused; of a group all or none, with the answers to those
 // around it.
+/** @param {Board.Asked["lines"]} message @returns {Promise<Worker.Over<Board.Lines>>} */
 async function lines({ lines: given, isGroup }) {
   const answers = isGroup ? [applied({ line: "begin" })] : [];
   let since = performance.now();
@@ -90,12 +106,13 @@ async function lines({ lines: given, isGroup }) {
         since = performance.now();
       }
       if (isStopping) break;
-      answers.push(applied(line));
-      if (answers[answers.length - 1].code) break;
+      const answer = applied(line);
+      answers.push(answer);
+      if (answer.code) break;
     }
     const isWhole = answers.length === given.length + (isGroup ? 1 : 0) && !answers.some(({ code }) => code);
     if (isGroup) answers.push(applied({ line: isWhole ? "end" : "abort" }));
-    drawing.refresh();
+    here().drawing.refresh();
     return { answers, isStopped: isStopping && !isWhole && isGroup,
       over: answers.flatMap(({ bytes }) => bytes ? [bytes.buffer] : []) };
   } finally {
@@ -105,9 +122,10 @@ async function lines({ lines: given, isGroup }) {
 }
 
 // What is asked in words. A file that can't be read for that is no fault of the station, which goes on.
-function told(kind, message) {
+/** @template T @param {(telling: Telling) => T | null} ask @returns {Board.Answer<T>} */
+function told(ask) {
   try {
-    return { found: telling[kind](message), why: null };
+    return { found: ask(here().telling), why: null };
   } catch (fault) {
     if (fault instanceof WebAssembly.RuntimeError) throw fault;
     return { found: null, why: faultWords(fault) };
@@ -115,79 +133,100 @@ function told(kind, message) {
 }
 
 // A comparison whose pictures go over to the page.
+/** @template {Board.Sheets} T @param {T} found @returns {Worker.Over<T>} */
 function withSheets(found) {
   goOn();
   return { ...found, over: (found.sheets ?? []).flatMap((sheet) => sheet.bitmaps) };
 }
 
-const kinds = {
-  open,
-  lines,
-  look: (message) => look(station, message),
-  under: (message) => under(station, message),
-  pile: (message) => pileAt(station, message),
-  near: (message) => near(station, message),
-  tally: (message) => tally(station, message),
-  shapes: (message) => {
-    const found = shapes(compiled, station, message);
-    return { shapes: found, over: found.flatMap(({ bitmap }) => bitmap ?? []) };
-  },
-  gap: (message) => gap(compiled, station, message),
-  inside: (message) => inside(station, message),
-  touched: (message) => touched(station, message),
-  like: (message) => like(station, message),
-  boxes: ({ names }) => ({ boxes: names.map((name) => asked(station, `box ${name}`).answer.split("\n")[0]) }),
-  stop: () => {
-    isStopping = true;
-    return {};
-  },
-  view: ({ view }) => {
-    drawing.show(view);
-    goOn();
-    return {};
-  },
-  halt: () => {
-    drawing.halt();
-    goOn();
-    return {};
-  },
-  compare: (message) => withSheets(compare(drawing, message)),
-  compareView: (message) => withSheets(compareView(drawing, message)),
-  compareTwoView: (message) => withSheets(compareTwoView(drawing, message)),
-  picture: ({ name, picture, line: window }) => {
-    drawing.keep(name, picture && new Opened(picture, window));
-    drawing.refresh();
-    goOn();
-    return {};
-  },
-  compareTwo: (message) => {
-    const found = compareTwo(drawing, message);
-    goOn();
-    return found;
-  },
-  pictures: ({ names, line }) => {
-    const pictures = drawing.filesIn(names, line);
-    drawing.refresh();
-    goOn();
-    return { pictures, over: (pictures ?? []).map((bytes) => bytes.buffer) };
-  },
-  words: (message) => told("words", message),
-  at: (message) => told("at", message),
-  find: (message) => told("find", message),
-  shared: (message) => told("shared", message),
-  lit: (message) => told("lit", message),
-  about: (message) => told("about", message),
-  dropped: droppedOf,
-  withAttributes: (message) => withAttributes(compiled, message),
-  memory: () => ({ bytes: station.memory }),
-};
+/** @param {Worker.StationAsked["shapes"]} message @returns {Worker.Over<Worker.StationAnswered["shapes"]>} */
+function shapesOf(message) {
+  const { compiled, station } = here(), found = shapes(compiled, station, message);
+  return { shapes: found, over: found.flatMap(({ bitmap }) => bitmap ?? []) };
+}
 
-const faultWords = (fault) => fault instanceof Error ? fault.message : String(fault);
+/** @param {Board.Asked["pictures"]} message @returns {Worker.Over<Board.Answered["pictures"]>} */
+function picturesOf({ names, line }) {
+  const { drawing } = here(), pictures = drawing.filesIn(names, line);
+  drawing.refresh();
+  goOn();
+  return { pictures, over: (pictures ?? []).map((bytes) => bytes.buffer) };
+}
 
-self.onmessage = async ({ data }) => {
-  const { number, call } = data, of = call === undefined ? { number } : { call };
+/** @param {Board.Asked["picture"]} message */
+function keep({ name, picture, line: window }) {
+  const { drawing } = here();
+  drawing.keep(name, picture && window !== undefined ? new Opened(picture, window) : null);
+  drawing.refresh();
+  goOn();
+  return {};
+}
+
+// Draws what `change` makes of the view.
+/** @param {(drawing: Drawing) => void} change */
+function redrawn(change) {
+  change(here().drawing);
+  goOn();
+  return {};
+}
+
+function stop() {
+  isStopping = true;
+  return {};
+}
+
+/** @param {Board.Asked["compareTwo"]} message */
+function comparedTwo(message) {
+  const found = compareTwo(here().drawing, message);
+  goOn();
+  return found;
+}
+
+/**
+ * @param {Worker.ToStation} message
+ * @returns {Worker.Over<Worker.StationAnswered[keyof Worker.StationAnswered]> | Promise<Worker.Over<Worker.StationAnswered[keyof Worker.StationAnswered]>>}
+ */
+function answered(message) {
+  switch (message.kind) {
+    case "open": return open(message);
+    case "lines": return lines(message);
+    case "look": return look(here().station, message);
+    case "under": return under(here().station, message);
+    case "pile": return pileAt(here().station, message);
+    case "near": return near(here().station, message);
+    case "tally": return tally(here().station, message);
+    case "shapes": return shapesOf(message);
+    case "gap": return gap(here().compiled, here().station, message);
+    case "inside": return inside(here().station, message);
+    case "touched": return touched(here().station, message);
+    case "like": return like(here().station, message);
+    case "boxes": return { boxes: message.names.map((name) => lineOf(here().station, `box ${name}`)) };
+    case "stop": return stop();
+    case "view": return redrawn((drawing) => drawing.show(message.view));
+    case "halt": return redrawn((drawing) => drawing.halt());
+    case "compare": return withSheets(compare(here().drawing, message));
+    case "compareView": return withSheets(compareView(here().drawing, message));
+    case "compareTwoView": return withSheets(compareTwoView(here().drawing, message));
+    case "compareTwo": return comparedTwo(message);
+    case "picture": return keep(message);
+    case "pictures": return picturesOf(message);
+    case "words": return told((telling) => telling.words(message));
+    case "at": return told((telling) => telling.at(message));
+    case "find": return told((telling) => telling.find(message));
+    case "shared": return told((telling) => telling.shared(message));
+    case "lit": return told((telling) => telling.lit(message));
+    case "about": return told((telling) => telling.about(message));
+    case "dropped": return droppedOf(message);
+    case "withAttributes": return withAttributes(here().compiled, message);
+    case "memory": return { bytes: here().station.memory };
+    default: return unknown(message);
+  }
+}
+
+self.onmessage = async (/** @type {MessageEvent<Worker.ToStation>} */ { data }) => {
+  const of = "call" in data ? { call: data.call } : { number: data.number };
   try {
-    const { over = [], ...answer } = await kinds[data.kind](data);
+    const { over = [], ...answer } = await answered(data);
     post({ ...of, answer }, over);
   } catch (fault) {
     post({ ...of, fault: faultWords(fault) });

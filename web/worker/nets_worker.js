@@ -4,49 +4,65 @@
 import { CheckedBoard } from "./checked_board.js";
 import { Follower, MOST_SIDE } from "./follower.js";
 import { Station } from "../station/index.js";
+import { faultWords, unknown } from "./faults.js";
 import { readNetlist } from "../nets/index.js";
 
-let follower = null;
-let board = null;
+/** @typedef {Worker.NetsAnswered[keyof Worker.NetsAnswered]} AnyAnswer */
+
+/** @type {{ follower: Follower, board: CheckedBoard } | null} */
+let opened = null;
 // The check that is under way.
 let checking = { isStopped: true };
 
 // A check lets other messages in after so many ms.
 const TURN_MS = 40;
 
+function here() {
+  if (!opened) throw new Error("no station is open");
+  return opened;
+}
+
+/** @param {Worker.NetsAsked["open"]} message */
 async function open({ module, depth, pitch }) {
   const compiled = await WebAssembly.compile(module);
-  follower = new Follower(new Station(compiled, depth), pitch);
-  board = new CheckedBoard(compiled);
+  opened = { follower: new Follower(new Station(compiled, depth), pitch), board: new CheckedBoard(compiled) };
   return {};
 }
 
 // Lines that the page's station accepted, with the bytes of loads; what they joined and cut, in one.
+/** @param {Worker.NetsAsked["lines"]} message @returns {Worker.NetsAnswered["lines"]} */
 function lines({ lines: given }) {
-  const start = performance.now();
+  const start = performance.now(), { follower } = here();
   for (const line of given) follower.take(line);
   const changes = follower.settle();
   return { changes, ...about(), ms: performance.now() - start };
 }
 
 // What the page says of the nets as a whole.
+/** @returns {Worker.NetsKnown} */
 function about() {
-  const { desk, stack, netlist, shift, misfit, window } = follower;
-  if (!desk) return { count: null };
-  return { count: desk.nets.count, pieces: desk.nets.pieces, pitch: window.pitch, window, shown: follower.shown,
+  const { found, netlist, shift, misfit } = here().follower;
+  if (!found?.desk.nets) return { count: null };
+  const { desk, desk: { nets }, stack, window, shown } = found;
+  return { count: nets.count, pieces: nets.pieces, pitch: window.pitch, window, shown,
     copper: desk.copperCount, missing: stack.missing, points: desk.points.length, isNetlist: netlist !== null, shift,
     misfit };
 }
 
 // All that hangs together with a place, on the first of some layers that is copper there.
+/** @param {Worker.NetsAsked["net"]} message @returns {Worker.Over<Worker.NetsAnswered["net"]>} */
 function net({ x, y, names }) {
-  const { desk, shown } = follower;
-  if (!desk) return { net: null };
-  const order = names.map((name) => shown.indexOf(name)).filter((at) => at >= 0), found = desk.netAt(x, y, order);
-  return { net: found < 0 ? null : desk.about(found), ...about() };
+  const { found } = here().follower;
+  if (!found) return { net: null };
+  const { desk, shown } = found;
+  const order = names.map((name) => shown.indexOf(name)).filter((at) => at >= 0), number = desk.netAt(x, y, order);
+  const its = number < 0 ? null : desk.about(number);
+  return { net: its, ...about(), over: (its?.runs ?? []).map(({ buffer }) => buffer) };
 }
 
+/** @param {Worker.NetsAsked["netlist"]} message @returns {Worker.NetsAnswered["netlist"]} */
 function netlist({ bytes }) {
+  const { follower } = here();
   if (bytes === null) {
     follower.compareWith(null);
     return { refusals: [], ...about() };
@@ -58,16 +74,17 @@ function netlist({ bytes }) {
 
 // Checks nets and rules, step by step; null where it was stopped, or where there is no copper. Meanwhile other messages are answered,
 // and it tells how far it is.
+/** @param {Worker.NetsAsked["check"]} message @returns {Promise<Worker.NetsAnswered["check"]>} */
 async function check({ limits }) {
-  const start = performance.now(), own = { isStopped: false }, { misfit, desk } = follower;
+  const start = performance.now(), own = { isStopped: false }, { follower, board } = here(), { misfit, found } = follower;
   checking.isStopped = true;
   checking = own;
-  if (!desk) return { findings: null };
-  const steps = board.steps(follower, { limits: new Map(limits), pitch: follower.pitch, most: MOST_SIDE, points: desk.points });
+  if (!found) return { findings: null };
+  const steps = board.steps(follower, { limits: new Map(limits), pitch: follower.pitch, most: MOST_SIDE, points: found.desk.points });
   let turned = start, next = steps.next();
-  for (; !next.done; next = steps.next()) {
+  for (; next.done !== true; next = steps.next()) {
     if (performance.now() - turned < TURN_MS) continue;
-    self.postMessage({ kind: "checking", checking: next.value });
+    post({ kind: "checking", checking: next.value });
     await new Promise((done) => setTimeout(done, 0));
     if (own.isStopped) return { findings: null, isStopped: true };
     turned = performance.now();
@@ -75,24 +92,40 @@ async function check({ limits }) {
   return { findings: next.value && { ...next.value, misfit, ms: performance.now() - start } };
 }
 
-const kinds = {
-  open,
-  lines,
-  net,
-  netlist,
-  check,
-  stop: () => {
-    checking.isStopped = true;
-    return {};
-  },
-  near: ({ net: of, gap }) => ({ near: follower.desk.nextTo(of, gap) }),
-};
+function stop() {
+  checking.isStopped = true;
+  return {};
+}
 
-self.onmessage = async ({ data: { call, kind, ...given } }) => {
+/** @param {Worker.NetsAsked["near"]} message @returns {Worker.NetsAnswered["near"]} */
+function near({ net: of, gap }) {
+  const { found } = here().follower;
+  return { near: found ? found.desk.nextTo(of, gap) : [] };
+}
+
+/** @param {Worker.ToNets} message @returns {Worker.Over<AnyAnswer> | Promise<Worker.Over<AnyAnswer>>} */
+function answered(message) {
+  switch (message.kind) {
+    case "open": return open(message);
+    case "lines": return lines(message);
+    case "net": return net(message);
+    case "netlist": return netlist(message);
+    case "check": return check(message);
+    case "stop": return stop();
+    case "near": return near(message);
+    default: return unknown(message);
+  }
+}
+
+/** @type {(message: Worker.FromNets, over?: Transferable[]) => void} */
+const post = (message, over = []) => self.postMessage(message, over);
+
+self.onmessage = async (/** @type {MessageEvent<Worker.ToNets>} */ { data }) => {
+  const { call } = data;
   try {
-    const answer = await kinds[kind](given);
-    self.postMessage({ call, answer }, (answer.net?.runs ?? []).map(({ buffer }) => buffer));
+    const { over = [], ...answer } = await answered(data);
+    post({ call, answer }, over);
   } catch (fault) {
-    self.postMessage({ call, fault: fault instanceof Error ? fault.message : String(fault) });
+    post({ call, fault: faultWords(fault) });
   }
 };

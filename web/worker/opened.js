@@ -2,21 +2,21 @@
 // own, and is drawn by the part of it that a view shows, at any zoom with each of its pixels in its place.
 
 import { compared, inkOf, ones } from "./pictures.js";
+import { joined } from "../board/index.js";
 
 // How opaque a square with few black pixels is at least, so that a single one is seen.
 const LEAST = 96;
 
 /**
- * Of a line `window`.
+ * Of a line `window`; what it lacks is no number.
  * @param {string} line
  */
 export function windowOf(line) {
-  const [left, low, pitch, width, height] = line.trim().split(/\s+/).slice(1).map(Number);
+  const [left = NaN, low = NaN, pitch = NaN, width = NaN, height = NaN] = line.trim().split(/\s+/).slice(1).map(Number);
   return { left, low, pitch, width, height };
 }
 
 /** @typedef {import("../bytes/index.js").Picture} Picture */
-/** @typedef {{left: number, low: number, right: number, high: number}} Sides of a box, in nm */
 
 // A picture with its window.
 export class Opened {
@@ -40,13 +40,13 @@ export class Opened {
   // How many pixels are black in each square of 8 by 8.
   eighths() {
     if (this.counts) return this.counts;
-    const { height, stride, bits } = this.picture;
-    this.counts = new Uint8Array(stride * Math.ceil(height / 8));
+    const { height, stride, bits } = this.picture, counts = new Uint8Array(stride * Math.ceil(height / 8));
     for (let row = 0, at = 0; row < height; row++) {
       const to = (row >> 3) * stride;
-      for (let column = 0; column < stride; column++, at++) this.counts[to + column] += ones[bits[at]];
+      for (let column = 0; column < stride; column++, at++) counts[to + column] = (counts[to + column] ?? 0) + (ones[bits[at] ?? 0] ?? 0);
     }
-    return this.counts;
+    this.counts = counts;
+    return counts;
   }
 
   /**
@@ -70,13 +70,13 @@ export class Opened {
     let count = 0;
     if (step < 8) {
       for (let y = row; y < end; y++) {
-        for (let x = column; x < right; x++) count += bits[y * stride + (x >> 3)] >> 7 - (x & 7) & 1;
+        for (let x = column; x < right; x++) count += (bits[y * stride + (x >> 3)] ?? 0) >> 7 - (x & 7) & 1;
       }
       return count;
     }
     const counts = this.eighths();
     for (let y = row >> 3; y < end + 7 >> 3; y++) {
-      for (let x = column >> 3; x < right + 7 >> 3; x++) count += counts[y * stride + x];
+      for (let x = column >> 3; x < right + 7 >> 3; x++) count += counts[y * stride + x] ?? 0;
     }
     return count;
   }
@@ -112,7 +112,7 @@ export class Opened {
 
   /**
    * The box of the black pixels in nm, null where there is none.
-   * @returns {Sides | null}
+   * @returns {Board.Box | null}
    */
   box() {
     const { height, stride, bits } = this.picture;
@@ -134,19 +134,6 @@ export class Opened {
 }
 
 /**
- * The box around boxes; null where there is none.
- * @param {(Sides | null)[]} boxes
- * @returns {Sides | null}
- */
-export function around(boxes) {
-  const found = boxes.filter((box) => box);
-  /** @type {(key: keyof Sides, choose: (...values: number[]) => number) => number} */
-  const join = (key, choose) => choose(...found.map((box) => box[key]));
-  return found.length ? { left: join("left", Math.min), low: join("low", Math.min), right: join("right", Math.max),
-    high: join("high", Math.max) } : null;
-}
-
-/**
  * What two pictures of one window have in both, in the first alone and in the second alone: pictures of the same window,
  * how many pixels each has, and the box of where they differ.
  * @param {Picture} first
@@ -156,5 +143,5 @@ export function around(boxes) {
 export function difference(first, second, line) {
   const parts = compared(first, second).map(({ picture, count }, at) =>
     ({ opened: new Opened(picture, line, at > 0), count }));
-  return { parts, box: around(parts.slice(1).map(({ opened }) => opened.box())) };
+  return { parts, box: joined(parts.slice(1).map(({ opened }) => opened.box())) };
 }
