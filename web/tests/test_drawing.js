@@ -133,7 +133,7 @@ suite("20 layers", () => {
 
   test("a long drawing says how far it is, and can be stopped", async () => {
     // A page whose worker needs 200 ms for each layer.
-    const page = join(room(), "slow.html"), method = "\ndrawWhole(layer) {\n", text = readFileSync(builtPage(), "utf8");
+    const page = join(room(), "slow.html"), method = "\ndrawWhole(view, layer) {\n", text = readFileSync(builtPage(), "utf8");
     assert.equal(text.split(method).length, 2);
     writeFileSync(page, text.replace(method, `${method}for (const until = performance.now() + 200; performance.now() < until;);\n`));
     const browser = await withLayers({ page });
