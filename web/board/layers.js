@@ -7,8 +7,9 @@ import { byName, drawingOf, isOfLayers, nameParts } from "./layer_names.js";
 export { byAttribute, byName, nameParts };
 
 /**
- * A file to look at; its bytes may be the first 65,536 alone. Its path is kept where it lies on a disk.
- * @typedef {{name: string, bytes: Uint8Array, path?: string}} BoardFile
+ * A file to look at; its bytes may be the first 65,536 alone. Its path is kept where it lies on a disk; a disk's names are
+ * bytes, and need not be UTF-8.
+ * @typedef {{name: string, bytes: Uint8Array, path?: string | Uint8Array}} BoardFile
  */
 
 /** What told what a layer shows. */

@@ -17,4 +17,5 @@ export { convertGerber } from "./gerber/convert.js";
 export { Failure, refusalText, toldChanges, toldRefusals } from "./report.js";
 
 /** @typedef {import("./choices.js").Choice} Choice */
+/** @typedef {import("./choices.js").Chosen} Chosen */
 /** @typedef {import("./report.js").Refusal} Refusal */

@@ -27,7 +27,7 @@ export function lookOf({ wanted, label, colour, height, isShown, fileName, origi
 /** @param {import("../board/index.js").Layer} layer @returns {Machine.Recognised} */
 const recognised = ({ file, kind, layerFunction, toldBy }) => ({ kind, wanted: layerFunction.name, label: layerFunction.label,
   colour: layerFunction.colour, height: layerFunction.height, isShown: layerFunction.isShown, fileName: file.name,
-  origin: file.path ?? file.name, toldBy });
+  origin: typeof file.path === "string" ? file.path : file.name, toldBy });
 
 // Takes in files, [{ name, bytes }]; `faults` are words about those that could not be read. They are kept at once, and
 // loaded one after another when their turn comes. Answers the number of the opening.
@@ -39,7 +39,7 @@ export function open(turn, { files, areNamed = true, faults = [] }) {
   const given = { ...turn.state.files };
   /** @type {string[]} */
   const made = [];
-  /** @param {Machine.File} file */
+  /** @param {Pick<Machine.File, "name" | "bytes">} file */
   const take = (file) => {
     const id = `given ${turn.number()}`;
     given[id] = { name: file.name, bytes: file.bytes };
