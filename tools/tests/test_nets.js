@@ -164,7 +164,7 @@ suite("netlists", () => {
   });
 
   test("those of the examples", () => {
-    for (const [folder, name, count] of [["kicad", "nightlight", 17], ["four_layers", "thermometer", 32]]) {
+    for (const { folder, name, count } of [{ folder: "kicad", name: "nightlight", count: 17 }, { folder: "four_layers", name: "thermometer", count: 32 }]) {
       const bytes = readFileSync(join(REPOSITORY, "examples", folder, `${name}.d356`));
       assert.equal(readNetlist(bytes).netlist.points.length, count);
     }
