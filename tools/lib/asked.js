@@ -4,14 +4,18 @@ import { mkdtempSync, rmSync, writeFileSync } from "node:fs";
 import { join } from "node:path";
 import { tmpdir } from "node:os";
 import { explain } from "../../web/board/index.js";
+import { Failure } from "./command.js";
 import { PROGRAM } from "./places.js";
 import { canRun, isBuilt, meanings, runLines } from "./station.js";
 
+/** @param {string} program @param {string} line @param {Uint8Array} bytes */
 function replyOf(program, line, bytes) {
   const room = mkdtempSync(join(tmpdir(), "camplot-"));
   try {
     writeFileSync(join(room, "file"), bytes);
-    return runLines(program, room, [line])[0];
+    const [reply] = runLines(program, room, [line]);
+    if (!reply) throw new Failure(`${program}: no reply`);
+    return reply;
   } finally {
     rmSync(room, { recursive: true, force: true });
   }

@@ -13,17 +13,22 @@ const NAME = "it";
 // No coordinate of a question is greater, in nm.
 const FAR = 4_000_000_000;
 const LINE_END = 10;
+/** @param {string} text */
 const bytesOf = (text) => new TextEncoder().encode(text);
+/** @param {number} place */
 const within = (place) => Math.max(-FAR, Math.min(FAR, place));
 
 /** A station that a question is never refused of: it has the memory for the answer, or the tool stops. */
 class Answering extends Station {
+  /** @param {Uint8Array} question */
   ask(question) {
     const code = super.ask(question);
     if (code) throw new Failure(`the question '${latin1(question)}' was refused ${code}`);
     return code;
   }
 }
+
+/** @typedef {keyof Board.Box} Side */
 
 /** A layer that was loaded. */
 export class AskedLayer {
@@ -60,6 +65,22 @@ export class AskedLayer {
     return itemsOf(this.station, NAME);
   }
 
+  /** The items in order, each with its place; a repeat with the words of its objects. */
+  *itemsWithObjects() {
+    let place = -1, words = "";
+    /** @type {string[]} */
+    let objects = [];
+    for (const line of this.ask("items", `0 ${this.count}`)) {
+      if (line.startsWith(" ")) {
+        objects.push(line.trimStart());
+        continue;
+      }
+      if (place >= 0) yield { place, words, objects };
+      [place, words, objects] = [place + 1, line, []];
+    }
+    if (place >= 0) yield { place, words, objects };
+  }
+
   /** The items in order, each with how far it reaches. */
   said() {
     return saidItems(this.station, NAME);
@@ -71,7 +92,11 @@ export class AskedLayer {
     return this.station.file;
   }
 
-  /** The places of the items whose boxes hold a point. */
+  /**
+   * The places of the items whose boxes hold a point.
+   * @param {number} x
+   * @param {number} y
+   */
   placesAt(x, y) {
     const box = { left: x, low: y, right: x, high: y };
     return touched(this.station, { names: [NAME], box, most: Infinity }).places.map(({ place }) => place);
@@ -104,14 +129,16 @@ export class AskedLayer {
     const box = boxFrom(this.ask("box")[0]);
     if (!box) return null;
     const count = this.countIn(box);
-    for (const [side, other] of [["left", "right"], ["low", "high"], ["right", "left"], ["high", "low"]]) {
-      box[side] = this.innermost(box, side, box[other], count);
-    }
+    /** @type {[side: Side, other: Side][]} */
+    const sides = [["left", "right"], ["low", "high"], ["right", "left"], ["high", "low"]];
+    for (const [side, other] of sides) box[side] = this.innermost(box, side, box[other], count);
     return box;
   }
 
   // The innermost place of a side of a box that has so many items still, on the way to the other side.
+  /** @param {Board.Box} box @param {Side} side @param {number} end @param {number} count */
   innermost(box, side, end, count) {
+    /** @param {number} place */
     const holds = (place) => this.countIn({ ...box, [side]: place }) === count, inwards = Math.sign(end - box[side]);
     let held = box[side];
     if (inwards === 0 || !holds(held + inwards)) return held;
@@ -124,6 +151,7 @@ export class AskedLayer {
   }
 
   // How many items lie in a box.
+  /** @param {Board.Box} box */
   countIn({ left, low, right, high }) {
     this.station.ask(bytesOf(`in ${NAME} ${[left, low, right, high].map(within).join(" ")}`));
     const lines = this.station.file;

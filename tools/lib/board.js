@@ -1,15 +1,15 @@
 // tools/board: a board as pictures, and in a page.
 
-import { existsSync, readFileSync } from "node:fs";
+import { existsSync } from "node:fs";
 import { join } from "node:path";
-import { latin1, utf8 } from "../../web/bytes/index.js";
+import { latin1 } from "../../web/bytes/index.js";
 import { describeWindow, recogniseFiles, scriptLines, windowAround } from "../../web/board/index.js";
 import { SIDES } from "../../web/materials/index.js";
 import { Board } from "./boards.js";
 import { DONE, Failure, REFUSED, perform, say } from "./command.js";
 import { refusedLine, toldLine } from "./edit_lines.js";
 import { readBytes } from "./files.js";
-import { inputs } from "./inputs.js";
+import { bytesOf, inputs, pathOf } from "./inputs.js";
 import { mended } from "./mending.js";
 import { neededModule } from "./module.js";
 import { option } from "./options.js";
@@ -60,12 +60,19 @@ anything that it did not write itself, or that was changed since, it stops, unle
     option("--json"), option("--camplot")],
 };
 
+/** @typedef {Calls.Asked<typeof COMMAND>} Options */
+/** @typedef {import("../../web/board/index.js").Layer} Layer */
+/** @typedef {import("../../web/board/index.js").PlotWindow} PlotWindow */
+/** @typedef {ReturnType<typeof drawSides>} Sides */
+
 // How a refused layer becomes one that loads; null where no converter helps, or it loads.
-function wayOf(board, { name, kind, file }) {
-  if (board.loads.get(name).isAccepted) return null;
-  return mended(kind, readFileSync(file.path), typeof file.path === "string" ? file.path : utf8(file.path));
+/** @param {Board} board @param {Layer} layer */
+function wayOf(board, layer) {
+  if (board.loadOf(layer).isAccepted) return null;
+  return mended(layer.kind, bytesOf(layer.file), pathOf(layer.file));
 }
 
+/** @param {Board} board */
 function tellLayers(board) {
   const width = Math.max(...board.layers.map((layer) => layer.name.length)), blank = " ".repeat(width);
   for (const layer of board.layers) {
@@ -78,16 +85,19 @@ function tellLayers(board) {
 }
 
 // The refused lines of --edits.
+/** @param {Board} board @param {string | null} edits */
 function refusedLines(board, edits) {
-  return board.refusedLines().map((reply) => refusedLine(reply, board.firstOwn, edits));
+  return edits === null ? [] : board.refusedLines().map((reply) => refusedLine(reply, board.firstOwn, edits));
 }
 
+/** @param {Board} board @param {Options} options */
 function tellLines(board, { edits }) {
   for (const refused of refusedLines(board, edits)) say(toldLine(refused));
 }
 
 // Writes the page, if there is one to fill.
-function leavePage(board, sides, { operands, page }) {
+/** @param {Board} board @param {Sides["sides"]} sides @param {string[]} operands @param {string | null} page */
+function leavePage(board, sides, operands, page) {
   if (page === null) return null;
   const pictures = sides.map(({ side, small }) => ({ title: titleOf(side), png: small }));
   board.room.write(PAGE, pageOf(page, board.contents(board.title(operands)), pictures));
@@ -95,6 +105,7 @@ function leavePage(board, sides, { operands, page }) {
 }
 
 // The pictures of both sides, and what lacks of them, each in a line.
+/** @param {Sides} drawn @param {Options} options */
 function tellSides({ told, sides }, { mask, finish }) {
   if (told !== null) say(told);
   for (const { side, png, svg, lacks } of sides) {
@@ -102,11 +113,13 @@ function tellSides({ told, sides }, { mask, finish }) {
   }
 }
 
+/** @param {string | null} path */
 function tellPage(path) {
   const made = "./demo builds it if node is installed, and so does web/build after the C library is proved";
   say(path === null ? `there is no page, since there is no camplot.html: ${remedy(made)}; --page names another` : `the page: ${path}`);
 }
 
+/** @param {Board} board @param {PlotWindow | null} window @param {boolean} hasOutline @param {Sides} drawn @param {Options} options */
 function tell(board, window, hasOutline, drawn, options) {
   const told = window && coarser(window, options, askedPitch(options));
   if (window) say(`${describeWindow(window, hasOutline)}${told === null ? "" : ` (${told})`}`);
@@ -116,36 +129,54 @@ function tell(board, window, hasOutline, drawn, options) {
   tellSides(drawn, options);
 }
 
+/**
+ * @param {Board} board
+ * @param {PlotWindow | null} window
+ * @param {string | null} page
+ * @param {Sides} drawn
+ * @param {string[]} leftOut
+ * @param {Options} options
+ */
 function tellJson(board, window, page, drawn, leftOut, options) {
   const layers = board.layers.map((layer) => {
     const { name, kind, layerFunction, toldBy, file, picture } = layer, isPlotted = board.plots.get(name)?.isAccepted ?? false;
     return { name, kind, shows: layerFunction.label, by: toldBy, file: file.name, outcome: board.outcome(layer),
-      isLoaded: board.loads.get(name).isAccepted, picture: isPlotted ? picture : null, mended: wayOf(board, layer) };
+      isLoaded: board.loadOf(layer).isAccepted, picture: isPlotted ? picture : null, mended: wayOf(board, layer) };
   });
   const sides = drawn.sides.map(({ small, ...rest }) => rest);
   sayJson({ folder: board.room.folder, window, layers, sides, lacking: drawn.told, leftOut,
     refusedLines: refusedLines(board, options.edits), page });
 }
 
-function plotInto(room, layers, edits, leftOut, options) {
+/**
+ * @param {Room} room
+ * @param {Layer[]} layers
+ * @param {string[]} edits
+ * @param {string[]} leftOut
+ * @param {string | null} page the one without a board
+ * @param {Options} options
+ */
+function plotInto(room, layers, edits, leftOut, page, options) {
   const board = new Board(layers, room, options.camplot);
   board.load();
   const outline = board.outline(), window = windowAround(outline, board.boxes(), askedPitch(options));
   if (window) board.plot(window, edits);
-  const drawn = window ? drawSides(board, options) : { told: null, sides: [] };
+  const drawn = window ? drawSides(board, window, options) : { told: null, sides: [] };
   if (!options.json) tell(board, window, outline !== null, drawn, options);
-  const page = leavePage(board, drawn.sides, options);
-  if (options.json) tellJson(board, window, page, drawn, leftOut, options);
-  else tellPage(page);
+  const filled = leavePage(board, drawn.sides, options.operands, page);
+  if (options.json) tellJson(board, window, filled, drawn, leftOut, options);
+  else tellPage(filled);
   return board.isAnyRefused() ? REFUSED : DONE;
 }
 
 // The files that a run leaves, unless something is refused.
-function plannedFiles(layers, { page }) {
+/** @param {Layer[]} layers @param {string | null} page */
+function plannedFiles(layers, page) {
   return [...layers.flatMap(({ copy, text, picture }) => [copy, text, picture]), "script", "replies",
     ...SIDES.flatMap((side) => [`${side}.png`, `${side}.svg`]), ...page === null ? [] : [PAGE]];
 }
 
+/** @param {Options} options */
 function run(options) {
   askedPitch(options);
   const { files, areNamed, folder, notes } = inputs(options.operands);
@@ -159,10 +190,9 @@ function run(options) {
   checkProgram(options.camplot);
   neededModule();
   if (options.page !== null && !existsSync(options.page)) throw new Failure(`${options.page} does not exist`);
-  options.page ??= builtPage();
-  const room = new Room(options.out ?? folder, options.replace);
-  room.series.plan(plannedFiles(layers, options));
-  return room.fill(() => plotInto(room, layers, edits, leftOut, options));
+  const page = options.page ?? builtPage(), room = new Room(options.out ?? folder, options.replace);
+  room.series.plan(plannedFiles(layers, page));
+  return room.fill(() => plotInto(room, layers, edits, leftOut, page, options));
 }
 
 /**

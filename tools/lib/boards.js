@@ -6,6 +6,7 @@ import { isPbm, latin1Bytes, utf8 } from "../../web/bytes/index.js";
 import { counted } from "../../web/nets/index.js";
 import { BY_ATTRIBUTE, Reply, explain, isInWindow, nameParts, windowLine, wordsOf } from "../../web/board/index.js";
 import { AskedLayer } from "./asked_layer.js";
+import { bytesOf } from "./inputs.js";
 import { called } from "./places.js";
 import { LAYERS, meanings, runLines } from "./station.js";
 
@@ -15,6 +16,7 @@ export const LOOKS = ["plot", "write", "redraw", "list", "window"];
 const UNWRITTEN = 82;
 
 /** @typedef {import("../../web/board/index.js").Layer} Layer */
+/** @typedef {import("../../web/board/index.js").PlotWindow} PlotWindow */
 
 /** @param {Layer} layer */
 function loadLine(layer) {
@@ -27,7 +29,9 @@ function plotLine(layer) {
 }
 
 // The layers in runs of as many as one run takes.
+/** @param {Layer[]} layers */
 function partsOf(layers) {
+  /** @type {Layer[][]} */
   const parts = [];
   for (let at = 0; at < layers.length; at += LAYERS) parts.push(layers.slice(at, at + LAYERS));
   return parts;
@@ -44,25 +48,26 @@ export class Board {
     this.layers = layers;
     this.room = room;
     this.program = program;
-    /** @type {Map<string, import("../../web/board/index.js").Reply>} the replies to loads, by the layers' names */
+    /** @type {Map<string, Reply>} the replies to loads, by the layers' names */
     this.loads = new Map();
-    /** @type {Map<string, import("../../web/board/index.js").Reply>} */
+    /** @type {Map<string, Reply>} */
     this.plots = new Map();
     /** @type {Map<string, import("../../web/board/index.js").Box | null>} what the layers that load paint */
     this.painted = new Map();
-    /** @type {import("../../web/board/index.js").Reply[]} of the lines of a user's own */
+    /** @type {Reply[]} of the lines of a user's own */
     this.edits = [];
     /** The number of the first of these in the script. */
     this.firstOwn = 1;
+    /** @type {PlotWindow | null} in which the layers were plotted */
     this.window = null;
   }
 
   /** Loads each layer, and writes the texts of those that load. */
   load() {
     for (const { text } of this.layers) this.room.path(text);
-    for (const { file, copy } of this.layers) this.room.copy(file.path, copy);
+    for (const { file, copy } of this.layers) this.room.write(copy, bytesOf(file));
     for (const layer of this.layers) {
-      const asked = new AskedLayer(layer.kind, readFileSync(layer.file.path));
+      const asked = new AskedLayer(layer.kind, bytesOf(layer.file));
       this.loads.set(layer.name, new Reply(1, loadLine(layer), asked.reply.split(" ")));
       if (!asked.isLoaded) {
         for (const name of [layer.text, layer.picture]) this.room.series.drop(name);
@@ -73,19 +78,30 @@ export class Board {
     }
   }
 
+  /**
+   * The reply to a layer's load.
+   * @param {Layer} layer
+   */
+  loadOf({ name }) {
+    const reply = this.loads.get(name);
+    if (!reply) throw new Error(`${name} is asked for before the layers are loaded`);
+    return reply;
+  }
+
   /** The layers that load. */
   loaded() {
-    return this.layers.filter((layer) => this.loads.get(layer.name).isAccepted);
+    return this.layers.filter((layer) => this.loadOf(layer).isAccepted);
   }
 
   /** The boxes of the layers that load and paint something, in nm. */
   boxes() {
-    return [...this.painted.values()].filter((box) => box);
+    return [...this.painted.values()].flatMap((box) => box ?? []);
   }
 
   /** The box of the outline: of the one that an attribute names, else of the first that has an item. */
   outline() {
     const outlines = this.loaded().filter((layer) => layer.layerFunction.name === "outline");
+    /** @param {Layer} layer */
     const isNamed = (layer) => layer.toldBy === BY_ATTRIBUTE;
     for (const layer of [...outlines.filter(isNamed), ...outlines.filter((other) => !isNamed(other))]) {
       const box = this.painted.get(layer.name);
@@ -96,11 +112,12 @@ export class Board {
 
   /**
    * Plots each layer that loads, and then runs the lines of the user's own over the first of the runs.
-   * @param {import("../../web/board/index.js").PlotWindow} window
+   * @param {PlotWindow} window
    * @param {string[]} edits
    */
   plot(window, edits) {
     this.window = window;
+    /** @type {string[]} */
     const told = [];
     partsOf(this.loaded()).forEach((part, number) => {
       const { lines, firstOwn } = this.script(part, number === 0 ? edits : [], window);
@@ -113,15 +130,17 @@ export class Board {
       for (const reply of replies) told.push(`${reply.words.join(" ").padEnd(16)} ${reply.line}\n`);
     });
     for (const reply of this.edits) {
-      const [command, , path] = wordsOf(reply.line);
+      const [command, , path = ""] = wordsOf(reply.line);
       if (reply.isAccepted && (command === "plot" || command === "write")) this.room.series.done(normalize(path));
     }
     this.room.write("replies", latin1Bytes(told.join("")));
   }
 
   // The reply to a layer's plot. A picture that cannot be written is the one of before.
+  /** @param {Layer} layer @param {Reply[]} replies */
   takePlot(layer, replies) {
     const { name, picture } = layer, reply = replies.find(({ line }) => line === plotLine(layer));
+    if (!reply) throw new Error(`${name} was not plotted`);
     this.plots.set(name, reply);
     if (reply.isAccepted) return;
     if (reply.refusal === UNWRITTEN) this.room.kept.add(picture);
@@ -129,10 +148,11 @@ export class Board {
   }
 
   // The lines of a run, and the number of the first one that is the user's own.
+  /** @param {Layer[]} part @param {string[]} edits @param {PlotWindow} window */
   script(part, edits, window) {
     const lines = [`# the board's layers, plotted by ${called("board")}`];
     for (const layer of this.layers) {
-      const reply = this.loads.get(layer.name);
+      const reply = this.loadOf(layer);
       if (!reply.isAccepted) lines.push(`# ${reply.words.join(" ")}: ${reply.line}`);
     }
     lines.push(...part.map(loadLine), windowLine(window));
@@ -146,13 +166,13 @@ export class Board {
    * @param {Layer} layer
    */
   outcome(layer) {
-    const loaded = this.loads.get(layer.name);
-    if (!loaded.isAccepted) return explain(loaded, meanings(), readFileSync(layer.file.path));
+    const loaded = this.loadOf(layer);
+    if (!loaded.isAccepted) return explain(loaded, meanings(), bytesOf(layer.file));
     const items = counted(loaded.count, "item"), plotted = this.plots.get(layer.name);
     if (!plotted) return `loaded, ${items}`;
     if (!plotted.isAccepted) return `loaded, ${items}; its plot was ${explain(plotted, meanings())}`;
     const box = this.painted.get(layer.name);
-    const beyond = !box || isInWindow(this.window, box) ? "" : "; it reaches beyond the window";
+    const beyond = !box || !this.window || isInWindow(this.window, box) ? "" : "; it reaches beyond the window";
     return `loaded, ${items}; plotted as ${layer.picture}${beyond}`;
   }
 
@@ -172,6 +192,7 @@ export class Board {
   }
 
   // The file of a path in a line, whose characters are the path's bytes.
+  /** @param {string} path */
   read(path) {
     const folder = path.startsWith("/") ? [] : [Buffer.from(join(this.room.folder, "/"))];
     return readFileSync(Buffer.concat([...folder, latin1Bytes(path)]));
@@ -183,14 +204,17 @@ export class Board {
    * @returns {import("../../web/building/index.js").Contents}
    */
   contents(title) {
-    const files = this.layers.map(({ file }) => ({ name: file.name, bytes: readFileSync(file.path) }));
-    const lines = [], pictures = [];
+    const files = this.layers.map(({ file }) => ({ name: file.name, bytes: bytesOf(file) }));
+    /** @type {NonNullable<import("../../web/building/index.js").Contents["lines"]>} */
+    const lines = [];
+    /** @type {NonNullable<import("../../web/building/index.js").Contents["pictures"]>} */
+    const pictures = [];
     const plotted = this.window && windowLine(this.window);
     let window = plotted;
     for (const { line, number } of this.edits.filter((reply) => reply.isAccepted)) {
-      const [command, layer, path, loaded] = wordsOf(line);
+      const [command = "", layer = "", path = "", loaded = ""] = wordsOf(line);
       if (command === "window") window = line;
-      if (command === "plot") pictures.push({ name: `${path} (line ${number})`, layer, window, bytes: this.read(path) });
+      if (command === "plot" && window !== null) pictures.push({ name: `${path} (line ${number})`, layer, window, bytes: this.read(path) });
       if (command === "load") lines.push({ line, bytes: this.read(loaded) });
       else if (!LOOKS.includes(command)) lines.push({ line: utf8(latin1Bytes(line)) });
     }
@@ -202,7 +226,8 @@ export class Board {
    * @param {string[]} paths the files or the folder that were named
    */
   title(paths) {
-    if (paths.length === 1) return basename(resolve(paths[0]));
-    return nameParts(this.layers[this.layers.length - 1].file.name).stem;
+    const [path = "."] = paths;
+    if (paths.length === 1) return basename(resolve(path));
+    return nameParts(this.layers.at(-1)?.file.name ?? "").stem;
   }
 }

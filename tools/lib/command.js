@@ -2,6 +2,7 @@
 
 import { Failure } from "../../web/convert/index.js";
 import { Call, parsed } from "./calls.js";
+import { isFault } from "./faults.js";
 import { reasonOf, writtenFiles } from "./files.js";
 import { beginOutput, complain, leave, say } from "./output.js";
 
@@ -10,17 +11,19 @@ export { Call, Failure, complain, say };
 /** Exit statuses: done; done, but something was refused; nothing could be done. (output.js has one more.) */
 export const DONE = 0, REFUSED = 1, FAILED = 2;
 
-/** @typedef {import("./help.js").Command} Command */
-
 // What was written before a fault, and what was not.
-function tellWritten(name, { files = [] }) {
-  const written = writtenFiles();
+/** @param {string} name @param {unknown} fault */
+function tellWritten(name, fault) {
+  const written = writtenFiles(), files = isFault(fault) && Array.isArray(fault.files) ? fault.files : [];
   if (written.length) complain(`${name}: written before: ${written.join(", ")}`);
   for (const line of files) complain(`${name}: ${line}`);
 }
 
 /**
  * Tells why a call or a file of it cannot be used, or prints the text that was asked for.
+ * @param {Calls.Command} command
+ * @param {string} name
+ * @param {unknown} fault
  * @returns {number} the exit status
  */
 function toldFault({ tool }, name, fault) {
@@ -30,7 +33,7 @@ function toldFault({ tool }, name, fault) {
   }
   if (fault instanceof Call) complain(`${name}: ${fault.message}; ${tool} --help lists the options`);
   else if (fault instanceof Failure) complain(`${name}: ${fault.message}`);
-  else if (fault.syscall) complain(`${name}: ${[fault.path, reasonOf(fault)].filter((part) => part).join(": ")}`);
+  else if (isFault(fault) && fault.syscall) complain(`${name}: ${[fault.path, reasonOf(fault)].filter((part) => part).join(": ")}`);
   else throw fault;
   tellWritten(name, fault);
   return FAILED;
@@ -60,8 +63,9 @@ export function withEach(tool, files, act) {
 /**
  * Runs a command, and leaves its exit status: that of `run`, or 2 where the call or a file of it cannot be used, or 3 where
  * standard output takes nothing, which is told.
- * @param {Command} command
- * @param {(options: Record<string, *>) => number | Promise<number>} run
+ * @template {Calls.Option} O
+ * @param {Calls.Command<O>} command
+ * @param {(options: Calls.Values<O>) => number | Promise<number>} run
  * @param {string[]} words
  * @param {string} [name] what complaints begin with
  * @returns {Promise<void>}

@@ -6,7 +6,7 @@ import { counted } from "../../web/nets/index.js";
 import { Call, DONE, FAILED, REFUSED, complain, perform, say } from "./command.js";
 import { boardOf, pairsOf } from "./compare_boards.js";
 import { ComparedPair } from "./compare_layers.js";
-import { PICTURE, reportOf } from "./compare_report.js";
+import { PICTURE, changesAt, reportOf } from "./compare_report.js";
 import { STANDARD, checkTarget, writeFile } from "./files.js";
 import { option } from "./options.js";
 import { printedInto, sayJson } from "./output.js";
@@ -44,17 +44,25 @@ cannot be used; 3 if standard output cannot be written.`,
     option("--json"), option("--camplot")],
 };
 
+/** @typedef {Calls.Asked<typeof COMMAND>} Options */
+/** @typedef {import("./compare_boards.js").ComparedBoard} ComparedBoard */
+/** @typedef {import("../../web/compare/index.js").Compared} Compared */
+/** @typedef {{onlyFirst: Layer[], onlySecond: Layer[]}} Rest the layers that only one board has */
+/** @typedef {import("../../web/board/index.js").Layer} Layer */
+
 /** @param {string[]} words */
 function sidesOf(words) {
   const at = words.indexOf(BETWEEN), sides = at < 0 ? words.map((word) => [word]) : [words.slice(0, at), words.slice(at + 1)];
-  if (sides.length !== 2 || sides.some((side) => !side.length)) {
+  const [first, second] = sides;
+  if (!first?.length || !second?.length || sides.length !== 2) {
     throw new Call(at < 0 ? `${counted(words.length, "word")}: it needs two boards, A and B; files of each with a colon between them`
       : "a colon stands between files of A and files of B");
   }
-  return sides;
+  return { first, second };
 }
 
 // The files that are written are none of those that are read.
+/** @param {Options} options @param {ComparedBoard[]} boards */
 function checkTargets({ out, html, replace }, boards) {
   const sources = boards.flatMap((board) => board.sources);
   if (html !== null && html === out) throw new Call("--html and --out name the same file");
@@ -63,16 +71,13 @@ function checkTargets({ out, html, replace }, boards) {
   return sources;
 }
 
-/** @param {ComparedPair} pair */
-function tellPair(pair) {
-  const { compared } = pair, owners = new Owners(pair);
-  say(`${labelOfPair(pair)}: ${pair.layers[0].file.name}: ${outcomeWords(pair)}`);
-  for (const line of besides(pair)) say(`  ${line}`);
-  const places = compared?.places ?? [];
+/** @param {Compared} compared @param {Owners} owners */
+function tellPlaces(compared, owners) {
+  const { places } = compared;
   places.slice(0, MOST_PLACES).forEach((place, at) => {
     say(`  ${at + 1}. ${placeLine(place)}`);
-    for (const owner of place.owners.slice(0, MOST_CHANGES)) {
-      const change = compared.changes[owner], of = owners.words(change);
+    for (const change of changesAt(compared, place).slice(0, MOST_CHANGES)) {
+      const of = owners.words(change);
       say(`     ${changeWords(change, compared)}${of && ` (${of})`}`);
     }
     if (place.owners.length > MOST_CHANGES) say(`     and ${counted(place.owners.length - MOST_CHANGES, "more item")}`);
@@ -80,9 +85,17 @@ function tellPair(pair) {
   if (places.length > MOST_PLACES) say(`  and ${counted(places.length - MOST_PLACES, "more place")}; --json lists all`);
 }
 
-/** @param {ComparedPair[]} pairs */
+/** @param {ComparedPair} pair */
+function tellPair(pair) {
+  say(`${labelOfPair(pair)}: ${pair.layers[0].file.name}: ${outcomeWords(pair)}`);
+  for (const line of besides(pair)) say(`  ${line}`);
+  if (pair.compared) tellPlaces(pair.compared, new Owners(pair));
+}
+
+/** @param {ComparedPair[]} pairs @param {Rest} rest */
 const summaryOf = (pairs, rest) => summaryWords(pairs.map(({ outcome }) => outcome), rest);
 
+/** @param {ComparedBoard[]} boards @param {ComparedPair[]} pairs @param {Rest} rest */
 function tell(boards, pairs, rest) {
   boards.forEach(({ title, layers, leftOut, notes }, at) => {
     say(`${"AB"[at]}: ${title}: ${counted(layers.length, "layer")}${leftOut.length ? `; left out, since they are no layers: ${leftOut.join(", ")}` : ""}`);
@@ -94,48 +107,55 @@ function tell(boards, pairs, rest) {
   say(summaryOf(pairs, rest));
 }
 
+/** @param {number} nm */
 const toMm = (nm) => nm / 1e6;
 const NOTHING_SAID = { dates: [], attributes: [], comments: [], isRead: true };
 
-/** @param {ComparedPair} pair @param {Owners} owners */
-function placesJson({ compared }, owners) {
-  return (compared?.places ?? []).map((place) => {
+/** @param {Compared} compared @param {Owners} owners */
+function placesJson(compared, owners) {
+  return compared.places.map((place) => {
     const { left, low, right, high } = place.box;
     return { x: toMm((left + right) / 2), y: toMm((low + high) / 2), width: toMm(right - left), height: toMm(high - low),
       window: windowLine(windowOfPlace(place.box, PICTURE.width, PICTURE.height)), onlyInA: place.onlyFirst, onlyInB: place.onlySecond,
-      changes: place.owners.map((owner) => {
-        const change = compared.changes[owner], { what, from, to, parts, dx, dy } = change;
+      changes: changesAt(compared, place).map((change) => {
+        const { what, from, to, parts, dx, dy } = change;
         return { what, a: from, b: to, parts, ...what === "moved" ? { dx: toMm(dx), dy: toMm(dy) } : {}, words: changeWords(change, compared),
           of: owners.words(change) };
       }) };
   });
 }
 
+/** @param {ComparedBoard[]} boards @param {ComparedPair[]} pairs @param {Rest} rest */
 function jsonOf(boards, pairs, rest) {
+  /** @param {Layer} layer */
   const layerJson = ({ layerFunction, file }) => ({ shows: layerFunction.label, file: file.name });
   return { boards: boards.map(({ title, leftOut, notes, faults }) => ({ title, leftOut, notes, faults })),
     isSame: isAllSame(pairs, rest),
     pairs: pairs.map((pair) => ({ shows: labelOfPair(pair), name: pair.layers[0].layerFunction.name, a: pair.layers[0].file.name,
       b: pair.layers[1].file.name, pairedBy: pair.by, outcome: pair.outcome, isSame: pair.isSame, isSameFile: pair.isSameFile,
-      refused: pair.refused, pitch: pair.window?.pitch ?? null, places: placesJson(pair, new Owners(pair)), ...pair.compared?.said ?? NOTHING_SAID })),
+      refused: pair.refused, pitch: pair.window?.pitch ?? null, places: pair.compared ? placesJson(pair.compared, new Owners(pair)) : [], ...pair.compared?.said ?? NOTHING_SAID })),
     onlyInA: rest.onlyFirst.map(layerJson), onlyInB: rest.onlySecond.map(layerJson) };
 }
 
+/** @param {ComparedPair[]} pairs @param {Rest} rest */
 function isAllSame(pairs, { onlyFirst, onlySecond }) {
   return pairs.every((pair) => pair.isSame) && !onlyFirst.length && !onlySecond.length;
 }
 
+/** @param {Options} options */
 async function run(options) {
   const pitch = askedPitch(options), sides = sidesOf(options.operands);
-  const boards = [await boardOf(sides[0]), await boardOf(sides[1])], sources = checkTargets(options, boards);
+  const first = await boardOf(sides.first), second = await boardOf(sides.second);
+  const boards = [first, second], sources = checkTargets(options, boards);
   checkProgram(options.camplot);
-  const { pairs: found, ...rest } = pairsOf(boards[0], boards[1]);
+  const { pairs: found, ...rest } = pairsOf(first, second);
   const pairs = found.map((pair) => new ComparedPair(pair, options.camplot));
   for (const pair of pairs) pair.compare(pitch);
   for (const fault of boards.flatMap(({ faults }) => faults)) complain(`${TOOL}: ${fault}`);
   if (options.json) sayJson(jsonOf(boards, pairs, rest));
   else tell(boards, pairs, rest);
   if (options.html !== null) {
+    /** @param {ComparedPair} pair */
     const lines = (pair) => ({ title: labelOfPair(pair), outcome: outcomeWords(pair), besides: besides(pair), owners: new Owners(pair) });
     writeFile(options.html, reportOf(boards, pairs, rest, summaryOf(pairs, rest), lines), options.replace, sources);
     if (!options.json) say(`the page: ${options.html}`);

@@ -1,12 +1,11 @@
 // The two boards of a comparison: each a folder, a ZIP file, or files; and their layers in pairs.
 
 import { createHash } from "node:crypto";
-import { readFileSync } from "node:fs";
 import { recogniseFiles } from "../../web/board/index.js";
 import { functionsOfJobs, pairedLayers, tellByJobs } from "../../web/compare/index.js";
 import { filesOfArchive, isArchive } from "../../web/zip/index.js";
 import { Failure } from "./command.js";
-import { inputs } from "./inputs.js";
+import { bytesOf, inputs } from "./inputs.js";
 
 /** @typedef {import("../../web/board/index.js").Layer} Layer */
 /** @typedef {import("../../web/board/index.js").BoardFile} BoardFile */
@@ -20,22 +19,15 @@ import { inputs } from "./inputs.js";
  * @property {string[]} notes what is told of the choice of files
  * @property {string[]} faults files that cannot be read
  * @property {Map<string, string>} functions of job files
- * @property {string[]} sources the paths of files that are read
+ * @property {(string | Uint8Array)[]} sources the paths of files that are read
  */
-
-/**
- * All bytes of a file: of one on a disk only the first may have been read.
- * @param {BoardFile} file
- * @returns {Uint8Array}
- */
-export function bytesOf({ path, bytes }) {
-  return path === undefined ? bytes : readFileSync(path);
-}
 
 // The files, and what lies in those that are ZIP files.
+/** @param {BoardFile[]} files */
 async function unpacked(files) {
   /** @type {BoardFile[]} */
   const found = [];
+  /** @type {string[]} */
   const faults = [];
   let isAny = false;
   for (const file of files) {

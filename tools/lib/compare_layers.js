@@ -7,15 +7,17 @@ import { Compared, Difference, SAME } from "../../web/compare/index.js";
 import { readPbm } from "../../web/bytes/index.js";
 import { explain, windowAtPitch, windowLine } from "../../web/board/index.js";
 import { Failure } from "./command.js";
-import { bytesOf } from "./compare_boards.js";
+import { bytesOf, pathOf } from "./inputs.js";
 import { mended } from "./mending.js";
 import { stationModule } from "./module.js";
 import { meanings, runLines } from "./station.js";
 
 /** @typedef {import("../../web/board/index.js").PlotWindow} PlotWindow */
+/** @typedef {[import("../../web/bytes/index.js").Picture, import("../../web/bytes/index.js").Picture]} Pictures of both layers */
 
-// What the two layers, their files, their texts and their pictures are called where the program runs.
-const NAMES = ["a", "b"];
+// What the two layers, their files, their texts and their pictures are called where the program runs, and for people.
+const NAMES = /** @type {const} */ (["a", "b"]), CALLED = /** @type {const} */ (["A", "B"]);
+const BOTH = /** @type {const} */ ([0, 1]);
 
 /** Two layers that belong together, and what came of comparing them. */
 export class ComparedPair {
@@ -24,10 +26,12 @@ export class ComparedPair {
    * @param {string} program
    */
   constructor({ first, second, by }, program) {
+    /** @type {[import("../../web/board/index.js").Layer, import("../../web/board/index.js").Layer]} */
     this.layers = [first, second];
     this.by = by;
     this.program = program;
-    this.bytes = this.layers.map(({ file }) => bytesOf(file));
+    /** @type {[Uint8Array, Uint8Array]} */
+    this.bytes = [bytesOf(first.file), bytesOf(second.file)];
     this.isSameFile = Buffer.compare(this.bytes[0], this.bytes[1]) === 0;
     /** Whether both show another thing. */
     this.isAnother = first.layerFunction.name !== second.layerFunction.name;
@@ -60,8 +64,8 @@ export class ComparedPair {
   run(lines, act) {
     const room = mkdtempSync(join(tmpdir(), "camplot-compare-"));
     try {
-      NAMES.forEach((name, at) => writeFileSync(join(room, `${name}.file`), this.bytes[at]));
-      const loads = NAMES.map((name, at) => `load ${name} ${this.layers[at].kind} ${name}.file`);
+      for (const at of BOTH) writeFileSync(join(room, `${NAMES[at]}.file`), this.bytes[at]);
+      const loads = BOTH.map((at) => `load ${NAMES[at]} ${this.layers[at].kind} ${NAMES[at]}.file`);
       return act((name) => readFileSync(join(room, name)), runLines(this.program, room, [...loads, ...lines]));
     } finally {
       rmSync(room, { recursive: true, force: true });
@@ -75,48 +79,51 @@ export class ComparedPair {
   compare(pitch) {
     if (this.isSameFile) return;
     this.run(NAMES.map((name) => `write ${name} ${name}.text`), (read, replies) => this.load(read, replies));
-    const box = this.compared?.changes.length ? this.compared.box() : null;
+    const { compared } = this, box = compared?.changes.length ? compared.box() : null;
     if (box) this.see(windowAtPitch(box, pitch));
   }
 
   /** @param {(name: string) => Buffer} read @param {import("../../web/board/index.js").Reply[]} replies */
   load(read, replies) {
-    replies.slice(0, NAMES.length).forEach((reply, at) => {
-      if (!reply.isAccepted) this.refused.push(`${"AB"[at]}: ${[explain(reply, meanings(), this.bytes[at]), ...this.ways(at)].join("; ")}`);
-    });
+    for (const at of BOTH) {
+      const reply = replies[at];
+      if (reply && !reply.isAccepted) this.refused.push(`${CALLED[at]}: ${[explain(reply, meanings(), this.bytes[at]), ...this.ways(at)].join("; ")}`);
+    }
     if (this.refused.length) return;
     const failed = replies.find((reply) => !reply.isAccepted);
     if (failed) throw new Failure(`${failed.line}: ${explain(failed, meanings())}`);
-    const [first, second] = NAMES.map((name, at) => ({ kind: this.layers[at].kind, text: read(`${name}.text`), bytes: this.bytes[at] }));
-    this.compared = new Compared(first, second);
+    /** @param {0 | 1} at */
+    const given = (at) => ({ kind: this.layers[at].kind, text: read(`${NAMES[at]}.text`), bytes: this.bytes[at] });
+    this.compared = new Compared(given(0), given(1));
   }
 
   // How a file that is refused is made one that loads, where a converter helps.
-  /** @param {number} at */
+  /** @param {0 | 1} at */
   ways(at) {
     const { kind, file } = this.layers[at];
-    const way = stationModule() ? mended(kind, this.bytes[at], file.path === undefined ? file.name : String(file.path)) : null;
+    const way = stationModule() ? mended(kind, this.bytes[at], pathOf(file)) : null;
     return way === null ? [] : [way];
   }
 
   /**
    * The pictures of both in windows.
    * @param {PlotWindow[]} windows
-   * @returns {import("../../web/bytes/index.js").Picture[][]}
+   * @returns {Pictures[]}
    */
   pictures(windows) {
     const lines = windows.flatMap((window, number) => [windowLine(window), ...NAMES.map((name) => `plot ${name} ${number}.${name}`)]);
     return this.run(lines, (read, replies) => {
       const failed = replies.find((reply) => !reply.isAccepted);
       if (failed) throw new Failure(`${failed.line}: ${explain(failed, meanings())}`);
-      return windows.map((_, number) => NAMES.map((name) => readPbm(read(`${number}.${name}`))));
+      /** @param {number} number @param {0 | 1} at */
+      const picture = (number, at) => readPbm(read(`${number}.${NAMES[at]}`));
+      return windows.map((_, number) => [picture(number, 0), picture(number, 1)]);
     });
   }
 
   /** @param {PlotWindow} window */
   see(window) {
-    const [[first, second]] = this.pictures([window]);
     this.window = window;
-    this.compared.see(new Difference(first, second, window));
+    for (const [first, second] of this.pictures([window])) this.compared?.see(new Difference(first, second, window));
   }
 }

@@ -6,7 +6,11 @@ import { counted } from "../../web/nets/index.js";
 import { pngOfColours } from "./png.js";
 
 /** @typedef {import("./compare_layers.js").ComparedPair} ComparedPair */
+/** @typedef {import("./compare_layers.js").Pictures} Pictures */
+/** @typedef {import("../../web/compare/index.js").Compared} Compared */
+/** @typedef {import("../../web/compare/index.js").Owners} Owners */
 /** @typedef {import("../../web/compare/index.js").Place} Place */
+/** @typedef {{title: string, outcome: string, besides: string[], owners: Owners}} Lines what is told of a pair */
 /** @typedef {import("../../web/board/index.js").PlotWindow} PlotWindow */
 
 /** The sides of a picture in pixels. */
@@ -33,36 +37,47 @@ const ESCAPES = { "&": "&amp;", "<": "&lt;", ">": "&gt;", '"': "&quot;", "'": "&
  */
 export function escaped(text) {
   // Letters that are not printed, and those that turn the way of writing, would show another text.
-  return text.replace(/[\p{Cc}\p{Cf}\p{Cs}]/gu, "\ufffd").replace(/[&<>"']/g, (letter) => ESCAPES[letter]);
+  return text.replace(/[\p{Cc}\p{Cf}\p{Cs}]/gu, "\ufffd").replace(/[&<>"']/g, (letter) => ESCAPES[letter] ?? "");
 }
 
 /** @param {string} name @param {string} text */
 const element = (name, text) => `<${name}>${escaped(text)}</${name}>`;
 
-/** @param {import("../../web/bytes/index.js").Picture} picture */
-const isBlack = ({ bits, stride }, column, row) => (bits[row * stride + (column >> 3)] & (128 >> (column & 7))) !== 0;
+/**
+ * A picture at a pixel, which lies in it.
+ * @param {import("../../web/bytes/index.js").Picture} picture
+ * @param {number} column
+ * @param {number} row
+ */
+const isBlack = ({ bits, stride }, column, row) => (/** @type {number} */ (bits[row * stride + (column >> 3)]) & (128 >> (column & 7))) !== 0;
 
 /**
  * Three pictures of a place: of each side, in which what it alone has is coloured, and of both.
- * @param {import("../../web/bytes/index.js").Picture[]} pictures of both sides
+ * @param {Pictures} pictures of both sides
  */
 function painted([first, second]) {
-  const { width, height } = first, made = [0, 1, 2].map(() => new Uint8Array(width * height));
+  const { width, height } = first, make = () => new Uint8Array(width * height), a = make(), b = make(), both = make();
   for (let row = 0, at = 0; row < height; row++) {
     for (let column = 0; column < width; column++, at++) {
       const inA = isBlack(first, column, row), inB = isBlack(second, column, row);
-      made[0][at] = inA ? (inB ? BOTH : ONLY_A) : EMPTY;
-      made[1][at] = inB ? (inA ? BOTH : ONLY_B) : EMPTY;
-      made[2][at] = made[0][at] || made[1][at];
+      const ofA = inA ? (inB ? BOTH : ONLY_A) : EMPTY, ofB = inB ? (inA ? BOTH : ONLY_B) : EMPTY;
+      a[at] = ofA;
+      b[at] = ofB;
+      both[at] = ofA || ofB;
     }
   }
-  return made;
+  return { a, b, both };
 }
 
 // Frames around what changed, by which it is seen where no pixel shows it.
+/** @param {Uint8Array} pixels @param {PlotWindow} window @param {Board.Box} box */
 function frame(pixels, { x, y, pitch, width, height }, { left, low, right, high }) {
-  const column = (at) => Math.floor((at - x) / pitch), row = (at) => height - 1 - Math.floor((at - y) / pitch);
-  const [first, last, top, bottom] = [column(left) - 2, column(right) + 2, row(high) - 2, row(low) + 2];
+  /** @param {number} at */
+  const column = (at) => Math.floor((at - x) / pitch);
+  /** @param {number} at */
+  const row = (at) => height - 1 - Math.floor((at - y) / pitch);
+  const first = column(left) - 2, last = column(right) + 2, top = row(high) - 2, bottom = row(low) + 2;
+  /** @param {number} across @param {number} down */
   const put = (across, down) => {
     if (across >= 0 && across < width && down >= 0 && down < height) pixels[down * width + across] = FRAME;
   };
@@ -78,13 +93,20 @@ function figure(pixels, caption, kind) {
 }
 
 /**
- * A place with its pictures.
- * @param {ComparedPair} pair
+ * The changes of a place.
+ * @param {Compared} compared
  * @param {Place} place
- * @param {{window: PlotWindow, pictures: import("../../web/bytes/index.js").Picture[], number: number, owners: {words: (change: *) => string}}} shown
  */
-function placeHtml({ compared }, place, { window, pictures, number, owners }) {
-  const [first, second, both] = painted(pictures), changes = place.owners.map((owner) => compared.changes[owner]);
+export const changesAt = ({ changes }, { owners }) => owners.flatMap((owner) => changes[owner] ?? []);
+
+/**
+ * A place with its pictures.
+ * @param {Compared} compared
+ * @param {Place} place
+ * @param {{window: PlotWindow, pictures: Pictures, number: number, owners: Owners}} shown
+ */
+function placeHtml(compared, place, { window, pictures, number, owners }) {
+  const { a, b, both } = painted(pictures), changes = changesAt(compared, place);
   for (const box of changes.flatMap(({ boxes }) => boxes).slice(0, MOST_FRAMES)) frame(both, window, box);
   const rows = changes.slice(0, MOST_CHANGES).map((change) => {
     const of = owners.words(change);
@@ -92,19 +114,26 @@ function placeHtml({ compared }, place, { window, pictures, number, owners }) {
   });
   const more = changes.length > MOST_CHANGES ? [element("li", `and ${counted(changes.length - MOST_CHANGES, "more item")}`)] : [];
   return [element("h3", `${number}. ${placeLine(place)}`), `<ul>${[...rows, ...more].join("")}</ul>`, "<div>",
-    figure(first, "A: what B lacks is red", "a"), figure(second, "B: what A lacks is blue", "b"),
+    figure(a, "A: what B lacks is red", "a"), figure(b, "B: what A lacks is blue", "b"),
     figure(both, `both, with frames around what changed; pixels of ${window.pitch} nm`, "both"), "</div>"].join("\n");
 }
 
-/** @param {ComparedPair} pair @param {{title: string, outcome: string, besides: string[], owners: {words: (change: *) => string}}} lines */
-function pairHtml(pair, { title, outcome, besides, owners }) {
-  const places = pair.compared?.places ?? [], shown = places.slice(0, MOST_PLACES), left = places.length - shown.length;
+/** @param {ComparedPair} pair @param {Compared} compared @param {Owners} owners */
+function placesHtml(pair, compared, owners) {
+  const shown = compared.places.slice(0, MOST_PLACES), left = compared.places.length - shown.length;
   const windows = shown.map(({ box }) => windowOfPlace(box, PICTURE.width, PICTURE.height));
-  const pictures = windows.length ? pair.pictures(windows) : [];
+  const drawn = windows.length ? pair.pictures(windows) : [];
+  return [...shown.flatMap((place, at) => {
+    const window = windows[at], pictures = drawn[at];
+    return window && pictures ? [placeHtml(compared, place, { window, pictures, number: at + 1, owners })] : [];
+  }), ...left > 0 ? [element("p", `${counted(left, "more place")} without pictures`)] : []];
+}
+
+/** @param {ComparedPair} pair @param {Lines} lines */
+function pairHtml(pair, { title, outcome, besides, owners }) {
   return [element("h2", `${title}: ${outcome}`), element("p", pair.layers.map(({ file }, at) => `${"AB"[at]}: ${file.name}`).join("; ")),
     ...besides.length ? [`<ul>${besides.map((line) => element("li", line)).join("")}</ul>`] : [],
-    ...shown.map((place, at) => placeHtml(pair, place, { window: windows[at], pictures: pictures[at], number: at + 1, owners })),
-    ...left > 0 ? [element("p", `${counted(left, "more place")} without pictures`)] : []].join("\n");
+    ...pair.compared ? placesHtml(pair, pair.compared, owners) : []].join("\n");
 }
 
 /**
@@ -113,18 +142,20 @@ function pairHtml(pair, { title, outcome, besides, owners }) {
  * @param {ComparedPair[]} pairs
  * @param {{onlyFirst: import("../../web/board/index.js").Layer[], onlySecond: import("../../web/board/index.js").Layer[]}} rest
  * @param {string} summary
- * @param {(pair: ComparedPair) => {title: string, outcome: string, besides: string[], owners: {words: (change: *) => string}}} linesOf
+ * @param {(pair: ComparedPair) => Lines} linesOf
  * @returns {string}
  */
 export function reportOf(boards, pairs, { onlyFirst, onlySecond }, summary, linesOf) {
-  const lines = pairs.map(linesOf), row = (cells) => `<tr>${cells.map((cell) => element("td", cell)).join("")}</tr>`;
-  const rows = [...lines.map(({ title, outcome, besides }) => row([title, outcome, besides.length ? `${counted(besides.length, "note")} below` : ""])),
+  /** @param {string[]} cells */
+  const row = (cells) => `<tr>${cells.map((cell) => element("td", cell)).join("")}</tr>`;
+  const told = pairs.map((pair) => ({ pair, lines: linesOf(pair) }));
+  const rows = [...told.map(({ lines: { title, outcome, besides } }) => row([title, outcome, besides.length ? `${counted(besides.length, "note")} below` : ""])),
     ...onlyFirst.map(({ layerFunction, file }) => row([layerFunction.label, "only in A", file.name])),
     ...onlySecond.map(({ layerFunction, file }) => row([layerFunction.label, "only in B", file.name]))];
-  const told = pairs.map((pair, at) => ({ pair, lines: lines[at] })).filter(({ pair, lines: { besides } }) => !pair.isSame || besides.length);
+  const longer = told.filter(({ pair, lines: { besides } }) => !pair.isSame || besides.length);
   return ["<!doctype html>", '<html lang="en"><head><meta charset="utf-8">',
     "<meta http-equiv=\"Content-Security-Policy\" content=\"default-src 'none'; img-src data:; style-src 'unsafe-inline'\">",
     '<meta name="viewport" content="width=device-width">', element("title", "Two revisions of a board"), `<style>${STYLE}</style></head><body>`,
     element("h1", "Two revisions of a board"), ...boards.map(({ title }, at) => element("p", `${"AB"[at]}: ${title}`)), element("p", summary),
-    `<table>${rows.join("\n")}</table>`, ...told.map(({ pair, lines: own }) => pairHtml(pair, own)), "</body></html>", ""].join("\n");
+    `<table>${rows.join("\n")}</table>`, ...longer.map(({ pair, lines: own }) => pairHtml(pair, own)), "</body></html>", ""].join("\n");
 }

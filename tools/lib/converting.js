@@ -47,11 +47,26 @@ export function chosenDigits(text) {
 }
 
 /**
- * The outcome of a file.
- * @typedef {{file: string, out?: string, bytes?: Uint8Array, told: string[], refused: string[], values?: Record<string, unknown>}} Outcome
+ * The outcome of a file: what it was made into, or why it was not.
+ * @typedef {object} Outcome
+ * @property {string} file
+ * @property {string | null} out where that is written
+ * @property {Uint8Array | null} bytes
+ * @property {string[]} told
+ * @property {string[]} refused
+ * @property {Record<string, unknown>} values
  */
 
+/** @typedef {Pick<Calls.Asked<typeof import("./to_gerber.js").COMMAND>, "operands" | "out" | "replace" | "json" | "camplot">} Options */
+
 // A file of the other kind is refused by its name, and not line by line.
+/**
+ * @param {string} tool
+ * @param {string} file
+ * @param {Uint8Array} bytes
+ * @param {Converter} converter
+ * @param {import("../../web/convert/index.js").Refusal[]} refusals
+ */
 function refusalsOf(tool, file, bytes, { kind }, refusals) {
   const other = kind === GERBER ? DRILL : GERBER;
   if (kindOf(bytes) !== other) return toldRefusals(tool, file, refusals);
@@ -59,35 +74,34 @@ function refusalsOf(tool, file, bytes, { kind }, refusals) {
     called(CONVERTERS[other].tool)} converts it; nothing was written`];
 }
 
-/** @typedef {import("./calls.js").Values} Values */
-
-/** @param {string} tool @param {string} file @param {Converter} converter @param {Values} options @returns {Outcome} */
-function convertedFile(tool, file, converter, { camplot }) {
-  const source = readBytes(file), { bytes, refusals, changed, told, values } = converter.convert(source);
-  if (!bytes) return { file, told: [], refused: refusalsOf(tool, file, source, converter, refusals), values: { refusals } };
+/** @param {string} tool @param {string} file @param {Converter} converter @param {string} camplot @returns {Outcome} */
+function convertedFile(tool, file, converter, camplot) {
+  const source = readBytes(file), { bytes, refusals, changed, told, values = {} } = converter.convert(source), none = { out: null, bytes: null };
+  if (!bytes) return { file, ...none, told: [], refused: refusalsOf(tool, file, source, converter, refusals), values: { refusals } };
   const loaded = loadedBy(camplot, converter.kind, bytes);
-  if (!loaded.isRefused) return { file, bytes, told: [...told, loaded.told], refused: [], values };
-  return { file, told, refused: [...changed, `${file}: ${loaded.told}`, `${tool}: nothing was written`], values };
+  if (!loaded.isRefused) return { file, ...none, bytes, told: [...told, loaded.told], refused: [], values };
+  return { file, ...none, told, refused: [...changed, `${file}: ${loaded.told}`, `${tool}: nothing was written`], values };
 }
 
+/** @param {string} path */
 const isFolder = (path) => statSync(path, { throwIfNoEntry: false })?.isDirectory() ?? false;
 
 // Where a file's text goes: by default next to it, from standard input to standard output.
-/** @param {string} file @param {Converter} converter @param {Values} options */
-function targetOf(file, { outOf }, { out }) {
+/** @param {string} file @param {Converter} converter @param {string | null} out */
+function targetOf(file, { outOf }, out) {
   const own = file === STANDARD ? STANDARD : outOf(file);
   if (out === null) return own;
   return isFolder(out) ? join(out, basename(own === STANDARD ? outOf("standard-input") : own)) : out;
 }
 
-/** @param {Outcome} outcome @param {string} target @param {Values} options @returns {Outcome} */
-function written(outcome, target, { replace, operands }) {
-  if (target === STANDARD) sayBytes(outcome.bytes);
-  else writeFile(target, outcome.bytes, replace, operands);
+/** @param {Outcome} outcome @param {Uint8Array} bytes @param {string} target @param {Options} options @returns {Outcome} */
+function written(outcome, bytes, target, { replace, operands }) {
+  if (target === STANDARD) sayBytes(bytes);
+  else writeFile(target, bytes, replace, operands);
   return { ...outcome, out: target, told: target === STANDARD ? outcome.told : [...outcome.told, `written: ${target}`] };
 }
 
-/** @param {Outcome} outcome @param {Values} options */
+/** @param {Outcome} outcome @param {Options} options */
 function tell({ file, out, told, refused }, { operands, json }) {
   if (refused.length) complain(refused.join("\n"));
   if (json || refused.length) return;
@@ -95,7 +109,7 @@ function tell({ file, out, told, refused }, { operands, json }) {
   print([...(operands.length > 1 ? [`${file}:`] : []), ...told].join("\n"));
 }
 
-/** @param {Values} options @param {Converter} converter */
+/** @param {Options} options @param {Converter} converter */
 function checkCall({ operands, out, json }, converter) {
   if (operands.length > 1 && out !== null && !isFolder(out)) {
     throw new Call(`--out ${out}: for several files it names a folder that is there`);
@@ -103,7 +117,7 @@ function checkCall({ operands, out, json }, converter) {
   if (json && (out === STANDARD || out === null && operands.includes(STANDARD))) {
     throw new Call("--json prints on standard output, and so does the text: name a file by --out");
   }
-  const targets = operands.map((file) => targetOf(file, converter, { out }));
+  const targets = operands.map((file) => targetOf(file, converter, out));
   const twice = targets.find((target, at) => targets.indexOf(target) < at);
   if (twice !== undefined) throw new Call(`two of the files would be written as ${twice}`);
 }
@@ -111,19 +125,22 @@ function checkCall({ operands, out, json }, converter) {
 /**
  * Converts the files of a call, each by itself.
  * @param {string} tool
- * @param {Values} options
+ * @param {Options} options
  * @param {Converter} converter
  * @returns {number} the exit status: the greatest of those of the files
  */
 export function convertFiles(tool, options, converter) {
-  const { operands } = options, outcomes = [];
+  const { operands } = options;
+  /** @type {Outcome[]} */
+  const outcomes = [];
   checkCall(options, converter);
   const status = withEach(tool, operands, (file) => {
-    const outcome = convertedFile(tool, file, converter, options), isRefused = outcome.refused.length > 0;
-    outcomes.push(isRefused ? outcome : written(outcome, targetOf(file, converter, options), options));
-    tell(outcomes.at(-1), options);
-    return isRefused ? REFUSED : DONE;
+    const made = convertedFile(tool, file, converter, options.camplot);
+    const outcome = made.bytes ? written(made, made.bytes, targetOf(file, converter, options.out), options) : made;
+    outcomes.push(outcome);
+    tell(outcome, options);
+    return made.bytes ? DONE : REFUSED;
   });
-  if (options.json) sayJson({ files: outcomes.map(({ file, out = null, told, values }) => ({ file, written: out, told, ...values })) });
+  if (options.json) sayJson({ files: outcomes.map(({ file, out, told, values }) => ({ file, written: out, told, ...values })) });
   return status;
 }

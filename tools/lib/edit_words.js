@@ -14,8 +14,11 @@ const SEGMENTS = formsOf(["l X Y", "cw X Y CX CY", "ccw X Y CX CY"]);
 
 const WHOLE = /^[-+]?\d{1,12}$/, COUNT = /^\d{1,12}$/, ASCII = /^[!-~]{1,255}$/;
 const MOST_NM = 4_000_000_000, MOST_COUNT = 4_294_967_295;
+/** @param {string} word */
 const isLength = (word) => WHOLE.test(word) && Math.abs(Number(word)) <= MOST_NM;
+/** @param {string} word */
 const isCount = (word) => COUNT.test(word) && Number(word) <= MOST_COUNT;
+/** @param {string} words @returns {(word: string) => boolean} */
 const oneOf = (words) => (word) => words.split(" ").includes(word);
 
 /**
@@ -39,29 +42,39 @@ const TESTS = new Map();
 for (const [places, test] of PLACES) for (const place of places.split(" ")) TESTS.set(place, test);
 
 /** The places that a refusal is about, by its number. */
-const ABOUT = { 60: ["NAME"], 61: ["K", "M"], 62: ["N"], 63: ["N"], 64: ["K"], 66: ["T"], 67: ["D"], 74: ["KEY"], 75: ["KEY"],
-  82: ["PATH"], 83: ["NAME"] };
+const ABOUT = new Map([[60, ["NAME"]], [61, ["K", "M"]], [62, ["N"]], [63, ["N"]], [64, ["K"]], [66, ["T"]], [67, ["D"]], [74, ["KEY"]],
+  [75, ["KEY"]], [82, ["PATH"]], [83, ["NAME"]]]);
 
+/** @param {string[]} lines @returns {Map<string, string[]>} */
 function formsOf(lines) {
-  return new Map(lines.map((line) => [line.split(" ")[0], line.split(" ").slice(1)]));
+  return new Map(lines.map((line) => {
+    const [command = "", ...places] = line.split(" ");
+    return [command, places];
+  }));
 }
 
 /** @typedef {{word: string, place: string, fits: boolean, near?: string | null}} Placed */
 
+/** @param {string} word @param {string} place @param {string | null} near @returns {Placed} */
 const misfit = (word, place, near = null) => ({ word, place, fits: false, near });
 
 // Each word of segments, a form after another.
+/** @param {string[]} words */
 function placedSegments(words) {
+  /** @type {Placed[]} */
   const placed = [];
-  for (let at = 0; at < words.length;) {
-    const form = SEGMENTS.get(words[at]);
-    if (!form) return [...placed, misfit(words[at], "l, cw or ccw")];
-    placed.push({ word: words[at], place: "segment", fits: true }, ...placedIn(form, words.slice(at + 1, at + 1 + form.length)));
-    at += 1 + form.length;
+  let left = 0;
+  for (const [at, word] of words.entries()) {
+    if (at < left) continue;
+    const form = SEGMENTS.get(word);
+    if (!form) return [...placed, misfit(word, "l, cw or ccw")];
+    placed.push({ word, place: "segment", fits: true }, ...placedIn(form, words.slice(at + 1, at + 1 + form.length)));
+    left = at + 1 + form.length;
   }
   return placed.length ? placed : [misfit("", "l, cw or ccw")];
 }
 
+/** @param {string[]} words @returns {Placed[]} */
 function placedItem(words) {
   const [kind = "", ...rest] = words, form = ITEMS.get(kind);
   if (!form) return [misfit(kind, "flash, draw, arc, region, hit or rout", nearest(kind, [...ITEMS.keys()]))];
@@ -70,9 +83,12 @@ function placedItem(words) {
 
 /**
  * The words after the first of a form, each with its place; "" where one is missing.
+ * @param {string[]} form
+ * @param {string[]} words
  * @returns {Placed[]}
  */
 function placedIn(form, words) {
+  /** @type {Placed[]} */
   const placed = [];
   for (const [at, place] of form.entries()) {
     const word = words[at] ?? "", isOptional = place.startsWith("[");
@@ -82,8 +98,8 @@ function placedIn(form, words) {
       return [...placed, ...words.slice(at).map((point) => ({ word: point, place: "X Y", fits: isLength(point) }))];
     }
     if (isOptional && !word) return placed;
-    const name = place.replace(/[[\]]/g, "");
-    placed.push({ word, place: name, fits: TESTS.get(name)(word) });
+    const name = place.replace(/[[\]]/g, ""), test = TESTS.get(name);
+    placed.push({ word, place: name, fits: test !== undefined && test(word) });
   }
   return [...placed, ...words.slice(form.length).map((word) => misfit(word, "one word too many"))];
 }
@@ -94,7 +110,7 @@ function placedIn(form, words) {
  * @returns {Placed[]}
  */
 function placedWords(line) {
-  const [command, ...words] = wordsOf(line), form = LINES.get(command);
+  const [command = "", ...words] = wordsOf(line), form = LINES.get(command);
   if (!form) return [misfit(command, "no command", nearest(command, [...LINES.keys()]))];
   return [{ word: command, place: "command", fits: true }, ...placedIn(form, words)];
 }
@@ -116,6 +132,6 @@ export function wrongWord(reply) {
     const found = placed.find(({ fits }) => !fits);
     return found ? told(found) : null;
   }
-  const about = placed.filter(({ place }) => ABOUT[reply.refusal]?.includes(place));
+  const about = placed.filter(({ place }) => ABOUT.get(reply.refusal)?.includes(place));
   return about.length ? `at ${about.map(({ word, place }) => `'${word}' (${place})`).join(" or ")}` : null;
 }

@@ -4,15 +4,17 @@ import { closeSync, openSync, readFileSync, readSync, statSync } from "node:fs";
 import { getSystemErrorMap } from "node:util";
 import { Failure } from "../../web/convert/index.js";
 import { HEAD } from "../../web/board/index.js";
+import { codeOf, isFault, messageOf } from "./faults.js";
 import { isStream, put } from "./whole.js";
 
 /**
  * Why the system refused something, in its words.
- * @param {Error & {errno?: number}} fault
+ * @param {unknown} fault
  * @returns {string}
  */
 export function reasonOf(fault) {
-  const text = getSystemErrorMap().get(fault.errno)?.[1] ?? fault.message;
+  const errno = isFault(fault) ? fault.errno : null;
+  const text = (typeof errno === "number" ? getSystemErrorMap().get(errno)?.[1] : undefined) ?? messageOf(fault);
   return text.slice(0, 1).toUpperCase() + text.slice(1);
 }
 
@@ -55,9 +57,10 @@ export function headOf(path) {
   }
 }
 
+/** @param {string} one @param {string | Uint8Array} other */
 function isSameFile(one, other) {
   try {
-    const [a, b] = [statSync(one), statSync(other)];
+    const a = statSync(one), b = statSync(other);
     return a.dev === b.dev && a.ino === b.ino;
   } catch {
     return false;
@@ -80,10 +83,12 @@ export function noteWritten(path) {
   written.push(path);
 }
 
+/** @param {string} path @param {unknown} fault */
 function unwritten(path, fault) {
   return new Failure(`${path}: cannot be written: ${reasonOf(fault)}`);
 }
 
+/** @param {string} path */
 function existing(path) {
   return new Failure(`${path}: exists already; --replace replaces it, -o names another`);
 }
@@ -92,7 +97,7 @@ function existing(path) {
  * Stops where a file may not be written: it is there already, or was read.
  * @param {string} path
  * @param {boolean} isReplacing
- * @param {string[]} sources the files that were read
+ * @param {(string | Uint8Array)[]} sources the files that were read
  * @throws {Failure}
  */
 export function checkTarget(path, isReplacing, sources = []) {
@@ -108,7 +113,7 @@ export function checkTarget(path, isReplacing, sources = []) {
  * @param {string} path
  * @param {Uint8Array | string} content
  * @param {boolean} isReplacing
- * @param {string[]} sources the files that were read
+ * @param {(string | Uint8Array)[]} sources the files that were read
  * @throws {Failure} where it exists already, or cannot be written
  */
 export function writeFile(path, content, isReplacing, sources = []) {
@@ -116,7 +121,7 @@ export function writeFile(path, content, isReplacing, sources = []) {
   try {
     put(path, content, !isReplacing);
   } catch (fault) {
-    throw fault.code === "EEXIST" ? existing(path) : unwritten(path, fault);
+    throw codeOf(fault) === "EEXIST" ? existing(path) : unwritten(path, fault);
   }
   noteWritten(path);
 }

@@ -1,12 +1,13 @@
 // tools/fit: the lines of a script that plot files in one window around all of them.
 
-import { existsSync, mkdirSync, mkdtempSync, readFileSync, readdirSync, rmSync, statSync, symlinkSync } from "node:fs";
+import { existsSync, mkdirSync, mkdtempSync, readdirSync, rmSync, statSync, symlinkSync } from "node:fs";
 import { tmpdir } from "node:os";
 import { basename, join, resolve } from "node:path";
 import { SIDE, endingOf, joined, recogniseFiles, windowAtPitch, windowLine } from "../../web/board/index.js";
 import { Board } from "./boards.js";
 import { Call, DONE, Failure, REFUSED, complain, perform, say } from "./command.js";
 import { headOf, noteWritten, reasonOf, replaceFile } from "./files.js";
+import { bytesOf, pathOf } from "./inputs.js";
 import { mended } from "./mending.js";
 import { neededModule } from "./module.js";
 import { option } from "./options.js";
@@ -47,14 +48,20 @@ exit status is 0; 1 if a file was left out; 2 if nothing could be done; 3 if sta
     option("--json"), option("--camplot")],
 };
 
+/** @typedef {Calls.Asked<typeof COMMAND>} Options */
+/** @typedef {import("../../web/board/index.js").Layer} Layer */
+/** @typedef {import("../../web/board/index.js").PlotWindow} PlotWindow */
+
 // Why no line of a script can have a path; null where it can.
+/** @param {string} path */
 function unfitting(path) {
   if (PATH.test(path)) return null;
   if (Buffer.byteLength(path) > 255 && /^[!-~]*$/.test(path)) return "more than 255 bytes";
-  const odd = [...path].find((letter) => !/[!-~]/.test(letter));
+  const odd = [...path].find((letter) => !/[!-~]/.test(letter)) ?? "";
   return odd === " " ? "a blank" : /\s|\p{C}/u.test(odd) ? "a character that is not printed" : `the letter ${odd}, outside of ASCII`;
 }
 
+/** @param {string} path @param {boolean} hasLinks */
 function checkPath(path, hasLinks) {
   if (!existsSync(path)) throw new Failure(`${path} does not exist`);
   if (statSync(path).isDirectory()) {
@@ -69,6 +76,7 @@ function checkPath(path, hasLinks) {
 }
 
 // The layers in a room of their own, loaded.
+/** @param {Layer[]} layers @param {string} program */
 function loadedBoard(layers, program) {
   const folder = mkdtempSync(join(tmpdir(), "camplot-fit-"));
   try {
@@ -80,23 +88,27 @@ function loadedBoard(layers, program) {
   }
 }
 
+/** @param {Layer} layer @param {Board} board */
 function tellRefused(layer, board) {
-  const { path } = layer.file, way = mended(layer.kind, readFileSync(path), path);
+  const path = pathOf(layer.file), way = mended(layer.kind, bytesOf(layer.file), path);
   complain(`${path}: ${board.outcome(layer)}${way === null ? "" : `; ${way}`}`);
 }
 
-// A folder with the script, and with links of these plain names to the layers' files.
-function leaveLinks(folder, layers, names, script) {
+/** @typedef {{layer: Layer, path: string}} Placed a layer, and the path of its file in the script */
+
+// A folder with the script, and with links of plain names to the layers' files.
+/** @param {string} folder @param {Placed[]} placed @param {string} script */
+function leaveLinks(folder, placed, script) {
   if (existsSync(folder) && readdirSync(folder).length) throw new Failure(`${folder} has files: --links names a new folder`);
   const series = new Series(folder);
-  series.plan([...names, SCRIPT]);
+  series.plan([...placed.map(({ path }) => path), SCRIPT]);
   series.during(() => {
     try {
       mkdirSync(folder, { recursive: true });
-      names.forEach((name, at) => {
-        symlinkSync(resolve(layers[at].file.path), join(folder, name));
-        series.done(name);
-      });
+      for (const { layer, path } of placed) {
+        symlinkSync(resolve(pathOf(layer.file)), join(folder, path));
+        series.done(path);
+      }
     } catch (fault) {
       throw new Failure(`${folder}: cannot be written: ${reasonOf(fault)}`);
     }
@@ -105,17 +117,19 @@ function leaveLinks(folder, layers, names, script) {
   noteWritten(folder);
 }
 
-function scriptOf(layers, paths, window) {
-  return [...layers.map((layer, at) => `load ${layer.name} ${layer.kind} ${paths[at]}`), windowLine(window),
-    ...layers.map((layer) => `plot ${layer.name} ${layer.picture}`)];
+/** @param {Placed[]} placed @param {PlotWindow} window */
+function scriptOf(placed, window) {
+  return [...placed.map(({ layer, path }) => `load ${layer.name} ${layer.kind} ${path}`), windowLine(window),
+    ...placed.map(({ layer }) => `plot ${layer.name} ${layer.picture}`)];
 }
 
+/** @param {Layer[]} layers @param {PlotWindow} window @param {Options} options */
 function tellScript(layers, window, { json, links }) {
-  const paths = layers.map(({ name, kind, file }) => (links === null ? file.path : `${name}${endingOf(kind)}`));
-  const lines = scriptOf(layers, paths, window);
-  if (links !== null) leaveLinks(links, layers, paths, `${lines.join("\n")}\n`);
+  const placed = layers.map((layer) => ({ layer, path: links === null ? pathOf(layer.file) : `${layer.name}${endingOf(layer.kind)}` }));
+  const lines = scriptOf(placed, window);
+  if (links !== null) leaveLinks(links, placed, `${lines.join("\n")}\n`);
   if (json) {
-    sayJson({ layers: layers.map(({ name, kind, file, picture }, at) => ({ name, kind, file: file.path, path: paths[at], picture })),
+    sayJson({ layers: placed.map(({ layer: { name, kind, file, picture }, path }) => ({ name, kind, file: pathOf(file), path, picture })),
       window, script: lines });
   } else if (links === null) {
     say(lines.join("\n"));
@@ -124,6 +138,7 @@ function tellScript(layers, window, { json, links }) {
   }
 }
 
+/** @param {Options} options */
 function fitted(options) {
   const pitch = askedPitch(options), paths = options.operands;
   if (options.links !== null && options.out !== null) throw new Call("--links writes the script into its folder: leave --out away");

@@ -3,28 +3,19 @@
 import { readFileSync } from "node:fs";
 import { LENGTHS, valuesOf } from "./options.js";
 
-/**
- * A command as `--help` shows it.
- * @typedef {object} Command
- * @property {string} tool its name, as `tools/to_xnc`
- * @property {string} about what it does
- * @property {{name: string, help?: string, isMany?: boolean, isOptional?: boolean}} operand the file or files it takes
- * @property {import("./options.js").Option[]} options
- */
-
 // The widest first column, and a line of help.
 const COLUMN = 24, WIDTH = 120;
 
 /**
  * An option with the words that it takes: `-o, --out PATH`.
- * @param {import("./options.js").Option} option
+ * @param {Calls.Option} option
  */
 export function wordsOf(option) {
   const names = [option.short, option.name].filter((name) => name).join(", ");
   return [names, ...valuesOf(option)].join(" ");
 }
 
-/** @param {Command} command */
+/** @param {Calls.Command} command */
 export function usageOf({ tool, operand: { name, isMany, isOptional } }) {
   const files = isMany ? `${name} ..` : name;
   return `usage: ${tool} [options] ${isOptional ? `[${files}]` : files}`;
@@ -32,16 +23,18 @@ export function usageOf({ tool, operand: { name, isMany, isOptional } }) {
 
 /**
  * The options of a command with those that every command has, each as its words and what they mean.
- * @param {Command} command
+ * @param {Calls.Command} command
  * @returns {{words: string, help: string}[]}
  */
 export function rowsOf({ options }) {
+  /** @param {readonly string[]} [names] */
   const old = (names = []) => (names.length ? `; earlier: ${names.join(", ")}` : "");
   return [...options.map((option) => ({ words: wordsOf(option), help: `${option.help ?? ""}${old(option.old)}` })),
     { words: "-h, --help", help: "print this" }, { words: "-V, --version", help: "print the version" }];
 }
 
 // A text in lines of so many letters.
+/** @param {string} text @param {number} width */
 function wrapped(text, width) {
   const lines = [""];
   for (const word of text.split(" ")) {
@@ -52,15 +45,16 @@ function wrapped(text, width) {
   return lines;
 }
 
+/** @param {{words: string, help: string}} row */
 function shownRow({ words, help }) {
-  const lines = wrapped(help, WIDTH - COLUMN - 4), blank = " ".repeat(COLUMN + 4);
-  const first = words.length > COLUMN ? [`  ${words}`, `${blank}${lines[0]}`] : [`  ${words.padEnd(COLUMN)}  ${lines[0]}`.trimEnd()];
-  return [...first, ...lines.slice(1).map((line) => `${blank}${line}`)].join("\n");
+  const [line = "", ...others] = wrapped(help, WIDTH - COLUMN - 4), blank = " ".repeat(COLUMN + 4);
+  const first = words.length > COLUMN ? [`  ${words}`, `${blank}${line}`] : [`  ${words.padEnd(COLUMN)}  ${line}`.trimEnd()];
+  return [...first, ...others.map((other) => `${blank}${other}`)].join("\n");
 }
 
 /**
  * What `--help` prints.
- * @param {Command} command
+ * @param {Calls.Command} command
  * @returns {string}
  */
 export function helpOf(command) {
@@ -71,7 +65,7 @@ export function helpOf(command) {
 
 /**
  * What `--version` prints: the version of the repository, which the tools share.
- * @param {Command} command
+ * @param {Calls.Command} command
  * @returns {string}
  */
 export function versionOf({ tool }) {

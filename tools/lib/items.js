@@ -1,6 +1,6 @@
 // tools/items: which item is K.
 
-import { GERBER, Reply, explain, itemOf, kindOf } from "../../web/board/index.js";
+import { GERBER, Reply, explain, far, itemOf, kindOf } from "../../web/board/index.js";
 import { counted } from "../../web/nets/index.js";
 import { AskedLayer } from "./asked_layer.js";
 import { Call, DONE, Failure, perform, say, withEach } from "./command.js";
@@ -41,22 +41,29 @@ what is printed tells so. The exit status is 0; 2 if a file cannot be read; 3 if
     option("--replace"), option("--json")],
 };
 
+/** @typedef {Calls.Asked<typeof COMMAND>} Options */
+/** @typedef {[place: string, item: string, size: string]} Row */
+
+/** @param {string} words @param {boolean} isWhole */
 function shortened(words, isWhole) {
   if (isWhole || words.length <= COLUMN) return words;
   const parts = words.split(" ");
   return parts.length <= WORDS ? words : `${parts.slice(0, WORDS).join(" ")} .. ${parts.length - WORDS} more words`;
 }
 
+/** @param {Board.Box | null} box */
 const sidesOf = (box) => (box ? `${box.right - box.left} x ${box.high - box.low}` : "nothing");
+/** @param {string} length in mm */
 const nmOf = (length) => Math.round(Number(length) * 1e6);
 
 // The first line of an entry, whose definition stands below.
 const ENTRY = /^(aperture|block|tool) (\d+)(?: (\d+))?$/;
 
 // A definition of one of the simple shapes, or of a tool, in words; null where a line is none.
+/** @param {string} line */
 function shapeOf(line) {
-  const tool = /^T\d+C([\d.]+)$/.exec(line), [, name, sizes = ""] = /^%ADD\d+([CRO]),([\d.X]+)\*%$/.exec(line) ?? [];
-  if (tool) return `diameter ${nmOf(tool[1])}`;
+  const tool = /^T\d+C([\d.]+)$/.exec(line)?.[1], [, name, sizes = ""] = /^%ADD\d+([CRO]),([\d.X]+)\*%$/.exec(line) ?? [];
+  if (tool) return `diameter ${nmOf(tool)}`;
   if (!name) return null;
   const lengths = sizes.split("X").map(nmOf), hole = lengths[name === "C" ? 1 : 2];
   return `${name} ${lengths.slice(0, name === "C" ? 1 : 2).join(" x ")}${hole === undefined ? "" : ` with a hole of ${hole}`}`;
@@ -71,61 +78,80 @@ class Sizes {
     this.entries = new Map();
     const lines = layer.ask("entries");
     this.letter = lines[0]?.startsWith("tool") ? "T" : "D";
-    for (let at = 0; at < lines.length;) {
-      const [, kind, number, count] = ENTRY.exec(lines[at++]);
-      let shape = null;
-      while (at < lines.length && !ENTRY.test(lines[at])) shape ??= shapeOf(lines[at++]);
-      this.entries.set(Number(number), shape ?? this.flashed(kind, number, count));
+    /** @type {{kind: string, number: string, count: string, shape: string | null}[]} each with that of the first line that has one */
+    const found = [];
+    for (const line of lines) {
+      const [head, kind = "", number = "", count = ""] = ENTRY.exec(line) ?? [], last = found.at(-1);
+      if (head !== undefined) found.push({ kind, number, count, shape: null });
+      else if (last) last.shape ??= shapeOf(line);
     }
+    for (const { kind, number, count, shape } of found) this.entries.set(Number(number), shape ?? this.flashed(kind, number, count));
   }
 
   // A block or primitives: the box of a flash of it is asked for.
+  /** @param {string} kind @param {string} number @param {string} count */
   flashed(kind, number, count) {
     const sides = sidesOf(this.layer.boxOf(`flash ${number} 0 0 r0 dark`));
     return kind === "block" ? `block ${sides}, ${counted(Number(count), "object")}` : `primitives ${sides}`;
   }
 
-  // The size of an item. (Flashes, hits and draws come by the million, so they are not taken apart whole.)
+  /**
+   * The size of an item. (Flashes, hits and draws come by the million, so they are not taken apart whole.)
+   * @param {string} words
+   * @returns {string}
+   */
   of(words) {
-    const [kind, number, sx, sy, ex, ey] = words.split(" ", 6), entry = this.entries.get(Number(number));
+    const [kind, number, sx, sy, ex, ey] = words.split(" ", 6), entry = this.entries.get(Number(number)) ?? "";
     if (kind === "flash" || kind === "hit") return entry;
     if (kind === "draw") return `${entry}, ${Math.round(Math.hypot(Number(ex) - Number(sx), Number(ey) - Number(sy)))} long`;
     const item = itemOf(words);
-    if (item?.kind === "arc") return `${entry}, radius ${Math.round(lengthOf([item.points[0], item.points[2]]))}`;
+    if (item?.kind === "arc") {
+      const [start, , centre] = item.points;
+      if (start && centre) return `${entry}, radius ${Math.round(far(start, centre))}`;
+    }
     if (item?.kind === "rout") return `${entry}, ${Math.round(lengthOf(item.points))} long`;
-    const { points, segments } = /** @type {Board.Region} */ (item);
-    return `${sidesOf(contourBox(points[0], segments))}, ${counted(segments.length, "segment")}`;
+    if (item?.kind !== "region") throw new Failure(`no item that is known: ${shortened(words, false)}`);
+    const [start] = item.points, box = start ? contourBox(start, item.segments) : null;
+    return `${sidesOf(box)}, ${counted(item.segments.length, "segment")}`;
   }
 
-  // The rows of the item at a place, whose objects are the lines after it.
+  /**
+   * The rows of the item at a place, whose objects are the lines after it.
+   * @param {number} place
+   * @param {string} words
+   * @param {string[]} objects
+   * @param {boolean} isWhole
+   * @returns {Row[]}
+   */
   rows(place, words, objects, isWhole) {
     if (!words.startsWith("repeat ")) return [[String(place), shortened(words, isWhole), this.of(words)]];
     const [, columns, lines, i, j, count] = words.split(" ");
     return [[String(place), `repeat ${columns} x ${lines} at steps ${i} ${j}`,
       `${sidesOf(this.layer.boxAt(place))}, ${counted(Number(count), "object")}`],
-    ...objects.map((object) => [" ", `  ${shortened(object, isWhole)}`, this.of(object)])];
+    ...objects.map((/** @returns {Row} */ (object) => [" ", `  ${shortened(object, isWhole)}`, this.of(object)]))];
   }
 }
 
 // The rows of the items that are wanted.
+/** @param {AskedLayer} layer @param {Options} options */
 function rowsOf(layer, { only, at, whole }) {
-  const sizes = new Sizes(layer), rows = [["K", "item", "size in nm"]];
-  const places = at && new Set(layer.placesAt(at[0], at[1])), lines = layer.ask("items", `0 ${layer.count}`);
-  for (let line = 0, place = 0; line < lines.length; place++) {
-    const words = lines[line++], objects = [];
-    while (lines[line]?.startsWith(" ")) objects.push(lines[line++].trimStart());
+  const sizes = new Sizes(layer), places = at && new Set(layer.placesAt(at[0], at[1]));
+  /** @type {Row[]} */
+  const rows = [["K", "item", "size in nm"]];
+  for (const { place, words, objects } of layer.itemsWithObjects()) {
     if (only !== null && !words.startsWith(`${only} `) || places && !places.has(place)) continue;
     rows.push(...sizes.rows(place, words, objects, whole));
   }
   return rows;
 }
 
+/** @param {AskedLayer} layer @param {Options} options */
 function showItems(layer, options) {
   const rows = rowsOf(layer, options);
   let places = 0, words = 4;
-  for (const row of rows) {
-    places = Math.max(places, row[0].length);
-    if (row[1].length <= COLUMN) words = Math.max(words, row[1].length);
+  for (const [place, item] of rows) {
+    places = Math.max(places, place.length);
+    if (item.length <= COLUMN) words = Math.max(words, item.length);
   }
   for (let from = 0; from < rows.length; from += LINES) {
     say(rows.slice(from, from + LINES).map(([place, item, size]) => {
@@ -134,12 +160,14 @@ function showItems(layer, options) {
   }
 }
 
+/** @param {AskedLayer} layer */
 function showApertures(layer) {
   const { entries, letter } = new Sizes(layer);
   for (const [number, size] of entries) say(`${letter}${String(number).padEnd(6)} ${size}`);
 }
 
 // The same as values: the objects of a repeat have its place.
+/** @param {AskedLayer} layer @param {Options} options */
 function valuesOf(layer, options) {
   if (options.apertures) return { apertures: [...new Sizes(layer).entries].map(([number, size]) => ({ number, size })) };
   let last = 0;
@@ -152,6 +180,7 @@ function valuesOf(layer, options) {
 }
 
 // A file as a layer, and whether it is what camplot writes of it.
+/** @param {string} path */
 function asked(path) {
   const bytes = readBytes(path), kind = kindOf(bytes) ?? GERBER, layer = new AskedLayer(kind, bytes);
   if (!layer.isLoaded) {
@@ -161,6 +190,7 @@ function asked(path) {
   return { layer, isWritten: Buffer.compare(layer.text(), bytes) === 0 };
 }
 
+/** @param {string} path @param {ReturnType<typeof asked>} found @param {Options} options */
 function show(path, { layer, isWritten }, options) {
   if (options.operands.length > 1) say(`${path}:`);
   if (!isWritten) say(`${path} is not a text that camplot wrote: these are its items after it is loaded`);
@@ -168,8 +198,10 @@ function show(path, { layer, isWritten }, options) {
   else showItems(layer, options);
 }
 
+/** @param {Options} options */
 function run(options) {
   if (options.operands.filter((path) => path === "-").length > 1) throw new Call("-: standard input is read once");
+  /** @type {object[]} */
   const values = [];
   return printedInto(options, () => {
     const status = withEach(TOOL, options.operands, (path) => {

@@ -7,7 +7,10 @@ import { CONVERTERS } from "./converting.js";
 import { called } from "./places.js";
 import { quoted } from "./shell.js";
 
+/** @typedef {import("../../web/convert/index.js").Chosen} Chosen */
+
 // A file of the kind under some choices: its bytes, or why it is refused.
+/** @param {"gerber" | "drill"} kind @param {Uint8Array} bytes @param {Chosen} choices @returns {{made: Uint8Array | null, texts: string[]}} */
 function convertedBy(kind, bytes, choices) {
   try {
     const { bytes: made, refusals } = kind === GERBER ? convertGerber(bytes, { nearest: false, repeat: false, ...choices })
@@ -20,6 +23,7 @@ function convertedBy(kind, bytes, choices) {
 }
 
 // The words of a call that chooses so.
+/** @param {"gerber" | "drill"} kind @param {Chosen} choices */
 function wordsOf(kind, choices) {
   return CHOICES[kind].filter(({ name }) => name in choices)
     .map(({ name, option }) => (choices[name] === true ? option : `${option} ${choices[name]}`));
@@ -37,7 +41,10 @@ export function mended(kind, bytes, path) {
   const ways = waysToConvert((choices) => {
     const { made, texts } = convertedBy(kind, bytes, choices);
     return made ? null : askedChoices(kind, texts);
-  }).filter((choices) => new AskedLayer(kind, convertedBy(kind, bytes, choices).made).isLoaded);
+  }).filter((choices) => {
+    const { made } = convertedBy(kind, bytes, choices);
+    return made !== null && new AskedLayer(kind, made).isLoaded;
+  });
   if (ways.length) return `it loads after ${ways.map((choices) => [...call, ...wordsOf(kind, choices)].join(" ")).join(", or after ")}`;
   const asked = askedChoices(kind, convertedBy(kind, bytes, {}).texts);
   if (!asked.length) return null;

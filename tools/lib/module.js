@@ -14,6 +14,7 @@ const MODULE = join(dirname(dirname(dirname(fileURLToPath(import.meta.url)))), "
 // What can be undone, as of the program.
 const DEPTH = 100;
 
+/** @type {WebAssembly.Module | null | undefined} */
 let compiled;
 
 function read() {
@@ -39,11 +40,13 @@ export function neededModule() {
 }
 
 // A path of a line, whose characters are its bytes.
+/** @param {string} folder @param {string} path */
 function pathIn(folder, path) {
   return Buffer.concat([...path.startsWith("/") ? [] : [Buffer.from(join(folder, "/"))], latin1Bytes(path)]);
 }
 
 // The bytes of a file; null where it cannot be read, which the station refuses.
+/** @param {Uint8Array} path */
 function bytesAt(path) {
   try {
     return statSync(path).isFile() ? readFileSync(path) : null;
@@ -52,10 +55,13 @@ function bytesAt(path) {
   }
 }
 
+/** @param {Station} station @param {string} folder @param {string} line */
 function served(station, folder, line) {
-  const [command, ...words] = wordsOf(line), isLoad = command === "load" && words.length === 3;
-  const code = station.apply(latin1Bytes(line), isLoad ? bytesAt(pathIn(folder, words[2])) : null);
-  if (code === 0 && (command === "plot" || command === "write")) replaceFile(String(pathIn(folder, words[1])), station.file);
+  const [command, ...words] = wordsOf(line), [, path, loaded] = words, isLoad = command === "load" && words.length === 3;
+  const code = station.apply(latin1Bytes(line), isLoad && loaded !== undefined ? bytesAt(pathIn(folder, loaded)) : null);
+  if (code === 0 && (command === "plot" || command === "write") && path !== undefined) {
+    replaceFile(String(pathIn(folder, path)), station.file);
+  }
   return latin1(station.reply);
 }
 
@@ -66,7 +72,7 @@ function served(station, folder, line) {
  * @returns {string} the replies, each with a line feed
  */
 export function outputOfModule(folder, lines) {
-  const station = new Station(stationModule(), DEPTH);
+  const station = new Station(neededModule(), DEPTH);
   try {
     return lines.map((line) => served(station, folder, line)).join("");
   } finally {

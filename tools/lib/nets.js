@@ -62,35 +62,43 @@ refused (--partial compares the rest); 3: standard output cannot be written.`,
     option("--out", ": a file"), option("--replace"), option("--json"), option("--camplot")],
 };
 
+/** @typedef {ReturnType<typeof checkedOptions>} Options */
+/** @typedef {import("../../web/board/index.js").BoardFile} BoardFile */
+
+/** @param {string} text @returns {[string, string]} */
 function pairOf(text) {
-  const names = text.split(",").map((name) => name.trim());
-  if (names.length !== 2 || names.includes("")) throw new Call(`--may-touch ${text}: it needs two nets, as GND,AGND`);
-  return names;
+  const [one, other, ...more] = text.split(",").map((name) => name.trim());
+  if (!one || !other || more.length) throw new Call(`--may-touch ${text}: it needs two nets, as GND,AGND`);
+  return [one, other];
 }
 
 // Where a board's accepted findings are, if no file is named: in its folder.
-function acceptedPath([first]) {
+/** @param {string[]} paths */
+function acceptedPath([first = "."]) {
   return join(statSync(first).isDirectory() ? first : dirname(first), NAME);
 }
 
-function checkOptions(options) {
-  options.pitch = askedPitch(options, FINE);
+// The options, with the pitch, the limits of the rules and the nets that may touch as they are used.
+/** @param {Calls.Asked<typeof COMMAND>} options */
+function checkedOptions(options) {
+  const pitch = askedPitch(options, FINE);
   if (options.shift !== null && options.ipc === null) throw new Call("--shift is for the netlist of --ipc");
   if (options.ipc !== null && !existsSync(options.ipc)) throw new Failure(`${options.ipc} does not exist`);
-  options.mayTouch = options.mayTouch.map(pairOf);
-  options.limits = limitsOf(options.rules, options.rule);
+  const mayTouch = options.mayTouch.map(pairOf), limits = limitsOf(options.rules, options.rule);
   if (options.accept === "") throw new Call("--accept needs a reason");
   if (options.pictures !== null && existsSync(options.pictures)) {
     throw new Failure(`${options.pictures} exists already: --pictures names a new folder`);
   }
+  return { ...options, pitch, mayTouch, limits };
 }
 
+/** @param {NetsBoard} board @param {BoardFile[]} others @param {string[]} notes */
 function tellLayers(board, others, notes) {
   for (const { name } of others.filter((other) => other.name !== NAME)) say(`left out, since it is not recognised as a layer: ${name}`);
   for (const note of notes) say(note);
   for (const { layer, number } of board.stack.copper) say(`copper ${number}: ${layer.name}: ${layer.file.name}`);
   for (const { layer, why } of board.stack.holes) {
-    const unplated = board.unplated.get(layer).length;
+    const unplated = board.placesWithoutPlating(layer).length;
     say(`plated holes: ${layer.file.name}: through ${why}${
       unplated ? `; ${counted(unplated, "hole")} of tools without plating left out, which cut copper` : ""}`);
   }
@@ -107,6 +115,7 @@ function tellLayers(board, others, notes) {
   if (board.missing.length) say("parts that are told as open may be joined by what is missing");
 }
 
+/** @param {import("../../web/board/index.js").PlotWindow} window @param {number} asked */
 function tellWindow(window, asked) {
   const { pitch, width, height } = window;
   say(`the window: ${width} x ${height} pixels of ${pitch} nm${
@@ -114,18 +123,19 @@ function tellWindow(window, asked) {
 }
 
 // The answer at the pitch, and with --twice those of another window and of another pitch.
+/** @param {NetsBoard} board @param {Truth} truth @param {Options} options @returns {[Answer, ...Answer[]]} */
 function answersOf(board, truth, options) {
-  const windows = [{ window: board.window(options.pitch), what: "" }];
+  const window = board.window(options.pitch), half = Math.floor(window.pitch / 2), others = [];
   if (options.twice) {
-    const half = Math.floor(windows[0].window.pitch / 2);
-    windows.push({ window: board.window(options.pitch, true), what: "with the window moved by half a pixel" });
-    if (half > 0) windows.push({ window: board.window(half), what: "at half the pitch" });
+    others.push({ window: board.window(options.pitch, true), what: "with the window moved by half a pixel" });
+    if (half > 0) others.push({ window: board.window(half), what: "at half the pitch" });
   }
-  return windows.map(({ window, what }) => new Answer(board, truth, window, what, options));
+  return [new Answer(board, truth, window, "", options),
+    ...others.map((other) => new Answer(board, truth, other.window, other.what, options))];
 }
 
-function tellTwice(answers) {
-  const [first, ...others] = answers;
+/** @param {[Answer, ...Answer[]]} answers */
+function tellTwice([first, ...others]) {
   for (const other of others) {
     const told = differences(first, other);
     say(`${other.what} (${windowLine(other.window)}): ${told.length ? "what differs:" : "nothing differs"}`);
@@ -133,22 +143,26 @@ function tellTwice(answers) {
   }
 }
 
+/** @param {Answer} answer @param {string[]} labels */
 function tellSizes({ nets, grid }, labels) {
   const { areas, holes } = nets.tallies(), size = (grid.pitch / 1e6) ** 2;
-  const rows = Array.from({ length: nets.count }, (_, net) => ({ net, holes: holes[net],
-    area: areas.reduce((sum, ofLayer) => sum + ofLayer[net], 0) * size,
-    on: labels.filter((_, layer) => areas[layer][net] > 0).join(", ") }));
+  /** @type {Map<number, {x: number, y: number}>} */
   const firsts = new Map();
   nets.visit(() => true, (layer, row, start, end, net) => {
     if (!firsts.has(net)) firsts.set(net, grid.placeOf((start + end - 1) >> 1, row));
   }, 0, nets.copper.length - 1);
-  for (const { net, area, on, holes: count } of rows.sort((one, other) => other.area - one.area)) {
-    say(`${area.toFixed(4).padStart(12)} mm²  ${counted(count, "hole").padStart(9)}  at ${placeWords(firsts.get(net))} on ${on}`);
+  const rows = [...firsts].map(([net, first]) => ({ net, first, count: holes[net] ?? 0,
+    area: areas.reduce((sum, ofLayer) => sum + (ofLayer[net] ?? 0), 0) * size,
+    on: labels.filter((_, layer) => (areas[layer]?.[net] ?? 0) > 0).join(", ") }));
+  for (const { area, on, first, count } of rows.sort((one, other) => other.area - one.area || one.net - other.net)) {
+    say(`${area.toFixed(4).padStart(12)} mm²  ${counted(count, "hole").padStart(9)}  at ${placeWords(first)} on ${on}`);
   }
 }
 
+/** @param {number} part */
 const percent = (part) => `${(100 * part).toFixed(1)} %`;
 
+/** @param {Answer} answer */
 function tellShares(answer) {
   answer.shares.forEach(({ all, rows }, layer) => {
     say(`copper's share of ${answer.labels[layer]}: ${percent(all)}; by squares of 10 mm, from the upper left:`);
@@ -156,6 +170,7 @@ function tellShares(answer) {
   });
 }
 
+/** @param {Truth} truth @param {[Answer, ...Answer[]]} answers @param {Options} options @param {Accepted} accepted */
 function tell(truth, answers, options, accepted) {
   const [answer] = answers;
   tellWindow(answer.window, options.pitch);
@@ -171,6 +186,7 @@ function tell(truth, answers, options, accepted) {
   tellTwice(answers);
 }
 
+/** @param {NetsBoard} board @param {Truth} truth @param {[Answer, ...Answer[]]} answers @param {Accepted} accepted */
 function jsonOf(board, truth, answers, accepted) {
   const [answer, ...others] = answers, { track, gap } = limitsOfPitch(answer.window.pitch);
   return JSON.stringify({
@@ -183,18 +199,21 @@ function jsonOf(board, truth, answers, accepted) {
 }
 
 // Whether something is asked that needs no nets to compare with.
+/** @param {Options} options */
 function isChecked({ gap, neck, limits, copper }) {
   return gap !== null || neck !== null || limits.size > 0 || copper;
 }
 
 // The file of --out is none of those that are read, also of a folder.
+/** @param {Options} options @param {BoardFile[]} files @param {string} accepted */
 function checkOut({ out, replace, ipc, edits, rules }, files, accepted) {
   if (out === null || out === STANDARD) return;
-  checkTarget(out, replace, [...files.map(({ path }) => path), accepted, ...[ipc, edits, rules].filter((path) => path !== null)]);
+  checkTarget(out, replace, [...files.flatMap(({ path }) => path ?? []), accepted, ...[ipc, edits, rules].flatMap((path) => path ?? [])]);
 }
 
-function run(options) {
-  checkOptions(options);
+/** @param {Calls.Asked<typeof COMMAND>} asked */
+function run(asked) {
+  const options = checkedOptions(asked);
   const { files, areNamed, notes } = inputs(options.operands), acceptedIn = options.accepted ?? acceptedPath(options.operands);
   checkOut(options, files, acceptedIn);
   const { layers, others } = layersOf(files, areNamed, rolesOf(options.role));

@@ -51,6 +51,7 @@ export class Accepted {
   }
 
   // The file is written anew: a line that is cut short would be refused by the next run.
+  /** @param {string} lines */
   append(lines) {
     const before = existsSync(this.path) && !isStream(this.path) ? readBytes(this.path) : new Uint8Array(0);
     const isCut = before.length > 0 && before[before.length - 1] !== 10;

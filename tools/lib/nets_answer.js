@@ -6,8 +6,19 @@ import {
 import { progress } from "./nets_progress.js";
 import { sidesOf, uncheckedOf } from "./nets_sides.js";
 
+/** @typedef {import("../../web/nets/index.js").Bare} Bare */
+/** @typedef {import("../../web/nets/index.js").Breach} Breach */
+/** @typedef {import("../../web/nets/index.js").Kept} Kept */
+/** @typedef {import("../../web/nets/index.js").Measure} Measure */
+/** @typedef {import("../../web/nets/index.js").Open} Open */
+/** @typedef {import("../../web/nets/index.js").Short} Short */
+/** @typedef {{layer: number, x: number, y: number}} Place of copper, by its place in the stack, in nm */
+/** @typedef {{names: [string, string], from: Place, to: Place, distance: number}} Gap two nets that are near, and how near in nm */
+/** @typedef {{name: string, place: Place, width: number, measure: Measure}} Neck thin copper, and its width in nm */
+
 /** The side of the squares in which copper's share is counted, in nm. */
 const SQUARE = 10_000_000;
+/** @type {ReturnType<typeof compareNets>} */
 const NONE = { opens: [], shorts: [], bare: [], loose: [], names: new Map() };
 
 /** What a pitch answers. */
@@ -51,28 +62,34 @@ export class Answer {
   }
 
   // The pixels of a box, the last column and row not included.
+  /** @param {import("../../web/board/index.js").Box} box */
   boxOf({ left, low, right, high }) {
-    const { x, y, pitch, width, height } = this.grid, within = (at, most) => Math.min(most, Math.max(0, at));
+    const { x, y, pitch, width, height } = this.grid;
+    /** @param {number} at @param {number} most */
+    const within = (at, most) => Math.min(most, Math.max(0, at));
     const first = within(Math.floor((left - x) / pitch), width - 1), top = within(height - Math.ceil((high - y) / pitch), height - 1);
     return { left: first, top, right: Math.max(first + 1, within(Math.ceil((right - x) / pitch), width)),
       bottom: Math.max(top + 1, within(height - Math.floor((low - y) / pitch), height)) };
   }
 
+  /** @param {number} layer @param {[column: number, row: number]} pixel @returns {Place} */
   place(layer, [column, row]) {
     return { layer, ...this.grid.placeOf(column, row) };
   }
 
+  /** @param {number} net @param {Place} place @returns {string} */
   nameOf(net, place) {
     return this.keeping.nameOf(net, place);
   }
 
-  gapOf({ layer, nets, from, to, distance }) {
-    const places = [this.place(layer, from), this.place(layer, to)];
-    const ends = this.nets.netAt(layer, ...from) === nets[0] ? places : [...places].reverse();
-    return { names: nets.map((net, at) => this.nameOf(net, ends[at])), from: ends[0], to: ends[1],
-      distance: distance * this.window.pitch };
+  /** @param {ReturnType<typeof nearPlaces>[number]} near @returns {Gap} */
+  gapOf({ layer, nets: [one, other], from, to, distance }) {
+    const isInOrder = this.nets.netAt(layer, ...from) === one;
+    const start = this.place(layer, isInOrder ? from : to), end = this.place(layer, isInOrder ? to : from);
+    return { names: [this.nameOf(one, start), this.nameOf(other, end)], from: start, to: end, distance: distance * this.window.pitch };
   }
 
+  /** @param {ReturnType<typeof thinPlaces>[number]} thin @returns {Neck} */
   neckOf({ layer, net, column, row, width, disc }) {
     const place = this.place(layer, [column, row]);
     return { name: this.nameOf(net, place), place, width: width * this.window.pitch, measure: this.grid.measureOf(throughDisc(disc, width)) };
@@ -83,12 +100,12 @@ export class Answer {
    * @param {import("./nets_accepted.js").Accepted} accepted
    */
   accept(accepted) {
-    const { found } = this, isOther = (kept) => (finding) => !accepted.has(kept.call(this, finding));
-    this.found = { ...found, opens: found.opens.filter(isOther(this.keptOpen)), shorts: found.shorts.filter(isOther(this.keptShort)),
-      bare: found.bare.filter(isOther(this.keptBare)) };
-    this.gaps = this.gaps.filter(isOther(this.keptGap));
-    this.necks = this.necks.filter(isOther(this.keptNeck));
-    this.breaches = this.breaches.filter(isOther(this.keptBreach));
+    const { found } = this;
+    this.found = { ...found, opens: found.opens.filter((open) => !accepted.has(this.keptOpen(open))),
+      shorts: found.shorts.filter((short) => !accepted.has(this.keptShort(short))), bare: found.bare.filter((bare) => !accepted.has(this.keptBare(bare))) };
+    this.gaps = this.gaps.filter((gap) => !accepted.has(this.keptGap(gap)));
+    this.necks = this.necks.filter((neck) => !accepted.has(this.keptNeck(neck)));
+    this.breaches = this.breaches.filter((breach) => !accepted.has(this.keptBreach(breach)));
   }
 
   /** The findings that are faults, as they are kept. */
@@ -99,30 +116,37 @@ export class Answer {
       ...this.breaches.map((breach) => this.keptBreach(breach))];
   }
 
+  /** @param {Breach} breach @returns {string[]} */
   namesOf(breach) {
     return this.keeping.namesOf(breach);
   }
 
+  /** @param {Breach} breach @returns {Kept} */
   keptBreach(breach) {
     return this.keeping.breach(breach);
   }
 
+  /** @param {Open} open @returns {Kept} */
   keptOpen(open) {
     return this.keeping.open(open);
   }
 
+  /** @param {Short} short @returns {Kept} */
   keptShort(short) {
     return this.keeping.short(short);
   }
 
+  /** @param {Bare} bare @returns {Kept} */
   keptBare(bare) {
     return this.keeping.bare(bare);
   }
 
+  /** @param {Gap} gap @returns {Kept} */
   keptGap({ names, from }) {
     return this.keeping.at("gap", names, from);
   }
 
+  /** @param {Neck} neck @returns {Kept} */
   keptNeck({ name, place }) {
     return this.keeping.at("neck", [name], place);
   }
@@ -130,13 +154,19 @@ export class Answer {
   /** The findings in lines for people: of each kind the first ones, and how many more there are. */
   lines() {
     const { opens, shorts, bare, loose } = this.found, { report } = this;
+    /**
+     * @template T
+     * @param {T[]} list
+     * @param {string} what
+     * @param {(finding: T) => string[]} told
+     */
     const some = (list, what, told) => {
       const more = list.length - MOST_FULL;
       return [...list.slice(0, MOST_FULL).map(told), ...(more > 0 ? [[`and ${counted(more, `more ${what}`)}`]] : [])];
     };
     return [...some(opens, "open", (open) => report.open(open)), ...some(shorts, "short", (short) => report.short(short)),
       ...some(bare, "point", (point) => report.bare(point)), ...some(loose, "piece", (copper) => report.loose(copper)),
-      ...[...this.limits].flatMap(([rule, limit]) => some(this.breaches.filter((breach) => breach.rule === rule), RULES.get(rule).title,
+      ...[...this.limits].flatMap(([rule, limit]) => some(this.breaches.filter((breach) => breach.rule === rule), RULES.get(rule)?.title ?? rule,
         (breach) => [breachWords(breach, limit, this.namesOf(breach), this.labels)])),
       ...some(this.gaps, "gap", (gap) => report.clearance(gap)), ...some(this.necks, "neck", (neck) => report.neck(neck))];
   }
@@ -149,9 +179,13 @@ export class Answer {
 
   /** The findings as plain values; lengths in mm. */
   findings() {
+    /** @param {Place} place */
     const place = ({ layer, x, y }) => ({ layer: this.labels[layer], x: mm(x), y: mm(y) });
+    /** @param {import("../../web/nets/index.js").NetPoint} point */
     const point = ({ net, name, source, x, y, layers }) => ({ net, name, source, x: mm(x), y: mm(y),
       layers: layers.map((layer) => this.labels[layer]) });
+    /** @param {number | undefined} nm */
+    const length = (nm) => (nm === undefined ? null : mm(nm));
     const { opens, shorts, bare, loose } = this.found, exact = mm(Math.ceil(this.window.pitch * Math.SQRT2));
     return {
       opens: opens.map(({ net, parts, gaps }) => ({ net, parts: parts.map(({ points }) => points.map(point)),
@@ -165,7 +199,7 @@ export class Answer {
       gaps: this.gaps.map(({ names, from, to, distance }) => ({ names, from: place(from), to: place(to),
         distance: mm(distance), within: exact })),
       rules: this.breaches.map((breach) => ({ rule: breach.rule, value: mm(breach.value), within: mm(breach.within),
-        limit: mm(this.limits.get(breach.rule)), layer: breach.layer === null ? null : this.labels[breach.layer], x: mm(breach.from.x), y: mm(breach.from.y),
+        limit: length(this.limits.get(breach.rule)), layer: breach.layer === null ? null : this.labels[breach.layer], x: mm(breach.from.x), y: mm(breach.from.y),
         to: breach.to && { x: mm(breach.to.x), y: mm(breach.to.y) }, holes: breach.sources, nets: this.namesOf(breach),
         of: breach.shown ?? [] })),
       rulesNotChecked: this.unchecked,
@@ -184,16 +218,20 @@ export class Answer {
   }
 }
 
+/** @param {Short} short */
+const netsOfShort = ({ nets }) => nets.map(({ net }) => net).join(" and ");
+
 // Shorts that both have, whose places or widths are farther apart than the pixels of both allow.
+/** @param {Answer} first @param {Answer} other */
 function movedShorts(first, other) {
-  const exact = Math.SQRT2 * (first.window.pitch + other.window.pitch), nameOf = ({ nets }) => nets.map(({ net }) => net).join(" and ");
-  const known = new Map(first.found.shorts.map((short) => [nameOf(short), short.touching[0]]));
+  const exact = Math.SQRT2 * (first.window.pitch + other.window.pitch);
+  const known = new Map(first.found.shorts.map((short) => /** @type {const} */ ([netsOfShort(short), short.touching[0]])));
   return other.found.shorts.flatMap((short) => {
-    const one = known.get(nameOf(short)), [now] = short.touching;
+    const one = known.get(netsOfShort(short)), [now] = short.touching;
     if (!one || !now) return [];
     const away = Math.hypot(one.place.x - now.place.x, one.place.y - now.place.y), wider = Math.abs(one.width - now.width);
     if (one.place.layer === now.place.layer && away <= exact && wider <= exact) return [];
-    return [`short: ${nameOf(short)} touch ${mm(away)} mm from there, ${mm(now.width)} mm wide in place of ${mm(one.width)}`];
+    return [`short: ${netsOfShort(short)} touch ${mm(away)} mm from there, ${mm(now.width)} mm wide in place of ${mm(one.width)}`];
   });
 }
 
@@ -204,7 +242,7 @@ function movedShorts(first, other) {
  * @returns {string[]}
  */
 export function differences(first, other) {
-  const [before, now] = [first.gist, other.gist];
+  const before = first.gist, now = other.gist;
   return [...now.filter((line) => !before.includes(line)).map((line) => `now ${line}`),
     ...before.filter((line) => !now.includes(line)).map((line) => `no longer ${line}`), ...movedShorts(first, other)];
 }

@@ -31,11 +31,13 @@ const LETTERS = {
 };
 const WIDE = 5, HIGH = 7, GROWN = 2;
 
+/** @typedef {{layer: number, x: number, y: number}} Place */
+
 /**
  * A finding as it is drawn.
  * @typedef {object} Shown
  * @property {string} what its kind
- * @property {{layer: number, x: number, y: number}[]} places in nm
+ * @property {[Place, ...Place[]]} places in nm
  * @property {number[]} nets those that are coloured
  * @property {import("../../web/nets/index.js").Measure | null} measure
  * @property {number | null} value in nm
@@ -57,6 +59,7 @@ export class Drawn {
     this.left = Math.round((Math.max(...columns) + Math.min(...columns) - reach) / 2);
     this.top = Math.round((Math.max(...rows) + Math.min(...rows) - reach) / 2);
     this.nets = nets;
+    this.holes = nets.layers.slice(nets.copper.length);
     this.coloured = coloured;
     this.pixels = new Uint8Array(SIDE * SIDE);
     this.paint(places[0].layer);
@@ -96,10 +99,10 @@ export class Drawn {
   /** @param {number} x @param {number} y @param {number[]} layers */
   colourOf(x, y, layers) {
     const { nets, coloured } = this;
-    for (let at = nets.copper.length; at < nets.layers.length; at++) if (nets.layers[at].isBlack(x, y)) return HOLE;
+    for (const holes of this.holes) if (holes.isBlack(x, y)) return HOLE;
     let colour = BOARD;
     for (const layer of layers) {
-      const net = nets.netAt(layer, x, y), place = net < 0 ? -1 : coloured.indexOf(net);
+      const net = nets.netAt(layer, x, y) ?? -1, place = net < 0 ? -1 : coloured.indexOf(net);
       if (place >= 0) return place === 0 ? FIRST : SECOND;
       if (net >= 0) colour = COPPER;
     }
@@ -115,7 +118,10 @@ export class Drawn {
   /** @param {{x: number, y: number}} at */
   cross({ x, y }) {
     for (let away = 6; away < 24; away++) {
-      for (const [dx, dy] of [[away, 0], [-away, 0], [0, away], [0, -away]]) this.dot(x + dx, y + dy);
+      this.dot(x + away, y);
+      this.dot(x - away, y);
+      this.dot(x, y + away);
+      this.dot(x, y - away);
     }
   }
 
@@ -125,7 +131,7 @@ export class Drawn {
    * @param {number | null} value
    */
   measure(measure, value) {
-    const [from, to] = measure.map((place) => this.seen(place)), length = Math.hypot(to.x - from.x, to.y - from.y);
+    const from = this.seen(measure[0]), to = this.seen(measure[1]), length = Math.hypot(to.x - from.x, to.y - from.y);
     const right = length ? (to.y - from.y) / length * BAR : BAR, down = length ? (from.x - to.x) / length * BAR : 0;
     this.line(from, to);
     for (const { x, y } of [from, to]) this.line({ x: x - right, y: y - down }, { x: x + right, y: y + down });
@@ -138,7 +144,7 @@ export class Drawn {
     const steps = Math.ceil(Math.max(Math.abs(to.x - from.x), Math.abs(to.y - from.y), 1));
     for (let at = 0; at <= steps; at++) {
       const x = Math.round(from.x + (to.x - from.x) * at / steps), y = Math.round(from.y + (to.y - from.y) * at / steps);
-      for (const [right, down] of [[0, 0], [1, 0], [0, 1], [1, 1]]) this.dot(x + right, y + down);
+      for (const right of [0, 1]) for (const down of [0, 1]) this.dot(x + right, y + down);
     }
   }
 
@@ -155,7 +161,7 @@ export class Drawn {
       const rows = LETTERS[letter] ?? [];
       for (let row = 0; row < high; row++) {
         for (let column = 0; column < WIDE * GROWN; column++) {
-          if (rows[Math.floor(row / GROWN)] >> (WIDE - 1 - Math.floor(column / GROWN)) & 1) this.dot(left + at * (WIDE + 1) * GROWN + column, top + row, LETTER);
+          if ((rows[Math.floor(row / GROWN)] ?? 0) >> (WIDE - 1 - Math.floor(column / GROWN)) & 1) this.dot(left + at * (WIDE + 1) * GROWN + column, top + row, LETTER);
         }
       }
     });

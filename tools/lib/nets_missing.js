@@ -3,19 +3,29 @@
 import { kindOf } from "../../web/board/index.js";
 import { counted, layerReader, numbersOf } from "../../web/nets/index.js";
 
+/** @typedef {import("./nets_board.js").NetsBoard} NetsBoard */
+/** @typedef {import("../../web/nets/index.js").Netlist} Netlist */
+/** @typedef {import("../../web/nets/index.js").NetPoint} NetPoint */
+
 // A Gerber file of which nothing says what it shows.
+/** @param {import("../../web/board/index.js").Layer} layer */
 const isUnknown = ({ layerFunction: { name } }) => name === "other";
 
 // How many points of a netlist lie on each copper that is not there, by its number, those of one layer alone first.
+/** @param {Netlist} netlist @param {ReturnType<typeof numbersOf>} copper */
 function pointsOn(netlist, copper) {
-  const layersOf = layerReader(netlist, copper), counts = new Map();
+  /** @type {Map<number, number>} */
+  const counts = new Map();
+  const layersOf = layerReader(netlist, copper);
   for (const point of netlist.points.filter(({ kind }) => kind !== "tooling")) {
     for (const number of layersOf(point)) if (!copper.numbers.includes(number)) counts.set(number, (counts.get(number) ?? 0) + 1);
   }
   return counts;
 }
 
+/** @param {NetsBoard} board @param {Netlist | null} netlist */
 function copperLines({ stack, refused }, netlist) {
+  /** @type {Map<number, number>} */
   const counts = netlist ? pointsOn(netlist, numbersOf(stack)) : new Map();
   const numbers = [...new Set([...stack.missing, ...counts.keys()])].sort((one, other) => one - other);
   return numbers.map((number) => {
@@ -25,6 +35,7 @@ function copperLines({ stack, refused }, netlist) {
   });
 }
 
+/** @param {NetsBoard} board @param {Netlist | null} netlist @param {NetPoint[]} attributes */
 function holeLines({ stack, refused }, netlist, attributes) {
   const isRefused = refused.some(({ layer }) => ["plated", "holes"].includes(layer.layerFunction.name));
   const points = netlist ? netlist.points.filter(({ kind, isPlated }) => isPlated && (kind === "through" || kind === "blind")).length
@@ -36,9 +47,9 @@ function holeLines({ stack, refused }, netlist, attributes) {
 
 /**
  * What is missing, in lines; none where all is there.
- * @param {import("./nets_board.js").NetsBoard} board
- * @param {import("../../web/nets/index.js").Netlist | null} netlist
- * @param {import("../../web/nets/index.js").NetPoint[]} attributes the points by attributes
+ * @param {NetsBoard} board
+ * @param {Netlist | null} netlist
+ * @param {NetPoint[]} attributes the points by attributes
  * @returns {string[]}
  */
 export function missingLines(board, netlist, attributes) {
@@ -47,7 +58,7 @@ export function missingLines(board, netlist, attributes) {
 
 /**
  * Gerber and drill files that may be what is missing, since nothing says what they show.
- * @param {import("./nets_board.js").NetsBoard} board
+ * @param {NetsBoard} board
  * @param {import("../../web/board/index.js").BoardFile[]} others the files that are not recognised
  * @returns {string[]} a line, or none
  */

@@ -6,6 +6,7 @@ import { Call, Failure } from "./command.js";
 const INNER = /^in([1-9]\d?)$/;
 const BY_CALL = "--role";
 
+/** @param {string} role */
 function functionOf(role) {
   const found = INNER.exec(role);
   if (found) return inner(Number(found[1]));
@@ -35,8 +36,10 @@ export function rolesOf(words) {
 export function layersOf(files, areNamed, roles) {
   for (const name of roles.keys()) if (!files.some((file) => file.name === name)) throw new Failure(`--role: no file is called ${name}`);
   const { layers, others } = recogniseFiles(files.filter(({ name }) => !roles.has(name)), areNamed);
-  for (const file of files.filter(({ name }) => roles.has(name))) {
-    const layerFunction = roles.get(file.name), isHoles = /holes|plated/.test(layerFunction.name);
+  for (const file of files) {
+    const layerFunction = roles.get(file.name);
+    if (!layerFunction) continue;
+    const isHoles = /holes|plated/.test(layerFunction.name);
     layers.push(new Layer(file, kindOf(file.bytes) ?? (isHoles ? DRILL : GERBER), layerFunction, BY_CALL));
   }
   const taken = new Set();

@@ -13,6 +13,7 @@ import { readBytes } from "./files.js";
  * @returns {Map<string, number>}
  */
 export function limitsOf(path, words) {
+  /** @type {ReturnType<typeof readRules>} */
   const { limits, refusals } = path === null ? { limits: new Map(), refusals: [] } : readRules(utf8(readBytes(path)));
   if (refusals.length) throw new Failure(refusals.map((refusal) => `${path}: ${refusalText(refusal)}`).join("\n"));
   for (const rule of words) {
@@ -22,10 +23,16 @@ export function limitsOf(path, words) {
   return limits;
 }
 
-/** How many places break each rule, in a line; `unchecked` has those that are not checked on some side. */
+/**
+ * How many places break each rule, in a line; `unchecked` has those that are not checked on some side.
+ * @param {import("../../web/nets/index.js").Breach[]} breaches
+ * @param {Map<string, number>} limits
+ * @param {import("../../web/nets/index.js").Unchecked[]} unchecked
+ */
 export function rulesSummary(breaches, limits, unchecked) {
   return [...limits].map(([rule, limit]) => {
+    const { title = rule, isMost = false } = RULES.get(rule) ?? {};
     const count = breaches.filter((breach) => breach.rule === rule).length, isPartly = unchecked.some((other) => other.rule === rule);
-    return `${RULES.get(rule).title} of ${mm(limit)} mm: ${count ? `${count} ${RULES.get(rule).isMost ? "more" : "less"}` : isPartly ? "kept, as far as it is checked" : "kept"}`;
+    return `${title} of ${mm(limit)} mm: ${count ? `${count} ${isMost ? "more" : "less"}` : isPartly ? "kept, as far as it is checked" : "kept"}`;
   }).join("; ");
 }

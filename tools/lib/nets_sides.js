@@ -11,9 +11,8 @@ export { coversOf, neededBy, uncheckedOf, uncheckedWords } from "../../web/nets/
  * @returns {import("../../web/board/index.js").Box[]} one, or none
  */
 export function boxOfCovers(board) {
-  const boxes = coversInWindow(board.covers).map((layer) => board.askedAfter(layer).box()).filter((box) => box);
-  if (!boxes.length) return [];
-  const all = joined(boxes);
+  const all = joined(coversInWindow(board.covers).map((layer) => board.askedAfter(layer).box()));
+  if (!all) return [];
   if (!board.outlines.closed.length) return [all];
   const { left, low, right, high } = board.sides();
   const box = { left: Math.max(left, all.left), low: Math.max(low, all.low), right: Math.min(right, all.right), high: Math.min(high, all.high) };

@@ -13,11 +13,15 @@ import { readBytes } from "./files.js";
 /** How many refused lines of a netlist are told. */
 const MOST_TOLD = 20;
 
+/** @typedef {import("../../web/nets/index.js").Alignment} Alignment */
+/** @typedef {import("../../web/nets/index.js").Netlist & {path: string}} NamedNetlist */
+
 /** Points of nets, and where they come from. */
 export class Truth {
   /**
    * The netlist of a file.
    * @param {string} path
+   * @returns {NamedNetlist}
    * @throws {Failure} with each refused line
    */
   static netlist(path) {
@@ -31,13 +35,13 @@ export class Truth {
 
   /**
    * @param {import("./nets_board.js").NetsBoard} board
-   * @param {import("../../web/nets/index.js").Netlist & {path: string} | null} netlist
+   * @param {NamedNetlist | null} netlist
    */
   constructor(board, netlist) {
     this.board = board;
     this.netlist = netlist;
     this.isGiven = false;
-    /** @type {import("../../web/nets/index.js").Alignment | null} */
+    /** @type {Alignment | null} */
     this.alignment = null;
     /** @type {{x: number, y: number}[]} the shifts of the copies of a panel, if there are several */
     this.copies = [];
@@ -69,32 +73,45 @@ export class Truth {
    */
   align(given) {
     if (!this.netlist) return;
-    const netlist = this.onWhatIsThere(), centres = this.board.pads();
+    const netlist = this.onWhatIsThere(this.netlist), centres = this.board.pads();
     this.isGiven = given !== null;
-    this.alignment = given ? shifted(netlist, centres, { x: given[0], y: given[1] }) : alignmentOf(netlist, centres);
-    this.copies = copiesAt(netlist, centres, this.alignment, this.board.copies());
-    if (given || isEnough(this.alignment)) return;
-    throw new Failure(`${this.netlist.path}: nothing is compared, since under each shift, quarter turn and mirror, in inches and in `
-      + `mm, less than nine of ten points lie on centres of pads and holes; the best is ${this.alignmentWords(this.alignment)}; --shift X Y `
+    const alignment = given ? shifted(netlist, centres, { x: given[0], y: given[1] }) : alignmentOf(netlist, centres);
+    this.alignment = alignment;
+    this.copies = copiesAt(netlist, centres, alignment, this.board.copies());
+    if (given || isEnough(alignment)) return;
+    throw new Failure(`${netlist.path}: nothing is compared, since under each shift, quarter turn and mirror, in inches and in `
+      + `mm, less than nine of ten points lie on centres of pads and holes; the best is ${this.alignmentWords(this.netlist)}; --shift X Y `
       + "compares them in any case");
   }
 
   // The netlist without the points of copper that is not there: its pads are not either.
-  onWhatIsThere() {
-    const { netlist, board: { stack } } = this, copper = numbersOf(stack), layersOf = layerReader(netlist, copper);
+  /** @param {NamedNetlist} netlist */
+  onWhatIsThere(netlist) {
+    const { board: { stack } } = this, copper = numbersOf(stack), layersOf = layerReader(netlist, copper);
     return { ...netlist, points: netlist.points.filter((point) => layersOf(point).some((number) => copper.numbers.includes(number))) };
   }
 
-  alignmentWords(alignment) {
-    return alignmentWords(alignment, this.netlist, `${placeWords(alignment)} mm${this.isGiven ? ", as given" : ""}`);
+  // How the netlist lies on the board, which `align` finds.
+  aligned() {
+    if (!this.alignment) throw new Error("the netlist is asked for before it is aligned");
+    return this.alignment;
+  }
+
+  /** @param {NamedNetlist} netlist */
+  alignmentWords(netlist) {
+    const alignment = this.aligned();
+    return alignmentWords(alignment, netlist, `${placeWords(alignment)} mm${this.isGiven ? ", as given" : ""}`);
   }
 
   /** The points, those of a netlist where they lie on the board. */
   points() {
-    if (!this.netlist) return this.attributes;
-    const pointsAt = (alignment) => pointsOfNetlist(this.netlist, numbersOf(this.board.stack), alignment);
-    if (this.copies.length < 2) return pointsAt(this.alignment);
-    return this.copies.flatMap((copy) => pointsAt({ ...this.alignment, ...copy })
+    const { netlist } = this;
+    if (!netlist) return this.attributes;
+    const alignment = this.aligned();
+    /** @param {Alignment} at */
+    const pointsAt = (at) => pointsOfNetlist(netlist, numbersOf(this.board.stack), at);
+    if (this.copies.length < 2) return pointsAt(alignment);
+    return this.copies.flatMap((copy) => pointsAt({ ...alignment, ...copy })
       .map((point) => ({ ...point, net: point.net && copyName(point.net, copy.x, copy.y) })));
   }
 
@@ -110,6 +127,6 @@ export class Truth {
     const left = points.filter(({ layers }) => !layers.length).length;
     const unchecked = left ? `; ${counted(left, "point")} of missing copper not checked` : "";
     const copies = this.copies.length > 1 ? `; ${this.copies.length} copies of a panel` : "";
-    return `compared with ${basename(path)}: ${counted(points.length - left, "point")}${unchecked}, ${this.alignmentWords(this.alignment)}${copies}${skipped}`;
+    return `compared with ${basename(path)}: ${counted(points.length - left, "point")}${unchecked}, ${this.alignmentWords(this.netlist)}${copies}${skipped}`;
   }
 }

@@ -5,31 +5,13 @@ import { UNIT_WORDS } from "../../web/board/index.js";
 import { FINISH_NAMES, MASK_NAMES } from "../../web/materials/index.js";
 import { PROGRAM } from "./places.js";
 
-/**
- * An option of a command. Without `value` it is a switch.
- * @typedef {object} Option
- * @property {string} name as it is written: `--unit`
- * @property {string} [short] a letter for it: `-o`
- * @property {string[]} [old] earlier names, which are read still
- * @property {string} [key] what its value is called in the result; else its name without dashes
- * @property {string | string[]} [value] what `--help` calls its value, or its two values
- * @property {string[]} [choices] the values that it may have
- * @property {boolean} [isWhole] whether its values are whole numbers
- * @property {string} [unit] its values are lengths, in this unit where none stands after the number
- * @property {[number, number]} [range] the least and the greatest number that it takes; of a length in nm
- * @property {boolean} [isList] whether it may be given several times; its value is then a list
- * @property {*} [otherwise] its value where it is not given
- * @property {string} [help]
- */
-
 /** The dots an inch of a window where nothing is said of its pixels. */
 export const DPI = 1000;
 /** An inch in nm, and so the most dots an inch. */
 const INCH = 25_400_000;
 const LONGEST_PITCH = 100_000_000, METRE = 1_000_000_000;
 
-/** @type {Option[]} */
-const SHARED = [
+const SHARED = /** @type {const} */ ([
   { name: "--out", short: "-o", value: "PATH", help: "write there" },
   { name: "--replace", old: ["--force"], help: "replace what is there" },
   { name: "--json", help: "print JSON, for other programs, in place of lines" },
@@ -39,10 +21,9 @@ const SHARED = [
   { name: "--edits", value: "FILE", help: "lines of a script, which run on the layers" },
   { name: "--camplot", value: "PROGRAM", otherwise: PROGRAM,
     help: "the program that runs, in place of the one that is built or installed" },
-];
+]);
 
-/** @type {Option[]} */
-const OWN = [
+const OWN = /** @type {const} */ ([
   { name: "--page", value: "HTML", help: "the page without a board (camplot.html)" },
   { name: "--mask", value: "COLOUR", choices: MASK_NAMES, otherwise: MASK_NAMES[0], help: "the colour of the solder mask" },
   { name: "--finish", value: "METAL", choices: FINISH_NAMES, otherwise: FINISH_NAMES[0], help: "what bare copper is finished with" },
@@ -80,55 +61,67 @@ const OWN = [
     help: "between the outlines of two boards: a length, in mm unless it has a unit" },
   { name: "--rail", value: "LENGTH", unit: "mm", range: [1, METRE],
     help: "a rail around the boards of this width: a length, in mm unless it has a unit" },
-];
+]);
+
+/** @typedef {typeof SHARED[number] | typeof OWN[number]} Known an option that several tools may have */
 
 /**
  * The option of a converter's choice.
  * @param {import("../../web/convert/index.js").Choice} choice
- * @returns {Option}
+ * @returns {Calls.Option}
  */
 function optionOf({ option, old, value, form, values, isList, help }) {
   return { name: option, help, ...(value === undefined ? {} : { value }), ...(old ? { old } : {}),
-    ...(form === "one" ? { choices: values.map(([word]) => word) } : {}), ...(isList ? { isList } : {}) };
+    ...(form === "one" ? { choices: values?.map(([word]) => word) ?? [] } : {}), ...(isList ? { isList } : {}) };
 }
 
-/** @type {Map<string, Option>} */
+/** @type {Map<string, Calls.Option>} */
 const TABLE = new Map([...SHARED, ...OWN, ...CHOICES.gerber.map(optionOf), ...CHOICES.drill.map(optionOf)]
   .map((option) => [option.name, option]));
 
 /**
- * An option of the table, with what a tool adds to its help, and its value where it is not given.
+ * An option of the table.
  * @param {string} name
- * @param {string} [more] stands after its help
- * @param {*} [otherwise]
- * @returns {Option}
  */
-export function option(name, more = "", otherwise = undefined) {
+export function optionCalled(name) {
   const known = TABLE.get(name);
   if (!known) throw new Error(`no option ${name}`);
-  return { ...known, help: `${known.help}${more}`, ...(otherwise === undefined ? {} : { otherwise }) };
+  return known;
+}
+
+/**
+ * An option of the table, with what a tool adds to its help.
+ * @template {Known["name"]} N
+ * @param {N} name
+ * @param {string} [more] stands after its help
+ * @returns {Extract<Known, {name: N}>}
+ */
+export function option(name, more = "") {
+  const known = optionCalled(name);
+  return /** @type {Extract<Known, {name: N}>} */ ({ ...known, help: `${known.help}${more}` });
 }
 
 /**
  * The options of a converter, by the kind of file.
- * @param {"gerber" | "drill"} kind
+ * @template {"gerber" | "drill"} K
+ * @param {K} kind
  */
 export function choicesOf(kind) {
-  return CHOICES[kind].map(({ option: name }) => option(name));
+  return CHOICES[kind].map(({ option: name }) => /** @type {Calls.OfConverter[K]} */ (optionCalled(name)));
 }
 
 /**
  * The values of an option in words.
- * @param {Option} found
+ * @param {Calls.Option} found
  */
 export function valuesOf({ value, choices }) {
   if (choices) return [choices.join("|")];
-  return value === undefined ? [] : [value].flat();
+  return value === undefined ? [] : typeof value === "string" ? [value] : [...value];
 }
 
 /**
  * What an option's value is called in the result.
- * @param {Option} found
+ * @param {Calls.Option} found
  */
 export function keyOf({ name, key }) {
   return key ?? name.replace(/^-+/, "");

@@ -1,5 +1,6 @@
 // What a command prints. It goes to standard output, or into the file of --out.
 
+import { codeOf } from "./faults.js";
 import { STANDARD, checkTarget, reasonOf, writeFile, writtenFiles } from "./files.js";
 
 /** The exit status where standard output does not take what is printed. */
@@ -42,8 +43,9 @@ export function complain(text) {
 }
 
 // Standard output takes no more: who reads it stopped early, which is no fault, or the device is full.
+/** @param {Error} fault */
 function stopped(fault) {
-  if (fault.code === "EPIPE" || state.fault) return;
+  if (codeOf(fault) === "EPIPE" || state.fault) return;
   state.fault = fault;
   const written = writtenFiles().map((path) => `${path} was written`).join(", ");
   complain(`${state.tool}: standard output cannot be written: ${reasonOf(fault)}${written && `; ${written}`}`);
@@ -60,14 +62,17 @@ export function beginOutput(tool) {
   process.stderr.on("error", () => {});
 }
 
-/** Leaves the exit status, but where what was printed is lost. */
+/**
+ * Leaves the exit status, but where what was printed is lost.
+ * @param {number} status
+ */
 export function leave(status) {
   process.exitCode = state.fault ? UNPRINTED : status;
 }
 
 /**
  * What a run prints goes into the file of --out, whole or not at all; without it, or with `-`, to standard output.
- * @param {import("./calls.js").Values} options
+ * @param {{out: string | null, replace: boolean, operands: string[]}} options
  * @param {() => T | Promise<T>} run
  * @returns {Promise<T>}
  * @template T

@@ -3,6 +3,7 @@
 import { readFileSync } from "node:fs";
 import { withContents } from "../../web/building/index.js";
 import { Failure } from "./command.js";
+import { messageOf } from "./faults.js";
 
 // Where the page's pictures of the board stand: before all else in its left panel. Its policy allows no picture but those.
 const PANEL = /(<nav id="left"[^>]*>\n?)/, POLICY = "default-src 'none'; ";
@@ -16,6 +17,7 @@ const PANEL = /(<nav id="left"[^>]*>\n?)/, POLICY = "default-src 'none'; ";
 const imageOf = ({ title, png }) => `<p><img width="100%" alt="${title}" title="${title}" src="data:image/png;base64,${png.toString("base64")}"></p>`;
 
 // The page with pictures, if it has a left panel.
+/** @param {string} page @param {Shown[]} pictures */
 function withPictures(page, pictures) {
   if (!pictures.length || !PANEL.test(page)) return page;
   const section = `<section id="sides"><details open><summary>As it will be made</summary>\n${pictures.map(imageOf).join("\n")}\n</details></section>\n`;
@@ -35,6 +37,6 @@ export function pageOf(page, contents, pictures) {
   try {
     return withContents(withPictures(text, pictures), contents);
   } catch (fault) {
-    throw new Failure(`${page}: ${fault.message}; --page names the one without a board, camplot.html`);
+    throw new Failure(`${page}: ${messageOf(fault)}; --page names the one without a board, camplot.html`);
   }
 }

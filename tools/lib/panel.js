@@ -1,6 +1,5 @@
 // tools/panel: several copies of a board, layer by layer, to be made as one.
 
-import { readFileSync } from "node:fs";
 import { basename, dirname, join } from "node:path";
 import { dropped, droppedWords } from "../../web/attributes/index.js";
 import { joined, recogniseFiles } from "../../web/board/index.js";
@@ -8,7 +7,7 @@ import { counted } from "../../web/nets/index.js";
 import { loadedBy } from "./asked.js";
 import { Call, DONE, Failure, perform, say } from "./command.js";
 import { pathsBox } from "./contours.js";
-import { inputs } from "./inputs.js";
+import { bytesOf, inputs } from "./inputs.js";
 import { neededModule } from "./module.js";
 import { option } from "./options.js";
 import { sayJson } from "./output.js";
@@ -51,40 +50,61 @@ cannot be written.`,
     option("--replace"), option("--json"), option("--camplot")],
 };
 
+/** @typedef {Calls.Asked<typeof COMMAND>} Options */
+/** @typedef {import("./panel_layers.js").Boards} Boards */
+/** @typedef {import("./asked_layer.js").AskedLayer} AskedLayer */
+
+/**
+ * A layer of the board, ready to be repeated, and how many repeats of its own were written out.
+ * @typedef {{layer: import("../../web/board/index.js").Layer, bytes: Uint8Array, board: AskedLayer, repeats: number}} Ready
+ */
+
+/**
+ * A layer of the panel, how many items of a board it has, how many pixels were compared, and what was left out.
+ * @typedef {{name: string, text: Uint8Array, items: number, repeats: number, pixels: number, lost: string[], loaded: string}} Made
+ */
+
+/** @param {Board.Box} box */
 const sideOf = ({ left, low, right, high }) => ({ x: right - left, y: high - low });
+/** @param {number} nm */
 const shown = (nm) => String(Number(mmOf(nm)));
 
 // The layers of the board, each ready to be repeated, and the files that are none.
+/** @param {string[]} operands */
 function boardOf(operands) {
   const { files, areNamed, folder, notes } = inputs(operands), { layers, others } = recogniseFiles(files, areNamed);
   if (!layers.length) throw new Failure(`no layer is recognised among ${files.length} files of ${operands[0]}`);
   const names = layers.map(({ file }) => file.name), twice = names.find((name, at) => names.indexOf(name) < at);
   if (twice !== undefined) throw new Failure(`two of the files are called ${twice}, and a panel has one of each name`);
   const made = layers.map((layer) => {
-    const bytes = readFileSync(layer.file.path), { layer: board, repeats } = boardLayer(layer.kind, bytes, layer.file.name);
+    const bytes = bytesOf(layer.file), { layer: board, repeats } = boardLayer(layer.kind, bytes, layer.file.name);
     return { layer, bytes, board, repeats };
   });
   return { layers: made, folder: join(dirname(folder), "panel"),
     notes: [...others.map(({ name }) => `left out, since it is not recognised as a layer: ${name}`), ...notes] };
 }
 
+/** @param {Ready} layer */
 const isOutline = ({ layer }) => layer.layerFunction.name === "outline";
 
 // The box of the outline's paths, else of all that is painted.
+/** @param {Ready[]} layers */
 function boardBox(layers) {
   const outline = joined(layers.filter(isOutline).map(({ board }) => pathsBox([...board.items()])));
   return { outline, box: outline ?? joined(layers.map(({ board }) => board.box())) };
 }
 
+/** @param {Options} options @param {Board.Box | null} outline */
 function stepOf({ step, spacing, columns, rows }, outline) {
   if (step !== null) return { x: step[0], y: step[1] };
-  if (columns * rows === 1) return { x: 0, y: 0 };
+  if (columns * rows === 1 || spacing === null) return { x: 0, y: 0 };
   if (!outline) throw new Failure("--spacing is between outlines, and no layer of an outline is among the files: give --step X Y");
   const { x, y } = sideOf(outline);
   return { x: x + spacing, y: y + spacing };
 }
 
 // Boards that reach into one another are no panel.
+/** @param {Boards} boards @param {Board.Box | null} outline */
 function checkApart({ columns, rows, step }, outline) {
   if (!outline) return;
   const { x, y } = sideOf(outline);
@@ -94,6 +114,7 @@ function checkApart({ columns, rows, step }, outline) {
   }
 }
 
+/** @param {Options} options */
 function checkCall({ columns, rows, step, spacing, rail }) {
   if (columns * rows === 1 && rail === null) throw new Call("a panel of one board: give --columns or --rows");
   if (columns * rows > MOST_BOARDS) throw new Call(`${columns} x ${rows} boards: a panel has at most ${MOST_BOARDS}`);
@@ -105,12 +126,20 @@ function checkCall({ columns, rows, step, spacing, rail }) {
 }
 
 // The box of the panel, and the frame of its rail, whose inner edge it is.
+/** @param {Board.Box} box @param {Boards} boards @param {number | null} rail */
 function frameOf(box, { columns, rows, step }, rail) {
   const { left, low, right, high } = box, wide = rail ?? 0;
   return { left: left - wide, low: low - wide, right: right + (columns - 1) * step.x + wide, high: high + (rows - 1) * step.y + wide };
 }
 
 // A layer of the panel, which was compared.
+/**
+ * @param {Ready} layer
+ * @param {Boards} boards
+ * @param {Board.Box | null} frame
+ * @param {{pitch: number, camplot: string}} how
+ * @returns {Made}
+ */
 function madeLayer({ layer, bytes, board, repeats }, boards, frame, { pitch, camplot }) {
   const { name } = layer.file, { layer: panel, text } = panelLayer(layer.kind, board, bytes, name, boards, frame);
   const { isRefused, told } = loadedBy(camplot, layer.kind, text);
@@ -124,12 +153,14 @@ function madeLayer({ layer, bytes, board, repeats }, boards, frame, { pitch, cam
   return { name, text, items: board.count, repeats, pixels, lost, loaded: told };
 }
 
+/** @param {Made} made @param {number} count */
 function tellLayer({ name, items, repeats, pixels, lost, loaded }, count) {
   const own = repeats ? `; ${counted(repeats, "repeat")} of its own written out` : "";
   say(`${name}: ${counted(items, "item")} for each board${own}; ${loaded}; ${count} boards as the one, in ${pixels} pixels${
     lost.length ? `; left out: ${lost.join(", ")}` : ""}`);
 }
 
+/** @param {Made[]} made @param {Options} options @param {string} folder */
 function writeLayers(made, options, folder) {
   const room = new Room(options.out ?? folder, options.replace);
   room.series.plan(made.map(({ name }) => basename(name)));
@@ -138,10 +169,12 @@ function writeLayers(made, options, folder) {
 }
 
 // A file for the rail, where the board has no outline.
+/** @param {Board.Box} frame @returns {Made} */
 function railFile(frame) {
   return { name: RAIL_FILE, text: railLayer(frame, RAIL_FILE).text(), items: 0, repeats: 0, pixels: 0, lost: [], loaded: "the rail alone" };
 }
 
+/** @param {Options} options */
 function run(options) {
   checkCall(options);
   const pitch = askedPitch(options, COARSE);

@@ -6,6 +6,7 @@ import { Failure } from "./command.js";
 import { shiftsOf } from "./panel_layers.js";
 
 /** @typedef {import("./asked_layer.js").AskedLayer} AskedLayer */
+/** @typedef {import("./panel_layers.js").Boards} Boards */
 /** @typedef {import("../../web/board/index.js").PlotWindow} PlotWindow */
 
 /**
@@ -21,6 +22,7 @@ function plotted(layer, window, { dx, dy }) {
 }
 
 // The window around a board that reaches to the next ones, so that those of all boards cover the panel.
+/** @param {Board.Box} box @param {Boards} boards @param {number} pitch */
 function boardWindow(box, { columns, rows, step }, pitch) {
   const reached = { left: box.left, low: box.low, right: columns > 1 ? Math.max(box.right, box.left + step.x) : box.right,
     high: rows > 1 ? Math.max(box.high, box.low + step.y) : box.high };
@@ -28,8 +30,10 @@ function boardWindow(box, { columns, rows, step }, pitch) {
 }
 
 // The boards, by how many columns and rows they stand away, whose items may lie in the window of one.
+/** @param {Board.Box} box @param {PlotWindow} window @param {Boards} boards */
 function neighbours(box, window, { columns, rows, step }) {
   const right = window.x + window.width * window.pitch, high = window.y + window.height * window.pitch;
+  /** @param {number} low @param {number} top @param {number} start @param {number} end @param {number} by @param {number} count */
   const reach = (low, top, start, end, by, count) => Array.from({ length: 2 * count - 1 }, (_, at) => at - count + 1)
     .filter((at) => top + at * by >= start && low + at * by <= end);
   const across = reach(box.left, box.right, window.x, right, step.x, columns);
@@ -37,11 +41,19 @@ function neighbours(box, window, { columns, rows, step }) {
   return across.flatMap((column) => up.map((row) => ({ column, row })));
 }
 
+/** @param {number} byte */
 function bitsOf(byte) {
   let count = 0;
   for (let rest = byte; rest; rest &= rest - 1) count++;
   return count;
 }
+
+/**
+ * A byte of a picture, at a place in it: pictures of one window have equally many.
+ * @param {Uint8Array} bits
+ * @param {number} byte
+ */
+const byteAt = (bits, byte) => /** @type {number} */ (bits[byte]);
 
 /** A board that reaches into more others than these is no board of a panel. */
 const MOST_NEAR = 24;
@@ -51,7 +63,7 @@ const MOST_NEAR = 24;
  * @param {AskedLayer} panel
  * @param {AskedLayer} board
  * @param {AskedLayer | null} rail what else the panel has
- * @param {import("./panel_layers.js").Boards} boards
+ * @param {Boards} boards
  * @param {number} pitch
  * @returns {{pixels: number, differing: number}} how many were compared
  * @throws {Failure} where the boards lie over one another
@@ -68,14 +80,17 @@ export function comparePanel(panel, board, rail, boards, pitch) {
     bits: plotted(board, window, { dx: -column * step.x, dy: -row * step.y }) }));
   let differing = 0;
   shiftsOf(boards).forEach((shift, at) => {
-    const [column, row] = [Math.floor(at / rows), at % rows], found = plotted(panel, window, shift);
+    const column = Math.floor(at / rows), row = at % rows, found = plotted(panel, window, shift);
     const wanted = rail ? plotted(rail, window, shift) : new Uint8Array(found.length);
     for (const other of near) {
-      const [c, r] = [column + other.column, row + other.row];
+      const c = column + other.column, r = row + other.row;
       if (c < 0 || r < 0 || c >= columns || r >= rows) continue;
-      for (let byte = 0; byte < wanted.length; byte++) wanted[byte] |= other.bits[byte];
+      for (let byte = 0; byte < wanted.length; byte++) wanted[byte] |= byteAt(other.bits, byte);
     }
-    for (let byte = 0; byte < wanted.length; byte++) if (wanted[byte] !== found[byte]) differing += bitsOf(wanted[byte] ^ found[byte]);
+    for (let byte = 0; byte < wanted.length; byte++) {
+      const differs = byteAt(wanted, byte) ^ byteAt(found, byte);
+      if (differs) differing += bitsOf(differs);
+    }
   });
   return { pixels: columns * rows * window.width * window.height, differing };
 }

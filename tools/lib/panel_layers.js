@@ -38,6 +38,7 @@ export function mmOf(nm) {
 }
 
 // A layer with a line applied, which is accepted or the panel is not made.
+/** @param {AskedLayer} layer @param {string} line @param {string} what */
 function apply(layer, line, what) {
   if (layer.run(line)) return;
   const reply = new Reply(1, line, latin1(layer.station.reply).trimEnd().split(" "));
@@ -45,15 +46,11 @@ function apply(layer, line, what) {
 }
 
 // No repeat stands in another one: those of the layer are written out, copy by copy, in their order.
+/** @param {AskedLayer} layer @param {string} name */
 function withoutRepeats(layer, name) {
-  const lines = layer.ask("items", `0 ${layer.count}`), repeats = [];
-  for (let at = 0, place = 0; at < lines.length; place++) {
-    const words = lines[at++], objects = [];
-    while (lines[at]?.startsWith(" ")) objects.push(lines[at++].trimStart());
-    if (words.startsWith("repeat ")) repeats.push({ place, words, objects });
-  }
+  const repeats = [...layer.itemsWithObjects()].filter(({ words }) => words.startsWith("repeat "));
   for (const { place, words, objects } of repeats.reverse()) {
-    const [columns, rows, x, y] = words.split(" ").slice(1).map(Number), what = `${name}: the repeat at place ${place} is written out`;
+    const [columns = 0, rows = 0, x = 0, y = 0] = words.split(" ").slice(1).map(Number), what = `${name}: the repeat at place ${place} is written out`;
     apply(layer, `delete it ${place}`, what);
     const copies = shiftsOf({ columns, rows, step: { x, y } }).flatMap(({ dx, dy }) => objects.map((object) => shifted(object, dx, dy)));
     for (const [at, copy] of copies.entries()) apply(layer, `insert it ${place + at} ${copy}`, what);
@@ -62,11 +59,13 @@ function withoutRepeats(layer, name) {
 }
 
 // The attributes of the file in comments, as KiCad can write them: `G04 #@! TF.FileFunction,Copper,L1,Top*`.
+/** @param {string} text @returns {{key: string, fields: string | undefined}[]} */
 function inComments(text) {
-  return [...text.matchAll(/^(?:G04 ?|;) ?#@! TF(\.[^,*\r\n]+)(?:,([^*\r\n]*))?/gm)].map(([, key, fields]) => ({ key, fields }));
+  return [...text.matchAll(/^(?:G04 ?|;) ?#@! TF(\.[^,*\r\n]+)(?:,([^*\r\n]*))?/gm)].map(([, key = "", fields]) => ({ key, fields }));
 }
 
 // What the file says of itself, as it holds for the panel.
+/** @param {AskedLayer} layer @param {string} text */
 function withAttributes(layer, text) {
   const known = new Set(layer.ask("attributes").map((line) => line.split(",")[0]));
   for (const { key, fields } of inComments(text)) if (!known.has(key)) layer.run(`setattr it ${key} ${fields ?? ""}`);
@@ -78,11 +77,12 @@ function withAttributes(layer, text) {
 }
 
 // The place of the first line after the dictionary, and the greatest number in it.
+/** @param {string[]} lines */
 function dictionaryOf(lines) {
   let at = lines.indexOf("G75*") + 1, most = 9;
-  for (; /^%A[MDB]/.test(lines[at] ?? ""); at++) {
-    most = Math.max(most, Number(/^%A(?:DD|BD)(\d+)/.exec(lines[at])?.[1] ?? 0));
-    const end = lines[at].startsWith("%AM") ? "%" : lines[at].startsWith("%AB") ? "%AB*%" : null;
+  for (let line = lines[at] ?? ""; /^%A[MDB]/.test(line); line = lines[++at] ?? "") {
+    most = Math.max(most, Number(/^%A(?:DD|BD)(\d+)/.exec(line)?.[1] ?? 0));
+    const end = line.startsWith("%AM") ? "%" : line.startsWith("%AB") ? "%AB*%" : null;
     if (end !== null) at = lines.indexOf(end, at);
   }
   return { end: at, most };
@@ -93,6 +93,7 @@ const TOO_LARGE = new Map([[23, "the panel would reach 1 m or more from (0, 0): 
   [25, "all boards would have more than 4,000,000 objects: fewer boards"]]);
 
 // A layer of the panel, or why it is none.
+/** @param {"gerber" | "drill"} kind @param {Uint8Array} bytes @param {string} name */
 function loaded(kind, bytes, name) {
   const layer = new AskedLayer(kind, bytes);
   if (layer.isLoaded) return layer;
@@ -101,9 +102,10 @@ function loaded(kind, bytes, name) {
 }
 
 // The four sides of a frame, inserted after all other items.
+/** @param {AskedLayer} panel @param {number} pen @param {Box} frame @param {string} name */
 function drawFrame(panel, pen, { left, low, right, high }, name) {
-  const corners = [[left, low], [right, low], [right, high], [left, high], [left, low]];
-  const draws = corners.slice(1).map((corner, at) => `draw ${pen} ${[...corners[at], ...corner].join(" ")} r0 dark`);
+  const sides = [[left, low, right, low], [right, low, right, high], [right, high, left, high], [left, high, left, low]];
+  const draws = sides.map((side) => `draw ${pen} ${side.join(" ")} r0 dark`);
   for (const [at, words] of draws.entries()) apply(panel, `insert it ${panel.count + at} ${words}`, `${name}: the rail`);
 }
 
@@ -135,9 +137,11 @@ export function railLayer(frame, name) {
   return gerberOf(loaded(GERBER, latin1Bytes(empty.join("\n")), name), name, none, frame);
 }
 
+/** @param {string} text */
 const nmOf = (text) => Math.round(Number(text) * MILLION);
 
 // A line of a drill file for a board that stands so far from the first.
+/** @param {string} line @param {{dx: number, dy: number}} shift */
 function movedLine(line, { dx, dy }) {
   return line.replace(/X(-?[\d.]+)Y(-?[\d.]+)/, (_, x, y) => `X${mmOf(nmOf(x) + dx)}Y${mmOf(nmOf(y) + dy)}`);
 }
@@ -153,15 +157,17 @@ function drillOf(layer, source, name, boards) {
   const shifts = shiftsOf(boards), count = layer.count * shifts.length;
   if (count > MOST_ITEMS) throw new Failure(`${name}: ${count} holes are more than the ${MOST_ITEMS} that a layer may have: fewer boards`);
   const lines = latin1(layer.text()).trimEnd().split("\n"), start = lines.indexOf("G05", lines.indexOf("%")) + 1;
+  /** @param {{key: string, fields: string | undefined}} found */
   const attributeOf = ({ key, fields }) => (fields === undefined ? key : `${key},${key === ".Part" ? "Array" : fields}`);
   const said = inComments(source).map((found) => `; #@! TF${attributeOf(found)}`);
-  const body = [];
-  for (let at = start; at < lines.length - 1;) {
-    const first = at++;
-    while (at < lines.length - 1 && !/^T\d/.test(lines[at])) at++;
-    body.push(lines[first]);
-    for (const shift of shifts) for (const line of lines.slice(first + 1, at)) body.push(movedLine(line, shift));
+  /** @type {{tool: string, holes: string[]}[]} */
+  const tools = [];
+  for (const line of lines.slice(start, -1)) {
+    const last = tools.at(-1);
+    if (!last || /^T\d/.test(line)) tools.push({ tool: line, holes: [] });
+    else last.holes.push(line);
   }
+  const body = tools.flatMap(({ tool, holes }) => [tool, ...shifts.flatMap((shift) => holes.map((line) => movedLine(line, shift)))]);
   return latin1Bytes([lines[0], ...said, ...lines.slice(1, start), ...body, "M30", ""].join("\n"));
 }
 

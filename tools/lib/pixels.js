@@ -6,7 +6,7 @@ import { DPI } from "./options.js";
 
 /**
  * The pitch that a call asks for, in nm.
- * @param {import("./calls.js").Values} options
+ * @param {{dpi: number | null, pitch: number | null}} options
  * @param {number} otherwise the pitch where it asks for none
  */
 export function askedPitch({ dpi, pitch }, otherwise = pitchOf(DPI)) {
@@ -17,7 +17,7 @@ export function askedPitch({ dpi, pitch }, otherwise = pitchOf(DPI)) {
 /**
  * That a window has a coarser pitch than was asked for, in words; null where it has not.
  * @param {import("../../web/board/index.js").PlotWindow} window
- * @param {import("./calls.js").Values} options
+ * @param {{dpi: number | null}} options
  * @param {number} pitch what was asked for, in nm
  */
 export function coarser(window, { dpi }, pitch) {

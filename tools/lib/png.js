@@ -8,6 +8,7 @@ const INDEXED = 3, WITH_ALPHA = 6;
 /** Nanometres in a metre, and the unit of it. */
 const METRE = 1e9, PER_METRE = 1;
 
+/** @param {string} kind @param {Uint8Array} data */
 function chunk(kind, data) {
   const body = Buffer.concat([Buffer.from(kind, "latin1"), data]), ends = Buffer.alloc(8);
   ends.writeUInt32BE(data.length, 0);
@@ -16,6 +17,7 @@ function chunk(kind, data) {
 }
 
 // A file of rows, each after the number of its filter, with what stands before them.
+/** @param {{width: number, height: number, depth: number, kind: number}} form @param {Buffer[]} before @param {Uint8Array} rows */
 function fileOf({ width, height, depth, kind }, before, rows) {
   const head = Buffer.alloc(13);
   head.writeUInt32BE(width, 0);
@@ -25,12 +27,14 @@ function fileOf({ width, height, depth, kind }, before, rows) {
 }
 
 // Rows of whole bytes with a filter that changes nothing before each.
+/** @param {Uint8Array} pixels @param {number} bytes @param {number} height */
 function unfiltered(pixels, bytes, height) {
   const rows = Buffer.alloc((bytes + 1) * height);
   for (let row = 0; row < height; row++) rows.set(pixels.subarray(row * bytes, (row + 1) * bytes), row * (bytes + 1) + 1);
   return rows;
 }
 
+/** @param {string[]} colours */
 const paletteOf = (colours) => chunk("PLTE", Buffer.from(colours.map((colour) => colour.slice(1)).join(""), "hex"));
 
 /**

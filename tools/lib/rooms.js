@@ -10,18 +10,40 @@ import { Series } from "./series.js";
 /** The list of the files that the tool left, with their checksums. */
 export const LIST = ".left_by_board.json";
 
+/** @param {string} path */
 function checksum(path) {
   return createHash("sha256").update(readFileSync(path)).digest("hex");
 }
 
+/** @param {string} path */
 function isFile(path) {
   return existsSync(path) && statSync(path).isFile();
 }
 
 // Which file is at a path, and as it was written when.
+/** @param {string} path */
 function markOf(path) {
   const found = statSync(path, { bigint: true, throwIfNoEntry: false });
   return found ? `${found.ino} ${found.mtimeNs}` : "";
+}
+
+/**
+ * The checksums of a list that an earlier run left, by the names of files; of none in another folder.
+ * @param {string} text
+ * @returns {Map<string, string>}
+ * @throws {SyntaxError} where it is no such list
+ */
+function sumsOf(text) {
+  /** @type {unknown} */
+  const found = JSON.parse(text);
+  if (found === null || typeof found !== "object" || Array.isArray(found)) throw new SyntaxError("no list");
+  /** @type {Map<string, string>} */
+  const sums = new Map();
+  for (const [name, sum] of Object.entries(found)) {
+    if (typeof sum !== "string") throw new SyntaxError(`no checksum of ${name}`);
+    if (!name.split(/[\\/]/).includes("..")) sums.set(name, sum);
+  }
+  return sums;
 }
 
 /**
@@ -56,9 +78,7 @@ export class Room {
     const path = join(this.folder, LIST);
     if (!isFile(path)) return new Map();
     try {
-      const found = JSON.parse(readFileSync(path, "utf8"));
-      if (found === null || typeof found !== "object" || Array.isArray(found)) throw new SyntaxError("no list");
-      return new Map(Object.entries(found).filter(([name]) => !name.split(/[\\/]/).includes("..")));
+      return sumsOf(readFileSync(path, "utf8"));
     } catch (fault) {
       if (!(fault instanceof SyntaxError)) throw fault;
       throw new Failure(`${path} is not a list of an earlier run`);
@@ -103,15 +123,6 @@ export class Room {
   }
 
   /**
-   * Copies a file into the room.
-   * @param {string | Buffer} source
-   * @param {string} name
-   */
-  copy(source, name) {
-    this.write(name, readFileSync(source));
-  }
-
-  /**
    * Runs what writes files of these names, and notes those that it wrote, also where it fails.
    * @template T
    * @param {string[]} names
@@ -119,11 +130,11 @@ export class Room {
    * @returns {T}
    */
   watch(names, act) {
-    const paths = names.map((name) => this.path(name)), marks = paths.map(markOf);
+    const paths = names.map((name) => ({ name, path: this.path(name) })), marks = paths.map(({ name, path }) => ({ name, path, mark: markOf(path) }));
     try {
       return act();
     } finally {
-      names.forEach((name, at) => markOf(paths[at]) !== marks[at] && this.series.done(name));
+      for (const { name, path, mark } of marks) if (markOf(path) !== mark) this.series.done(name);
     }
   }
 
@@ -136,6 +147,7 @@ export class Room {
    */
   fill(act) {
     return this.series.during(() => {
+      /** @type {T} */
       let result;
       try {
         result = act();
@@ -160,11 +172,9 @@ export class Room {
 
   // What an earlier run left and this one did not replace is as it was then.
   writeList() {
-    const sums = {}, isThere = (name) => isFile(join(this.folder, name)), { written } = this.series;
-    for (const name of [...new Set([...this.earlier.keys(), ...written])].filter(isThere).sort()) {
-      sums[name] = written.has(name) ? checksum(join(this.folder, name)) : this.earlier.get(name);
-    }
-    this.put(join(this.folder, LIST), `${JSON.stringify(sums, null, 1)}\n`);
+    const { written } = this.series, names = [...new Set([...this.earlier.keys(), ...written])].filter((name) => isFile(join(this.folder, name)));
+    const sums = names.sort().map((name) => [name, written.has(name) ? checksum(join(this.folder, name)) : this.earlier.get(name)]);
+    this.put(join(this.folder, LIST), `${JSON.stringify(Object.fromEntries(sums), null, 1)}\n`);
   }
 
   // (The run has failed, which is what is told.)

@@ -42,6 +42,7 @@ export function checkProgram(program) {
   if (!canRun(program)) throw new Failure(`${program} does not exist: ${remedy("./demo builds it")}, and --camplot names another`);
 }
 
+/** @param {string} program @param {string} folder @param {string} path */
 function outputOf(program, folder, path) {
   const done = spawnSync(resolve(program), [resolve(path)], { cwd: folder, encoding: "latin1", maxBuffer: MOST_OUTPUT });
   if (done.status === 0 || done.status === 1) return done.stdout;
@@ -72,6 +73,7 @@ export function runLines(program, folder, lines, script = null) {
   }
 }
 
+/** @type {ReturnType<typeof meaningsOf> | null} */
 let known = null;
 
 /** The refusals' meanings; none where the page that explains them is not there. */

@@ -50,12 +50,14 @@ used; 3: standard output cannot be written.`,
   ],
 };
 
+/** @param {Calls.Asked<typeof COMMAND>} options */
 function run(options) {
-  const { nearest, repeat, unit, arcs, zeros } = options, format = chosenDigits(options.format) ?? undefined;
+  const { nearest, repeat, unit, arcs, zeros } = options, format = chosenDigits(options.format);
   if (zeros !== null && !format) throw new Call(`--zeros ${zeros}: it needs --format, as --format 2.4`);
+  const said = { nearest, repeat, ...unit && { unit }, ...arcs && { arcs }, ...format && { format }, ...zeros && { zeros } };
+  /** @type {import("./converting.js").Converter["convert"]} */
   const convert = (bytes) => {
-    const made = convertGerber(bytes, { nearest, repeat, unit: unit ?? undefined, arcs: arcs ?? undefined, format,
-      zeros: zeros ?? undefined });
+    const made = convertGerber(bytes, said);
     const { changes, refusals, operations } = made;
     if (refusals.length) return { bytes: null, refusals, changed: [], told: [] };
     const changed = toldChanges(changes), { count, flashes, draws } = operations;
@@ -63,7 +65,7 @@ function run(options) {
       `operations: ${count} read and written, ${flashes} flashes and ${draws} draws`];
     return { bytes: made.bytes, refusals, values: { changes, operations }, changed, told };
   };
-  return convertFiles(TOOL, options, { kind: "gerber", outOf: (file) => `${file}.gbr`, convert });
+  return convertFiles(TOOL, options, { kind: "gerber", outOf: (/** @type {string} */ file) => `${file}.gbr`, convert });
 }
 
 /**

@@ -43,19 +43,23 @@ used; 3: standard output cannot be written.`,
   ],
 };
 
+/** @param {string} word */
 function chosenTool(word) {
   const tool = toolOf(word, `--tool ${word}`);
   if (!tool) throw new Call(`--tool ${word}: it needs a number and a diameter, as 1=0.8mm`);
   return tool;
 }
 
+/** @param {string} file */
 function outOf(file) {
   return `${file.replace(/(?<=[^/])\.[^./]+$/, "")}.xnc`;
 }
 
+/** @param {Calls.Asked<typeof COMMAND>} options */
 function run(options) {
   const { unit, zeros, report } = options, digits = chosenDigits(options.format), tools = options.tool.map(chosenTool);
   const told = report === null ? null : { name: report, bytes: readBytes(report) };
+  /** @type {import("./converting.js").Converter["convert"]} */
   const convert = (bytes) => {
     const done = convertDrill(bytes, { unit, zeros, digits, tools, report: told });
     if (!done.bytes) return { bytes: null, refusals: done.refusals, changed: [], told: [] };

@@ -3,6 +3,7 @@
 import { accessSync, closeSync, constants, existsSync, fchmodSync, fchownSync, fstatSync, fsyncSync, linkSync, lstatSync, openSync,
   realpathSync, renameSync, rmSync, statSync, unlinkSync, writeFileSync } from "node:fs";
 import { basename, dirname, join } from "node:path";
+import { codeOf } from "./faults.js";
 
 /** What is after the name of a file in that of our own, which becomes it. The program has the same (docs/formats.md). */
 export const OWN = " (camplot, unfinished)";
@@ -12,13 +13,14 @@ const LONGEST = 255;
 const UNABLE = ["EACCES", "EBUSY", "EPERM", "EROFS", "ENOTSUP", "ENAMETOOLONG"];
 /** Where no file can have two names. */
 const UNLINKED = ["EMLINK", "ENOSYS", "ENOTSUP", "EPERM"];
-/** The paths of what a process has open, and the numbers of three of them. */
-const OPEN = /^\/(?:dev|proc\/self)\/(?:fd\/(\d+)|(stdin|stdout|stderr))$/, NUMBERS = { stdin: 0, stdout: 1, stderr: 2 };
+/** The paths of what a process has open, and three of them in the order of their numbers. */
+const OPEN = /^\/(?:dev|proc\/self)\/(?:fd\/(\d+)|(stdin|stdout|stderr))$/, NUMBERED = ["stdin", "stdout", "stderr"];
 
 // The number of an open file by such a path; null for any other path.
+/** @param {string} path */
 function openNumber(path) {
   const [, number, name] = OPEN.exec(path) ?? [];
-  return number ? Number(number) : name ? NUMBERS[name] : null;
+  return number ? Number(number) : name ? NUMBERED.indexOf(name) : null;
 }
 
 /**
@@ -31,6 +33,7 @@ export function isStream(path) {
 }
 
 // (An open file that is a plain one is written on where it stands.)
+/** @param {string} path @param {Uint8Array | string} content */
 function putInto(path, content) {
   const number = openNumber(path);
   if (number !== null && statSync(path).isFile()) writeFileSync(number, content);
@@ -38,6 +41,7 @@ function putInto(path, content) {
 }
 
 // A name that would be too long is cut.
+/** @param {string} target */
 function ownPath(target) {
   const letters = [...basename(target)];
   while (Buffer.byteLength(letters.join("")) + OWN.length > LONGEST) letters.pop();
@@ -45,16 +49,18 @@ function ownPath(target) {
 }
 
 // One that a killed run has left there is taken over.
+/** @param {string} own @param {number} mode */
 function opened(own, mode) {
   try {
     return openSync(own, "wx", mode);
   } catch (fault) {
-    if (fault.code !== "EEXIST") throw fault;
+    if (codeOf(fault) !== "EEXIST") throw fault;
     unlinkSync(own);
     return openSync(own, "wx", mode);
   }
 }
 
+/** @param {() => void} act */
 function isAllowed(act) {
   try {
     act();
@@ -65,6 +71,7 @@ function isAllowed(act) {
 }
 
 // The owner and the group of the file of before, as far as the system lets, and then its mode.
+/** @param {number} file @param {Node.Stats} before */
 function keepRights(file, { uid, gid, mode }) {
   const made = fstatSync(file);
   if (made.uid !== uid || made.gid !== gid) isAllowed(() => fchownSync(file, uid, gid)) || isAllowed(() => fchownSync(file, made.uid, gid));
@@ -72,16 +79,18 @@ function keepRights(file, { uid, gid, mode }) {
 }
 
 // A new file takes no path of another that was made in the meantime.
+/** @param {string} own @param {string} target @param {boolean} isNew */
 function take(own, target, isNew) {
   if (!isNew) return renameSync(own, target);
   try {
     return linkSync(own, target);
   } catch (fault) {
-    if (!UNLINKED.includes(fault.code) || existsSync(target)) throw fault;
+    if (!UNLINKED.includes(codeOf(fault) ?? "") || existsSync(target)) throw fault;
     return renameSync(own, target);
   }
 }
 
+/** @param {string} target @param {Uint8Array | string} content @param {Node.Stats | null} known @param {boolean} isNew */
 function putByOwn(target, content, known, isNew) {
   if (known) accessSync(target, constants.W_OK);
   const own = ownPath(target), file = opened(own, known ? known.mode & 0o777 : 0o666);
@@ -97,6 +106,7 @@ function putByOwn(target, content, known, isNew) {
 }
 
 // A file that was not there is not left cut.
+/** @param {string} path @param {Uint8Array | string} content @param {Node.Stats | null} known @param {boolean} isNew */
 function putStraight(path, content, known, isNew) {
   const file = openSync(path, isNew ? "wx" : "w");
   try {
@@ -109,6 +119,7 @@ function putStraight(path, content, known, isNew) {
   }
 }
 
+/** @param {string} path */
 const isLink = (path) => lstatSync(path, { throwIfNoEntry: false })?.isSymbolicLink() ?? false;
 
 /**
@@ -125,7 +136,7 @@ export function put(path, content, isNew = false) {
   try {
     return putByOwn(known ? realpathSync(path) : path, content, known, isNew);
   } catch (fault) {
-    if (!UNABLE.includes(fault.code)) throw fault;
+    if (!UNABLE.includes(codeOf(fault) ?? "")) throw fault;
     return putStraight(path, content, known, isNew);
   }
 }

@@ -10,15 +10,13 @@ import { COMMAND as fit } from "../lib/fit.js";
 import { rowsOf, wordsOf } from "../lib/help.js";
 import { COMMAND as items } from "../lib/items.js";
 import { COMMAND as nets } from "../lib/nets.js";
-import { option as shared, valuesOf } from "../lib/options.js";
+import { optionCalled as shared, valuesOf } from "../lib/options.js";
 import { COMMAND as panel } from "../lib/panel.js";
 import { COMMAND as toGerber } from "../lib/to_gerber.js";
 import { COMMAND as toXnc } from "../lib/to_xnc.js";
 import { REPOSITORY } from "./support.js";
 
-/** @typedef {import("../lib/help.js").Command} Command */
-
-/** @type {Command[]} */
+/** @type {Calls.Command[]} */
 export const COMMANDS = [board, compare, fit, items, nets, panel, toGerber, toXnc];
 const HEAD = "Made by tools/tests/packaged.js of the tables of the tools' options.";
 /** The options that every tool answers. */
@@ -26,7 +24,7 @@ const ALWAYS = ["--help", "--version"];
 
 /**
  * What a tool is called where it is installed.
- * @param {Command} command
+ * @param {Calls.Command} command
  */
 export const installedName = ({ tool }) => `camplot-${tool.replace("tools/", "").replaceAll("_", "-")}`;
 
@@ -94,7 +92,7 @@ function manRow({ words, help }) {
 
 /**
  * The parts of a man page that are made: how the tool is called, and its options.
- * @param {Command} command
+ * @param {Calls.Command} command
  */
 function manParts(command) {
   const { name, isMany } = command.operand;
@@ -102,7 +100,7 @@ function manParts(command) {
     OPTIONS: rowsOf(command).flatMap(manRow) };
 }
 
-/** @param {string} page @param {Command} command */
+/** @param {string} page @param {Calls.Command} command */
 function withParts(page, command) {
   let made = page;
   for (const [section, lines] of Object.entries(manParts(command))) {

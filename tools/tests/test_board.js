@@ -5,6 +5,7 @@ import { copyFileSync, cpSync, existsSync, mkdirSync, readFileSync, readdirSync,
 import { dirname, join } from "node:path";
 import { gunzipSync } from "node:zlib";
 import { scriptLines } from "../../web/board/replies.js";
+import { Room } from "../lib/rooms.js";
 import { runLines } from "../lib/station.js";
 import { part, suite, test } from "./harness.js";
 import { CASES, PROGRAM, REPOSITORY, needProgram, newRoom, runProgram, runTool } from "./support.js";
@@ -192,8 +193,8 @@ suite("plotted", () => {
   });
 
   test("the repository's boards", () => {
-    for (const [name, wanted] of [["blinker", ["holes", "top"]], ["kicad", ["bottom", "bottom-mask", "nonplated", "outline",
-      "plated", "top", "top-mask", "top-silk"]]]) {
+    for (const { name, wanted } of [{ name: "blinker", wanted: ["holes", "top"] }, { name: "kicad", wanted: ["bottom", "bottom-mask",
+      "nonplated", "outline", "plated", "top", "top-mask", "top-silk"] }]) {
       const out = join(newRoom(), name);
       board([join(REPOSITORY, "examples", name), "--out", out]);
       assert.deepEqual(pictures(out), wanted, name);
@@ -242,9 +243,22 @@ suite("left alone", () => {
     board([folder]);
     writeFileSync(list, "[1");
     includes(board([folder], 2), "is not a list of an earlier run");
+    writeFileSync(list, '{"top.pbm": 1}');
+    includes(board([folder], 2), "is not a list of an earlier run");
     writeFileSync(list, '{"../amp.dri": "0"}');
     board([folder, "--replace"]);
     assert.ok(existsSync(join(folder, "amp.dri")));
+  });
+
+  test("a file whose name each object of JavaScript has stays in the list of a run that fails", () => {
+    const folder = newRoom(), list = join(folder, ".left_by_board.json");
+    new Room(folder, false).fill(() => undefined);
+    const room = new Room(folder, true);
+    assert.throws(() => room.fill(() => {
+      for (const name of ["constructor", "__proto__"]) room.write(name, name);
+      throw new Error("it fails");
+    }), /it fails/);
+    assert.deepEqual(Object.keys(JSON.parse(readFileSync(list, "utf8"))).sort(), ["__proto__", "constructor"]);
   });
 
   test("a run that fails takes nothing away that the next one needs", () => {

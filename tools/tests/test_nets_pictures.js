@@ -17,7 +17,8 @@ const disc = (x, y, radius) => ({ line: [[x, y], [x, y]], radius });
 function drawnOf(strokes, rule, limit) {
   const nets = netsOf([runsOf(readPbm(paintedBy(strokes, WIDE)))]), checked = { nets, grid: GRID, holes: [], spans: [], outline: [] };
   const [{ from, to, measure, value, nets: own, layer }] = breachesOf(checked, new Map([[rule, limit]]));
-  const places = [from, ...to ? [to] : []].map((place) => ({ ...place, layer }));
+  /** @type {import("../lib/nets_drawn.js").Shown["places"]} */
+  const places = [{ ...from, layer }, ...to ? [{ ...to, layer }] : []];
   return { measure, value, places, own, drawn: new Drawn({ nets, grid: GRID }, { what: rule, places, nets: own, measure, value }) };
 }
 

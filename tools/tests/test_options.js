@@ -14,6 +14,7 @@ import { REPOSITORY, newRoom, runProgram } from "./support.js";
 const nameOf = ({ tool }) => tool.replace("tools/", "");
 const helps = () => COMMANDS.map((command) => runProgram(process.execPath, [join(REPOSITORY, command.tool), "--help"]).stdout);
 const commandOf = (name) => COMMANDS.find((command) => nameOf(command) === name);
+/** @returns {Record<string, unknown>} */
 const read = (name, ...words) => parsed(commandOf(name), words);
 
 suite("the table", () => {
