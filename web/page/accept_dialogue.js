@@ -12,9 +12,11 @@ export class AcceptDialogue {
     this.reason = element("input", { type: "text", id: "accept-reason", autocomplete: "off" });
     this.by = element("input", { type: "text", id: "accept-by", autocomplete: "off" });
     this.why = element("p", { className: "fault", role: "status" });
+    const leave = button("leave it", () => this.dialogue.close());
     const form = element("form", { onsubmit: (/** @type {Event} */ event) => this.answered(event) }, element("h2", { id: "accept-title" }, "Accept a finding"), this.what,
       field("reason", this.reason), field("name", this.by), this.why,
-      element("p", { className: "buttons" }, element("button", { type: "submit" }, "accept"), button("leave it", () => this.dialogue.close())));
+      element("p", { className: "buttons" }, element("button", { type: "submit" }, "accept"), leave));
+    /** @type {HTMLDialogElement} */
     this.dialogue = element("dialog", { id: "accept", "aria-labelledby": "accept-title" }, form);
     document.body.append(this.dialogue);
   }
@@ -22,7 +24,7 @@ export class AcceptDialogue {
   /** @param {import("../nets/index.js").Finding} finding @param {string} by who accepted the last one */
   ask(finding, by) {
     this.finding = finding;
-    this.what.textContent = finding.lines[0];
+    this.what.textContent = finding.lines[0] ?? "";
     this.reason.value = "";
     this.by.value = by;
     this.why.textContent = "";
@@ -33,7 +35,7 @@ export class AcceptDialogue {
   /** @param {Event} event */
   answered(event) {
     event.preventDefault();
-    const why = this.accept(this.finding, this.reason.value, this.by.value);
+    const why = this.finding && this.accept(this.finding, this.reason.value, this.by.value);
     this.why.textContent = why ?? "";
     if (why === null) this.dialogue.close();
   }

@@ -2,7 +2,7 @@
 // the others nothing is under way, and their stations wait. Which boards the browser has beside these, other windows know too.
 
 import { CLOSING_MS, Holding } from "./holding.js";
-import { Kept } from "./kept.js";
+import { Kept, LOST } from "./kept.js";
 import { firstState, isBlank, step, waitingOf } from "../machine/index.js";
 import { Store, faultWords, settled } from "./store.js";
 import { adopt, handOver, stolen, takeOver } from "./handing.js";
@@ -38,11 +38,11 @@ export class Boards {
   /** @param {string} journal @param {boolean} hasContents */
   async open(journal, hasContents) {
     const { platform } = this, name = journal ? `camplot boards ${journal}` : "camplot boards";
-    this.store = await Store.open(platform, name, () => this.lost());
+    const store = this.store = await Store.open(platform, name, () => this.lost());
     this.holding = new Holding(platform, name, { asked: (key) => handOver(this, key), stolen: (key) => stolen(this, key),
       heard: () => this.refresh() });
-    const older = this.store.base ? await bringOver(this.store, `camplot ${journal}`).catch((fault) => ({ left: 0, fault })) : { left: 0 };
-    if (this.store.base) await this.sweep();
+    const older = store.base ? await bringOver(store, `camplot ${journal}`).catch((/** @type {unknown} */ fault) => ({ left: 0, fault })) : { left: 0 };
+    if (store.base) await this.sweep();
     const taken = await this.takeFree(CLOSING_MS);
     this.list = taken.length ? taken : [await this.fresh(hasContents)];
     this.shown = this.list.reduce((one, other) => other.shown > one.shown ? other : one);
@@ -54,7 +54,7 @@ export class Boards {
   // The board that is shown has begun, unless a person chose another one meanwhile.
   begun() {
     this.park();
-    this.machine.await(this.shown.kept.keepLooks());
+    this.machine.await(this.board.kept.keepLooks());
     this.desk.changed();
     this.watch();
   }
@@ -68,10 +68,10 @@ export class Boards {
   }
 
   // What a person is told of the other boards when the page begins.
-  /** @param {{ left: number, fault?: Error }} older what became of those that pages of before had */
+  /** @param {{ left: number, fault?: unknown }} older what became of those that pages of before had */
   words({ left, fault }) {
     const held = this.others.filter(({ isHeld }) => isHeld).length, found = this.others.filter(({ isFound }) => isFound).length;
-    const are = (count) => count === 1 ? "is" : "are";
+    const are = (/** @type {number} */ count) => count === 1 ? "is" : "are";
     return [held ? `${plural(held, "board")} ${are(held)} open in another window: see 'boards'.` : "",
       found ? `${plural(found, "board")} ${are(found)} kept that no list had: see 'boards'.` : "",
       left ? "A window with the page as it was before an update is open: close it, and load this page again to have its boards." : "",
@@ -79,23 +79,37 @@ export class Boards {
       .filter((words) => words).join(" ");
   }
 
+  // What can be done once it is opened.
+  get there() {
+    const { store, holding } = this;
+    if (!store || !holding) throw new Error("the boards are not open yet");
+    return { store, holding };
+  }
+
+  // The board that is shown.
+  get board() {
+    if (!this.shown) throw new Error("no board is shown yet");
+    return this.shown;
+  }
+
   /** @param {Page.Listing} listing @returns {Page.Board} */
   boardOf(listing) {
     const { key, number, title, shown, hasContents } = listing;
-    /** @type {Page.Board} */
-    const board = { key, number, title, shown, hasContents, state: null };
-    board.kept = new Kept(this.store, board, listing, (event, kept) => this.hear(event, kept));
-    return board;
+    return this.withJournal({ key, number, title, shown, hasContents }, listing);
+  }
+
+  /** @param {Page.Titled} titled @param {Page.Listing | null} listing @returns {Page.Board} */
+  withJournal(titled, listing) {
+    const kept = new Kept(this.there.store, titled, listing, (event, its) => this.hear(event, its));
+    return Object.assign(titled, { state: null, kept });
   }
 
   // Another board, in which nothing was done.
   async fresh(hasContents = false) {
-    const key = this.platform.newName(), all = await this.store.list();
-    /** @type {Page.Board} */
-    const board = { key, number: 1 + Math.max(0, ...[...all, ...this.list].map(({ number }) => number)), title: null, shown: this.now(), hasContents,
-      state: null };
-    board.kept = new Kept(this.store, board, null, (event, kept) => this.hear(event, kept));
-    await this.holding.take(key);
+    const { store, holding } = this.there, key = this.platform.newName(), all = await store.list();
+    const number = 1 + Math.max(0, ...[...all, ...this.list].map((other) => other.number));
+    const board = this.withJournal({ key, number, title: null, shown: this.now(), hasContents }, null);
+    await holding.take(key);
     return board;
   }
 
@@ -106,17 +120,17 @@ export class Boards {
 
   // Forgets boards in which nothing is, and that no window has.
   async sweep() {
-    const { window } = this.platform;
-    for (const { key, isBlank: isEmpty, window: its } of await this.store.list()) {
-      if (!isEmpty || its === window || !await this.holding.take(key)) continue;
-      await this.store.attempt(async (stores) => {
-        const { lines, files } = stores, range = this.store.of(key);
+    const { window } = this.platform, { store, holding } = this.there;
+    for (const { key, isBlank: isEmpty, window: its } of await store.list()) {
+      if (!isEmpty || its === window || !await holding.take(key)) continue;
+      await store.attempt(async (stores) => {
+        const { lines, files } = stores, range = store.of(key);
         const counts = await Promise.all([settled(lines.count(range)), settled(files.count(range))]);
         if (counts.some((count) => count > 0)) return;
-        this.store.empty(stores, key);
+        store.empty(stores, key);
         stores.boards.delete(key);
       });
-      this.holding.letGo(key);
+      holding.letGo(key);
     }
   }
 
@@ -124,23 +138,23 @@ export class Boards {
   // was closed meanwhile.
   /** @param {number} patience */
   async takeFree(patience) {
-    const { isFresh, window } = this.platform, wanted = (await this.store.list()).filter((listing) => !listing.isFound
-      && (isFresh ? !listing.isBlank : listing.window === window));
-    const taken = await Promise.all(wanted.map(({ key }) => this.holding.take(key, patience)));
+    const { isFresh, window } = this.platform, { store, holding } = this.there;
+    const wanted = (await store.list()).filter((listing) => !listing.isFound && (isFresh ? !listing.isBlank : listing.window === window));
+    const taken = await Promise.all(wanted.map(({ key }) => holding.take(key, patience)));
     const keys = new Set(wanted.filter((_, at) => taken[at]).map(({ key }) => key));
-    const listed = (await this.store.list()).filter(({ key }) => keys.has(key));
+    const listed = (await store.list()).filter(({ key }) => keys.has(key));
     // (what was stolen from a window that stood still meanwhile is known by now)
-    await this.holding.elsewhere();
-    const there = listed.filter(({ key }) => this.holding.held.has(key));
-    for (const key of keys) if (!there.some((listing) => listing.key === key)) this.holding.letGo(key);
+    await holding.elsewhere();
+    const there = listed.filter(({ key }) => holding.held.has(key));
+    for (const key of keys) if (!there.some((listing) => listing.key === key)) holding.letGo(key);
     return there.map((listing) => this.boardOf(listing));
   }
 
   // Looks again at which boards there are beside those of this window. One in which nothing was done goes on with those that no
   // window has any more.
   async refresh() {
-    const listed = await this.store.list(), held = await this.holding.elsewhere();
-    this.others = listed.filter(({ key, isBlank: isEmpty }) => !this.holding.held.has(key) && (!isEmpty || held.has(key)))
+    const { store, holding } = this.there, listed = await store.list(), held = await holding.elsewhere();
+    this.others = listed.filter(({ key, isBlank: isEmpty }) => !holding.held.has(key) && (!isEmpty || held.has(key)))
       .map((listing) => ({ ...listing, isHeld: held.has(listing.key) }));
     this.desk.changed();
     if (this.isUntouched && this.others.some(({ isHeld, isFound }) => !isHeld && !isFound)) this.inTurn(() => this.succeed());
@@ -148,25 +162,25 @@ export class Boards {
 
   // Whether nothing was done in this window since it was opened.
   get isUntouched() {
-    const { isNew, list, machine } = this;
-    return isNew && list.length === 1 && list[0] === this.shown && !list[0].kept.isListed && machine.hasBegun && isBlank(machine.state);
+    const { isNew, list, machine } = this, [first] = list;
+    return isNew && list.length === 1 && first === this.shown && !first?.kept.isListed && machine.hasBegun && isBlank(machine.state);
   }
 
   async succeed() {
     if (!this.isUntouched) return;
-    const [blank] = this.list, taken = await this.takeFree(0);
+    const blank = this.board, taken = await this.takeFree(0);
     if (!taken.length) return;
     this.isNew = false;
     this.list.push(...taken);
     await this.change(taken.reduce((one, other) => other.shown > one.shown ? other : one));
-    if (isBlank(blank.state)) this.drop(blank);
+    if (blank.state && isBlank(blank.state)) this.drop(blank);
     await this.refresh();
   }
 
   // What the machine has of the board that is shown.
   park() {
-    const { machine, shown } = this, { state, link, kept } = machine;
-    Object.assign(shown, { state, link, kept, view: this.desk.seen(), title: titleOf(state) });
+    const { machine, board } = this, { state, link, kept } = machine;
+    Object.assign(board, { state, link, kept, view: this.desk.seen(), title: titleOf(state) });
   }
 
   // One switch after another.
@@ -179,18 +193,20 @@ export class Boards {
   }
 
   // Opens files in the board that they were given to. Where another one is shown by now they are kept, and opened when that is shown.
-  /** @param {Page.Board} board @param {{ files: Machine.File[], areNamed: boolean, faults: string[] }} given */
+  /** @param {Page.Board | null} board @param {{ files: Machine.File[], areNamed: boolean, faults: string[] }} given */
   take(board, { files, areNamed, faults }) {
     if (board === this.shown) return this.machine.open(files, areNamed, faults);
-    if (!this.list.includes(board)) return this.say("The board that files were dropped on is not open any more, so they were not opened.", true);
-    const { state, kept } = board, { station } = state;
+    if (!board || !this.list.includes(board)) return this.say("The board that files were dropped on is not open any more, so they were not opened.", true);
+    const { state, kept } = board;
+    if (!state) return undefined;
+    const { station } = state;
     // (its station waits: nothing of it begins)
     const waiting = step({ ...state, station: { ...station, isOpen: false } }, { kind: "open", files, areNamed, faults, token: "" }).state;
     board.state = { ...waiting, station };
     this.say(`${plural(files.length, "file")} for ${nameOf(board)}: opened as soon as it is shown.`);
     const { count, isLost, isOpen, records } = state.kept, ids = waiting.queue.flatMap(({ files: its = [] }) => its);
     if (!isOpen || isLost || records.length) return undefined;
-    return this.machine.await(kept.write({ from: count, records: [], files: ids.map((id) => [id, waiting.files[id].bytes]),
+    return this.machine.await(kept.write({ from: count, records: [], files: Object.entries(waiting.files).filter(([id]) => ids.includes(id)).map(([id, { bytes }]) => [id, bytes]),
       waiting: waitingOf(waiting) }));
   }
 
@@ -224,19 +240,19 @@ export class Boards {
     this.shown = board;
     if (board.state) {
       Object.assign(machine, { state: board.state, link: board.link, kept: board.kept });
-      desk.show(board.view);
+      desk.show(board.view ?? null);
       // (what was given to it meanwhile begins)
       machine.send({ kind: "setting", changes: {} });
       machine.draw();
     } else {
       desk.show(null);
       Object.assign(machine, { state: firstState(), link: null, kept: board.kept });
-      machine.send({ kind: "begin", kept: journal, contents: board.hasContents ? desk.contents() : null });
+      machine.send({ kind: "begin", kept: journal ?? await board.kept.read(), contents: board.hasContents ? desk.contents() : null });
       this.tellLost();
       await this.begin();
     }
     machine.await(board.kept.keepLooks());
-    this.holding.tell();
+    this.there.holding.tell();
     desk.changed();
   }
 
@@ -259,8 +275,9 @@ export class Boards {
     this.list = this.list.filter((other) => other !== board);
     board.link?.end("closed");
     board.kept.isLost = true;
-    this.holding.letGo(board.key);
-    this.holding.tell();
+    const { holding } = this.there;
+    holding.letGo(board.key);
+    holding.tell();
     this.desk.changed();
   }
 
@@ -269,10 +286,10 @@ export class Boards {
     if (this.list.length < 2) return this.desk.changed();
     return this.inTurn(async () => {
       await this.machine.atRest();
-      const gone = this.shown, at = this.list.indexOf(gone), next = this.list[at + 1] ?? this.list[at - 1];
+      const gone = this.board, at = this.list.indexOf(gone), next = this.list[at + 1] ?? this.list[at - 1];
       if (!next || !isBlank(this.machine.state)) return this.desk.changed();
       await this.change(next);
-      if (!isBlank(gone.state)) return this.change(gone);
+      if (gone.state && !isBlank(gone.state)) return this.change(gone);
       const isGone = await gone.kept.forget();
       this.drop(gone);
       if (!isGone) this.say(`The browser could not delete what it kept of ${nameOf(gone)}.`, true);
@@ -298,13 +315,13 @@ export class Boards {
 
   // What the browser kept was deleted.
   lost() {
-    for (const { kept } of this.list) kept?.lose();
+    for (const { kept } of this.list) kept.lose();
   }
 
   // That what is kept of a board was deleted, or taken, before the board began was told to nobody.
   tellLost() {
-    const { isLost, why } = this.shown.kept;
-    if (isLost) this.machine.send({ kind: "lost", why });
+    const { isLost, why } = this.board.kept;
+    if (isLost) this.machine.send({ kind: "lost", why: why ?? LOST });
   }
 
   // What is heard of a journal.
@@ -321,7 +338,7 @@ export class Boards {
   /** @param {(board: Page.Board) => boolean} isOf @param {Machine.Event} event */
   happened(isOf, event) {
     const board = this.list.find((other) => other !== this.shown && other.state && isOf(other));
-    if (board) board.state = step(board.state, event).state;
+    if (board?.state) board.state = step(board.state, event).state;
   }
 
   // How many changes are not saved in the boards that are not shown.

@@ -2,7 +2,7 @@
 // worker is started when there is something to do, and ended where it is at work and nobody waits for it any more.
 
 import { Link } from "./station.js";
-import { byId } from "./dom.js";
+import { textOf } from "./dom.js";
 import { unpacked } from "./contents.js";
 
 export class Converter {
@@ -18,7 +18,7 @@ export class Converter {
   // What `kind` of web/worker/converting_worker.js answers to a message; it fails where the worker ends before.
   /** @template T @param {string} kind @param {object} message @param {Transferable[]} over @returns {Promise<T>} */
   async call(kind, message, over = []) {
-    this.source ??= unpacked(byId("converting-worker").textContent).then((bytes) => new TextDecoder().decode(bytes));
+    this.source ??= unpacked(textOf("converting-worker")).then((bytes) => new TextDecoder().decode(bytes));
     const source = await this.source;
     this.link ??= this.start(source);
     const { link } = this;

@@ -5,7 +5,35 @@ import { short } from "../board/index.js";
 // Letters of what happened, so that the words of a long item are not laid out in the one line that they have.
 const MOST_TOLD = 1000;
 
-export const byId = /** @type {Page.ById} */ ((id) => document.getElementById(id));
+// The element of index.html of this name; what it is stands in `Page.Ids`, which test_page_ids.js compares with index.html.
+export const byId = /** @type {Page.ById} */ ((id) => {
+  const found = document.getElementById(id);
+  if (!found) throw new Error(`the page has no '${id}'`);
+  return found;
+});
+
+// The text of such an element.
+/** @param {string} id */
+export const textOf = (id) => byId(id).textContent ?? "";
+
+// What was found, as an element of this class.
+/** @template {Element} T @param {Element} found @param {new () => T} kind @returns {T} */
+function ofClass(found, kind) {
+  if (found instanceof kind) return found;
+  throw new Error(`<${found.tagName}> is no ${kind.name}`);
+}
+
+// The first element of a selector, of a class; it is there.
+/** @template {Element} T @param {string} selector @param {new () => T} kind @param {ParentNode} within @returns {T} */
+export function oneOf(selector, kind, within = document) {
+  const found = within.querySelector(selector);
+  if (found) return ofClass(found, kind);
+  throw new Error(`the page has no '${selector}'`);
+}
+
+// All elements of a selector, of a class.
+/** @template {Element} T @param {string} selector @param {new () => T} kind @param {ParentNode} within @returns {T[]} */
+export const allOf = (selector, kind, within = document) => [...within.querySelectorAll(selector)].map((found) => ofClass(found, kind));
 
 // An element with properties or attributes, and what stands in it.
 /**
@@ -18,7 +46,7 @@ export const byId = /** @type {Page.ById} */ ((id) => document.getElementById(id
 export function element(name, properties = {}, ...children) {
   const made = document.createElement(name);
   for (const [key, value] of Object.entries(properties)) {
-    if (key in made && !key.includes("-")) made[key] = value;
+    if (key in made && !key.includes("-")) Object.assign(made, { [key]: value });
     else made.setAttribute(key, String(value));
   }
   made.append(...children);
@@ -37,27 +65,29 @@ export function field(label, input) {
 
 const CONTROLS = "button, input, select, textarea, summary, [tabindex]";
 
+/** @param {HTMLElement} list */
+const rowsOf = (list) => allOf(":scope > *", HTMLElement, list);
+
 // Which control of a list has the focus: its row, by its `data-row` or else by its place, and the how manieth of its kind it
 // is there; null where none has it.
 /** @param {HTMLElement} list */
 function focusIn(list) {
-  const { activeElement: control } = document, rows = /** @type {HTMLElement[]} */ ([...list.children]);
-  const at = rows.findIndex((row) => row.contains(control));
-  if (at < 0) return null;
-  const kind = kindOf(control), turn = ofKind(rows[at], kind).findIndex((other) => other === control);
-  return { at, row: rows[at].dataset.row, kind, turn };
+  const { activeElement: control } = document, rows = rowsOf(list), at = rows.findIndex((other) => other.contains(control)), row = rows[at];
+  if (!row || !control) return null;
+  const kind = kindOf(control), turn = ofKind(row, kind).findIndex((other) => other === control);
+  return { at, row: row.dataset.row, kind, turn };
 }
 
 /** @param {{ tagName: string, type?: string, className: string }} control */
 const kindOf = ({ tagName, type, className }) => `${tagName} ${type} ${className}`;
 
 /** @param {HTMLElement} row @param {string} kind @returns {HTMLElement[]} */
-const ofKind = (row, kind) => [row, .../** @type {NodeListOf<HTMLElement>} */ (row.querySelectorAll(CONTROLS))].filter((control) => kindOf(control) === kind);
+const ofKind = (row, kind) => [row, ...allOf(CONTROLS, HTMLElement, row)].filter((control) => kindOf(control) === kind);
 
 // Gives the focus to the same control of a list, or where its row is gone to that of the row in its place.
-/** @param {HTMLElement} list @param {{ at: number, row?: string, kind: string, turn: number }} focus */
+/** @param {HTMLElement} list @param {{ at: number, row: string | undefined, kind: string, turn: number }} focus */
 function focusAgain(list, { at, row, kind, turn }) {
-  const rows = /** @type {HTMLElement[]} */ ([...list.children]);
+  const rows = rowsOf(list);
   const same = row === undefined ? rows[at] : rows.find((other) => other.dataset.row === row) ?? rows[Math.min(at, rows.length - 1)];
   const found = same ? ofKind(same, kind) : [];
   (found[turn] ?? found[0])?.focus({ preventScroll: true });

@@ -26,25 +26,25 @@ export class Face {
 
   async take() {
     const { machine, view } = this, { kept, state } = machine;
-    const now = `${kept?.key} ${view.composed.version} ${view.left} ${view.top} ${view.pitch}`;
-    if (!view.fitted || !view.isSettled || view.isEmpty || state.comparison || now === this.taken) return;
+    const { fitted } = view, now = `${kept?.key} ${view.composed.version} ${view.left} ${view.top} ${view.pitch}`;
+    if (!fitted || !view.isSettled || view.isEmpty || state.comparison || now === this.taken) return;
     this.taken = now;
     // (a browser that makes none of it leaves the one before)
-    const face = await this.picture().catch(() => null);
+    const face = await this.picture(fitted).catch(() => null);
     if (face && machine.kept === kept) this.keep(face);
   }
 
   // The board as it is seen, with a little room around it and without rulers and marks, as PNG.
-  async picture() {
-    const { view } = this, { width, height } = view.canvas, { left, right, low, high } = view.fitted;
-    const corners = [view.placeOf(left, high), view.placeOf(right, low)], [x, y] = [corners.map((at) => at.x), corners.map((at) => at.y)];
-    const across = Math.abs(x[1] - x[0]) * ROOM, down = Math.abs(y[1] - y[0]) * ROOM;
+  /** @param {Board.Box} box */
+  async picture({ left, right, low, high }) {
+    const { view } = this, { width, height } = view.canvas, one = view.placeOf(left, high), other = view.placeOf(right, low);
+    const across = Math.abs(other.x - one.x) * ROOM, down = Math.abs(other.y - one.y) * ROOM;
     const scale = Math.min(WIDTH / across, HEIGHT / down), whole = new OffscreenCanvas(width, height);
     view.paintInto(whole.getContext("2d"));
     const canvas = new OffscreenCanvas(Math.ceil(across * scale), Math.ceil(down * scale)), context = canvas.getContext("2d");
     context.imageSmoothingQuality = "high";
     context.scale(scale, scale);
-    context.drawImage(whole, (across - x[0] - x[1]) / 2, (down - y[0] - y[1]) / 2);
+    context.drawImage(whole, (across - one.x - other.x) / 2, (down - one.y - other.y) / 2);
     return new Uint8Array(await (await canvas.convertToBlob({ type: "image/png" })).arrayBuffer());
   }
 }

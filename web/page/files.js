@@ -17,11 +17,8 @@ export const unpackedApart = (bytes, archive) => unpacking.call("unpack", { byte
 
 /**
  * What was dropped: a file, or a folder by its entry, and by its handle where the browser has one.
- * @typedef {object} Dropped
- * @property {boolean} isFolder
- * @property {File | null} [file]
- * @property {FileSystemEntry} [entry]
- * @property {Promise<FileSystemHandle | null>} [handle]
+ * @typedef {{ isFolder: false, file: File | null }
+ *   | { isFolder: true, entry: FileSystemEntry, handle: Promise<FileSystemHandle | null> | undefined }} Dropped
  */
 
 // Browsers tell a drag several times a second while it is over the page: one that was not told for so long has left it.
@@ -32,7 +29,7 @@ const promised = (act) => new Promise((done, fail) => { act(done, fail); });
 
 // The files of a folder, by its handle or by its entry: on a page that was opened from disk the entries of a drop throw
 // where they are read. A browser that reads neither throws.
-/** @param {Dropped} item @param {File[]} files */
+/** @param {Extract<Dropped, { isFolder: true }>} item @param {File[]} files */
 async function filesIn({ handle, entry }, files) {
   const folder = /** @type {FileSystemDirectoryHandle | null} */ (await handle?.catch(() => null) ?? null);
   return folder ? filesOfHandle(folder, files) : filesOfEntry(entry, files);
@@ -62,16 +59,21 @@ async function filesOfEntry(entry, files) {
 // its items no longer.
 /** @param {DataTransfer} transfer @returns {Dropped[]} */
 export function droppedOf(transfer) {
-  const items = [...transfer.items].filter(({ kind }) => kind === "file").map((item) => {
-    const entry = item.webkitGetAsEntry?.() ?? null, isFolder = entry !== null && entry.isDirectory;
-    return isFolder ? { entry, isFolder, handle: item.getAsFileSystemHandle?.() } : { isFolder, file: item.getAsFile() };
-  });
+  /** @param {DataTransferItem} item @returns {Dropped} */
+  const dropped = (item) => {
+    const entry = item.webkitGetAsEntry?.();
+    return entry?.isDirectory ? { entry, isFolder: true, handle: item.getAsFileSystemHandle?.() } : { isFolder: false, file: item.getAsFile() };
+  };
+  const items = [...transfer.items].filter(({ kind }) => kind === "file").map(dropped);
   return items.length ? items : [...transfer.files].map((file) => ({ file, isFolder: false }));
 }
 
 /** @param {Dropped[]} list */
 export async function readDropped(list) {
-  const files = [], faults = [];
+  /** @type {File[]} */
+  const files = [];
+  /** @type {string[]} */
+  const faults = [];
   for (const item of list) {
     if (!item.isFolder) {
       if (item.file) files.push(item.file);
@@ -122,7 +124,7 @@ function listenToDrags() {
   for (const kind of /** @type {const} */ (["dragenter", "dragover"])) {
     document.addEventListener(kind, (event) => {
       event.preventDefault();
-      show([...event.dataTransfer.types].includes("Files"));
+      show([...event.dataTransfer?.types ?? []].includes("Files"));
     });
   }
   document.addEventListener("dragleave", ({ relatedTarget }) => relatedTarget ?? show(false));
@@ -138,19 +140,21 @@ export function listenToFiles(machine, boards, take = (files) => files) {
   /** @param {Promise<{ files: Machine.File[], faults: string[], areNamed: boolean }>} reading */
   const inTurn = (reading) => {
     // (none is shown while the page still looks which boards there are: it is the one that is shown first)
-    const board = boards.shown ?? { reading: 0 };
-    board.reading = (board.reading ?? 0) + 1;
+    const board = boards.shown;
+    /** @type {{ reading?: number }} */
+    const counted = board ?? {};
+    counted.reading = (counted.reading ?? 0) + 1;
     last = last.then(async () => {
       const read = await reading, { files, faults, isAny } = await withUnpacked(read.files, unpackedApart), all = [...read.faults, ...faults];
-      const isShown = !("key" in board) || board === boards.shown, rest = isShown ? take(files) : files;
+      const isShown = !board || board === boards.shown, rest = isShown ? take(files) : files;
       // The files of an archive are opened as those of a folder.
-      if (rest.length || all.length || !files.length) boards.take(isShown ? boards.shown : /** @type {Page.Board} */ (board), { files: rest, areNamed: read.areNamed && !isAny, faults: all });
-    }).catch((fault) => machine.send({ kind: "fault", why: faultWords(fault) })).then(() => { board.reading--; });
+      if (rest.length || all.length || !files.length) boards.take(isShown ? boards.shown : board, { files: rest, areNamed: read.areNamed && !isAny, faults: all });
+    }).catch((fault) => machine.send({ kind: "fault", why: faultWords(fault) })).then(() => { counted.reading = (counted.reading ?? 0) - 1; });
     machine.await(last);
   };
   /** @param {HTMLInputElement} input @param {boolean} areNamed */
   const open = (input, areNamed) => {
-    const files = [...input.files];
+    const files = [...input.files ?? []];
     input.value = "";
     inTurn(readAll(files).then((read) => ({ ...read, areNamed })));
   };
@@ -159,7 +163,7 @@ export function listenToFiles(machine, boards, take = (files) => files) {
   listenToDrags();
   document.addEventListener("drop", (event) => {
     event.preventDefault();
-    const dropped = droppedOf(event.dataTransfer);
+    const dropped = event.dataTransfer ? droppedOf(event.dataTransfer) : [];
     if (dropped.length) inTurn(readDropped(dropped));
     else machine.send({ kind: "say", text: "Nothing in that drop is a file.", isFault: true });
   });

@@ -28,8 +28,8 @@ export function giveQuestion(state) {
     title: "Save a picture in colours", parts: [field("as", form), row], choices: [["Save", "yes"], ["Cancel", "no"]],
     answer: () => {
       const pitch = way.value === "dpi" ? Math.round(25.4e6 / Number(dots.value.replace(",", "."))) : lengthIn(dots.value, unit);
-      const isUsable = form.value !== "svg" || pitch >= 1 && pitch <= 1e8;
-      return { form: form.value, pitch,
+      const isUsable = form.value !== "svg" || pitch !== null && pitch >= 1 && pitch <= 1e8;
+      return { form: form.value, ...pitch === null ? {} : { pitch },
         why: isUsable ? null : `The dots an inch, or the ${unit} a pixel, are not a usable number.` };
     },
   };

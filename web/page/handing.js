@@ -16,7 +16,7 @@ const NOT_DONE = "Its station stopped in the other window, and what was done sin
 export function adopt(boards, key) {
   boards.isNew = false;
   return boards.inTurn(async () => {
-    const { holding, shown: before, store } = boards;
+    const { there: { holding, store }, board: before } = boards;
     if (!holding.held.has(key) && !await holding.take(key)) {
       boards.say("Another window has opened that board.", true);
       return boards.refresh();
@@ -42,7 +42,7 @@ export function adopt(boards, key) {
 // Asks the window that has a board for it.
 /** @param {Boards} boards @param {string} key */
 export async function takeOver(boards, key) {
-  const why = await boards.holding.ask(key);
+  const why = await boards.there.holding.ask(key);
   if (why === null) return adopt(boards, key);
   boards.say(why, true);
   return boards.refresh();
@@ -92,7 +92,7 @@ const isSoonAtRest = ({ machine, platform }) =>
 
 /** @param {Machine.Told[]} one @param {Machine.Told[]} other */
 const isStart = (one, other) => one.length <= other.length
-  && one.every(({ line, reply }, at) => line === other[at].line && reply === other[at].reply);
+  && one.every(({ line, reply }, at) => line === other[at]?.line && reply === other[at]?.reply);
 
 // Whether a board is as it was when it was taken, and all of it was kept then. One that was played again since has other lines alike.
 /** @param {Machine.State} state @param {Machine.Told[]} before */
@@ -132,10 +132,10 @@ export function stolen(boards, key) {
 // A board goes on as another one, of which nothing is kept yet.
 /** @param {Boards} boards @param {Page.Board} board */
 async function rename(boards, board) {
-  const { key } = await boards.fresh(), { looks } = board.kept;
-  boards.holding.letGo(board.key);
+  const { key } = await boards.fresh(), { looks } = board.kept, { holding, store } = boards.there;
+  holding.letGo(board.key);
   Object.assign(board, { key, isTaken: false });
-  board.kept = Object.assign(new Kept(boards.store, board, null, (event, kept) => boards.hear(event, kept)), { looks, isLost: true, why: TAKEN });
-  board.state = step(board.state, { kind: "lost", why: TAKEN }).state;
-  boards.holding.tell();
+  board.kept = Object.assign(new Kept(store, board, null, (event, kept) => boards.hear(event, kept)), { looks, isLost: true, why: TAKEN });
+  if (board.state) board.state = step(board.state, { kind: "lost", why: TAKEN }).state;
+  holding.tell();
 }

@@ -1,6 +1,8 @@
 // Which boards this window has: for each it holds a lock, from the board's first moment in it to its last, so no board is in two
 // windows. A window asks another one for a board by a channel; one that does not answer has its lock stolen.
 
+import { betweenFrom } from "./stored.js";
+
 // How long a page that is being closed may take to do so: where a page is loaded anew, the old one may still hold its locks.
 export const CLOSING_MS = 1500;
 // How long a window may take to answer, and one that answered to hand its board over.
@@ -28,7 +30,10 @@ export class Holding {
     /** @type {Map<string, (message: Page.Between) => void>} */
     this.waiting = new Map();
     this.channel = platform.openChannel(name);
-    this.channel.onmessage = ({ data }) => this.hear(data);
+    this.channel.onmessage = ({ data }) => {
+      const message = betweenFrom(data);
+      if (message) this.hear(message);
+    };
   }
 
   /** @param {string} key */
@@ -84,8 +89,8 @@ export class Holding {
   // The boards that other windows have.
   /** @returns {Promise<Set<string>>} */
   async elsewhere() {
-    const { held = [] } = await this.platform.locks?.query() ?? {}, before = this.lockOf("");
-    const keys = held.filter(({ name }) => name.startsWith(before)).map(({ name }) => name.slice(before.length));
+    const known = await this.platform.locks?.query(), before = this.lockOf("");
+    const keys = (known?.held ?? []).flatMap(({ name }) => name?.startsWith(before) ? [name.slice(before.length)] : []);
     return new Set(keys.filter((key) => !this.held.has(key)));
   }
 

@@ -10,7 +10,7 @@ const PAGE = 100;
 /** @param {Page.Runner} machine @param {Machine.State} state */
 function show(machine, state) {
   const { list, active } = state, layer = layerOf(state, active);
-  if (!list.isOpen || !layer || list.name !== active) return byId("items").replaceChildren();
+  if (!list.isOpen || active === null || !layer || list.name !== active) return byId("items").replaceChildren();
   const picked = new Set(state.picked.filter((item) => item.name === active).map((item) => item.place));
   byId("items").start = list.from;
   redraw(byId("items"), ...list.words.map((text, at) => {

@@ -2,22 +2,19 @@
 // files of loads, what waits, and how the page looks. A write is all or nothing, and the board is listed by the first.
 
 import { faultWords, settled } from "./store.js";
+import { bytesFrom, entriesFrom, looksFrom, partOfKey, recordFrom, waitingFrom } from "./stored.js";
 
 // What was kept is not there any more; or another window has it.
 class Lost extends Error {}
 
-const LOST = "What the browser kept of this page was deleted, so what is done here is not kept. Save your work, or have it "
+export const LOST = "What the browser kept of this page was deleted, so what is done here is not kept. Save your work, or have it "
   + "kept again.";
 export const TAKEN = "Another window took this board over, so what is done here is not kept. Have it kept again as a board of its own.";
-
-// A record as earlier pages wrote it is a line alone, with its file under the path.
-/** @param {{ entries?: Machine.Told[] } & Partial<Machine.Told>} record @returns {Machine.Told[]} */
-const entriesOf = ({ entries, line, reply, path }) => entries ?? [path ? { line, reply, path, file: path } : { line, reply }];
 
 export class Kept {
   // The journal of a board, whose record has what `board` says of it; where there is one already, `listing` is that. `heard` is told
   // when it keeps nothing any more.
-  /** @param {import("./store.js").Store} store @param {Page.Board} board @param {Page.Listing | null} listing @param {Page.Warn} heard */
+  /** @param {import("./store.js").Store} store @param {Page.Titled} board @param {Page.Listing | null} listing @param {Page.Warn} heard */
   constructor(store, board, listing, heard) {
     this.store = store;
     this.board = board;
@@ -39,6 +36,8 @@ export class Kept {
     this.why = null;
     // Writes of looks after the journal was lost would bring back what a person deleted.
     this.isLost = false;
+    // What is kept and cannot be read stays as it is.
+    this.isUnread = false;
   }
 
   // Another window has the board, or a person deleted what was kept of it.
@@ -52,12 +51,12 @@ export class Kept {
   // Enters the board in the list, or again what is known of it, in the transaction of what it has.
   /** @param {Page.Stores} stores */
   async enter({ boards }) {
-    const { board, key, store } = this, there = await settled(boards.get(key));
-    if (there && this.isListed && there.holder !== this.holder) throw new Lost(TAKEN);
-    if (!there && this.isListed) throw new Lost(LOST);
+    const { board, key, store } = this, there = await settled(boards.get(key)), isThere = there !== undefined;
+    if (isThere && this.isListed && recordFrom(there).holder !== this.holder) throw new Lost(TAKEN);
+    if (!isThere && this.isListed) throw new Lost(LOST);
     let { number } = board;
-    if (!there) {
-      const others = (await settled(boards.getAll())).map((record) => record.number);
+    if (!isThere) {
+      const others = (await settled(boards.getAll())).map((record) => recordFrom(record).number);
       if (others.includes(number)) number = 1 + Math.max(...others);
     }
     const { title, shown, hasContents } = board, { window } = store.platform;
@@ -78,7 +77,7 @@ export class Kept {
     });
     if (!fault) {
       Object.assign(this, { isListed: true, holder: this.store.holder });
-      this.board.number = found;
+      if (found !== null) this.board.number = found;
       return { isKept: true };
     }
     if (this.isLost || !(fault instanceof Lost)) {
@@ -89,7 +88,7 @@ export class Kept {
     return { isKept: false, isLost: true, why: fault.message };
   }
 
-  /** @param {Error} fault */
+  /** @param {unknown} fault */
   words(fault) {
     return `The browser cannot keep more (${faultWords(fault)}), so save your work.`;
   }
@@ -107,8 +106,8 @@ export class Kept {
       const range = store.of(key);
       const [records, names, bytes, its, waiting] = await Promise.all([settled(lines.getAll(range)), settled(files.getAllKeys(range)),
         settled(files.getAll(range)), settled(looks.get([key, "looks"])), settled(looks.get([key, "waiting"]))]);
-      return { ...nothing, records: records.map(entriesOf), files: names.map((name, at) => [String(name[1]), bytes[at]]),
-        looks: its ?? null, waiting: waiting ?? null };
+      return { ...nothing, records: records.map(entriesFrom), files: names.map((name, at) => [partOfKey(name, 1), bytesFrom(bytes[at])]),
+        looks: its === undefined ? null : looksFrom(its), waiting: waitingFrom(waiting) };
     };
     const { found } = await store.attempt(async (stores) => {
       await this.enter(stores);
@@ -121,6 +120,7 @@ export class Kept {
     this.found = read?.records.flat() ?? [];
     if (!store.base) this.lose();
     if (this.isLost) return { ...read ?? nothing, why: this.why };
+    this.isUnread = !read;
     return read ?? { ...nothing, isOpen: false, why: `What the browser kept cannot be read (${faultWords(fault)}), so save your work.` };
   }
 
@@ -128,7 +128,7 @@ export class Kept {
   /** @returns {Promise<Machine.Told[]>} */
   async lines() {
     const { found } = await this.store.attempt(({ lines }) => settled(lines.getAll(this.store.of(this.key))), "readonly");
-    return (found ?? []).flatMap(entriesOf);
+    return (found ?? []).flatMap(entriesFrom);
   }
 
   // Lists a board in which nothing was done yet, or knows why not.
@@ -138,7 +138,7 @@ export class Kept {
 
   // Writes records behind the first `from`, files, and what waits where that is given; answers { isKept, why, isLost }.
   /** @param {Omit<Machine.ToKept, "kind" | "number">} what */
-  write({ from, records, files, waiting }) {
+  write({ from = 0, records, files, waiting }) {
     const { key } = this, isNew = !this.isListed;
     return this.attempt(async ({ lines, files: kept, looks }) => {
       if (from > 0 && await settled(lines.getKey([key, from])) === undefined) throw new Lost(LOST);
@@ -180,7 +180,7 @@ export class Kept {
   /** @param {Machine.Looks | null} looks */
   async keepLooks(looks = this.looks) {
     this.looks = looks;
-    if (!this.store.base || this.isLost || this.isBusy || !this.isListed) return;
+    if (!this.store.base || this.isLost || this.isUnread || this.isBusy || !this.isListed) return;
     this.isBusy = true;
     this.writing = this.writeLooks();
     await this.writing;

@@ -46,9 +46,9 @@ function notices({ kept, spoiled, station, faults, isLeaving }, machine, saveScr
 // What is under way, where it takes long: a group can be stopped.
 /** @param {Machine.State} state */
 function showBusy({ work }) {
-  const isGroup = work?.isGroup === true && work.stage === "lines";
-  byId("busy").hidden = !isGroup;
-  if (isGroup) byId("busy-words").textContent = `${plural(work.lines.length, "edit")} under way, Escape stops ..`;
+  const lines = work?.isGroup === true && work.stage === "lines" ? work.lines : undefined;
+  byId("busy").hidden = !lines;
+  if (lines) byId("busy-words").textContent = `${plural(lines.length, "edit")} under way, Escape stops ..`;
 }
 
 /** @param {Page.Runner} machine @param {() => void} saveScript */

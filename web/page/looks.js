@@ -1,12 +1,15 @@
 // How the page looks: dark or light, the grid, the unit of lengths, and what is kept of it.
 
-import { byId, element } from "./dom.js";
+import { allOf, byId, element } from "./dom.js";
 import { UNITS, lengthIn, lengthText } from "../board/index.js";
 import { looksOfState } from "../machine/index.js";
 
 const LIGHT = matchMedia("(prefers-color-scheme: light)");
 
 const isLight = () => document.documentElement.dataset.look === "light";
+
+// The look that a person chose; `""` where none was.
+const chosen = () => document.documentElement.dataset.chosen ?? "";
 
 /** @param {string} look @param {Page.View} view */
 function showLook(look, view) {
@@ -28,7 +31,7 @@ export const changeLook = (view) => setLook(isLight() ? "dark" : "light", view);
 /** @param {Machine.State} state @param {Page.View} view @returns {Machine.Looks} */
 export function looksNow(state, view) {
   return {
-    look: document.documentElement.dataset.chosen, ...looksOfState(state),
+    look: chosen(), ...looksOfState(state),
     view: view.seen, bytes: Object.values(state.files).reduce((sum, { bytes }) => sum + bytes.length, 0),
   };
 }
@@ -43,7 +46,7 @@ function listenToUnit(machine, view) {
   machine.panel(({ unit }) => [unit], ({ unit }) => {
     choice.value = unit;
     for (const words of document.querySelectorAll("[data-unit]")) words.textContent = unit;
-    for (const field of /** @type {NodeListOf<HTMLInputElement>} */ (document.querySelectorAll("[data-length]"))) {
+    for (const field of allOf("[data-length]", HTMLInputElement)) {
       field.setAttribute("aria-label", `${field.dataset.length} in ${unit}`);
       const nm = field.id === "grid" ? null : lengthIn(field.value, shown);
       if (nm !== null) field.value = lengthText(nm, unit);
@@ -57,13 +60,13 @@ function listenToUnit(machine, view) {
 /** @param {Page.Runner} machine */
 export function changeUnit(machine) {
   const names = Object.keys(UNITS), next = names[(names.indexOf(machine.state.unit) + 1) % names.length];
-  machine.send({ kind: "setting", changes: { unit: next } });
+  if (next) machine.send({ kind: "setting", changes: { unit: next } });
 }
 
 /** @param {Page.Runner} machine @param {Page.View} view */
 export function listenToLooks(machine, view) {
   setLook("", view);
-  LIGHT.onchange = () => setLook(document.documentElement.dataset.chosen, view);
+  LIGHT.onchange = () => setLook(chosen(), view);
   byId("grid").onchange = () => {
     const { unit } = machine.state, grid = lengthIn(byId("grid").value, unit);
     if (grid !== null && grid >= 1) machine.send({ kind: "setting", changes: { grid } });

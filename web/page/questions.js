@@ -13,16 +13,17 @@ import { shownLayers } from "../machine/index.js";
 /** @param {Machine.State} state @param {Machine.QuestionOf<"place">} question @returns {Page.Dialogue} */
 function placeQuestion(state, { label, width, height, box }) {
   const { unit } = state, pitch = Math.max(1, Math.ceil(Math.max((box.right - box.left) / width, (box.high - box.low) / height)));
-  const inputs = [box.left, box.low, pitch].map((value) => element("input", { type: "text", value: lengthText(Math.round(value), unit) }));
-  const labels = [`left edge, ${unit}`, `lower edge, ${unit}`, `${unit} a pixel`];
+  /** @param {number} value */
+  const input = (value) => element("input", { type: "text", value: lengthText(Math.round(value), unit) });
+  const inputs = { left: input(box.left), low: input(box.low), side: input(pitch) };
   return {
     title: `Where does ${label} lie?`,
     parts: [element("p", {}, `It has ${width} by ${height} pixels, and no window of the script has.`),
-      ...inputs.map((input, at) => field(labels[at], input))],
+      field(`left edge, ${unit}`, inputs.left), field(`lower edge, ${unit}`, inputs.low), field(`${unit} a pixel`, inputs.side)],
     choices: [["Open it there", "yes"], ["Leave it out", "no"]],
     answer: () => {
-      const [left, low, side] = inputs.map((input) => lengthIn(input.value, unit));
-      const isWell = left !== null && low !== null && side >= 1;
+      const left = lengthIn(inputs.left.value, unit), low = lengthIn(inputs.low.value, unit), side = lengthIn(inputs.side.value, unit);
+      const isWell = left !== null && low !== null && side !== null && side >= 1;
       return { window: isWell ? `window ${left} ${low} ${side} ${width} ${height}` : null,
         why: `its place and its pixels are numbers of ${unit}` };
     },
@@ -53,9 +54,9 @@ function plotQuestion(state) {
     answer: () => {
       const number = Number(dots.value.replace(",", "."));
       const pitch = unit.value === "dpi" ? Math.round(25.4e6 / number) : lengthIn(dots.value, length);
-      const why = pitch >= 1 && pitch <= 1e8 ? null : `The dots an inch, or the ${length} a pixel, are not a usable number.`;
+      const why = pitch !== null && pitch >= 1 && pitch <= 1e8 ? null : `The dots an inch, or the ${length} a pixel, are not a usable number.`;
       const chosen = which.value === "active" ? layers.filter(({ name }) => name === active) : shownLayers(state);
-      return { names: chosen.map(({ name }) => name), pitch, form: form.value, why };
+      return { names: chosen.map(({ name }) => name), ...pitch === null ? {} : { pitch }, form: form.value, why };
     },
   };
 }
@@ -93,6 +94,7 @@ const kinds = { place: placeQuestion, history: historyQuestion, plot: plotQuesti
 /** @param {HTMLElement} choices @param {boolean} isAllowed */
 function allow(choices, isAllowed) {
   const first = choices.querySelector("button"), { activeElement: focused } = document;
+  if (!first) return;
   first.disabled = !isAllowed;
   if (isAllowed && (!focused?.closest("dialog") || choices.contains(focused) || focused.tagName === "DIALOG")) first.focus();
 }
@@ -108,8 +110,8 @@ export function listenToQuestions(machine) {
 
   dialogue.onclose = () => {
     if (shown === null || dialogue.open) return;
-    const question = shown, value = dialogue.returnValue || null, answer = value === "yes" ? made.answer?.() ?? {} : {};
-    made.end?.();
+    const question = shown, value = dialogue.returnValue || null, answer = value === "yes" ? made?.answer?.() ?? {} : {};
+    made?.end?.();
     shown = made = null;
     machine.send({ kind: "replied", question, value, ...answer });
     show(machine.state);
@@ -117,21 +119,21 @@ export function listenToQuestions(machine) {
 
   /** @param {Machine.State} state */
   function show(state) {
-    const [question] = state.questions;
-    if (shown === (question?.id ?? null)) return;
+    const [question] = state.questions, id = question?.id ?? null;
+    if (shown === id) return;
     if (shown !== null) {
-      made.end?.();
+      made?.end?.();
       shown = null;
       dialogue.close();
     }
     if (!question) return;
-    shown = question.id;
+    shown = id;
     const choices = byId("question-choices");
     let isAllowed = true;
     const make = /** @type {(state: Machine.State, question: Machine.Question, allow: Page.Allow) => Page.Dialogue} */ (kinds[question.kind]);
     made = make(state, question, (allowed) => {
       isAllowed = allowed;
-      if (shown === question.id && dialogue.open) allow(choices, isAllowed);
+      if (shown === id && dialogue.open) allow(choices, isAllowed);
     });
     byId("question-title").textContent = made.title;
     byId("question-body").replaceChildren(...made.parts);

@@ -51,10 +51,11 @@ export class Runner {
     this.inbox.push(event, ...this.early.splice(0));
     if (this.isGoing) return;
     this.isGoing = true;
-    while (this.inbox.length) this.take(this.inbox.shift());
+    for (let next = this.inbox.shift(); next; next = this.inbox.shift()) this.take(next);
     this.draw();
     this.isGoing = false;
-    if (this.inbox.length) this.send(this.inbox.shift());
+    const rest = this.inbox.shift();
+    if (rest) this.send(rest);
     else this.settle();
   }
 
@@ -87,7 +88,9 @@ export class Runner {
 
   /** @param {Machine.ToKept} message */
   keep({ kind, number, ...what }) {
-    this.await((kind === "anew" ? this.kept.writeAnew(what) : this.kept.write(what))
+    const { kept } = this;
+    if (!kept) throw new Error("there is no journal");
+    this.await((kind === "anew" ? kept.writeAnew(what) : kept.write(what))
       .then((answer) => this.send({ kind: "kept", number, ...answer })));
   }
 
@@ -140,8 +143,8 @@ export class Runner {
 
   draw() {
     for (const panel of this.panels) {
-      const now = panel.pick(this.state);
-      if (panel.last && now.every((part, at) => part === panel.last[at])) continue;
+      const now = panel.pick(this.state), { last } = panel;
+      if (last && now.every((part, at) => part === last[at])) continue;
       panel.last = now;
       try {
         panel.draw(this.state);

@@ -22,10 +22,14 @@ export function download(name, parts, type = "application/octet-stream") {
 
 // Hands out files, [{ name, bytes }], one alone or in a ZIP of a name; plots in their form.
 /** @param {Omit<Machine.ToPage["download"], "number">} files */
-export async function handOut({ files, zip, form = null, pitch }) {
+export async function handOut({ files, zip, form, pitch }) {
   const made = await Promise.all(files.map(async ({ name, bytes }) =>
-    ({ name, parts: form === "png" ? await pngOf(bytes, pitch) : [bytes] })));
-  if (zip === null) return download(made[0].name, made[0].parts, form === "png" ? "image/png" : undefined);
+    ({ name, parts: form === "png" && pitch !== undefined ? await pngOf(bytes, pitch) : [bytes] })));
+  if (zip === null) {
+    const [only] = made;
+    if (!only) throw new Error("there is no file");
+    return download(only.name, only.parts, form === "png" ? "image/png" : undefined);
+  }
   const whole = await Promise.all(made.map(async ({ name, parts }) =>
     ({ name, bytes: new Uint8Array(await new Blob(parts).arrayBuffer()) })));
   return download(zip, zipOf(whole), "application/zip");

@@ -17,7 +17,7 @@ function show(list, before, told) {
   const fresh = (isLonger ? told.slice(before.length) : told).slice(-SHOWN).map(row);
   if (isLonger) list.append(...fresh);
   else list.replaceChildren(...fresh);
-  while (list.children.length > SHOWN) list.firstChild.remove();
+  while (list.children.length > SHOWN) list.firstElementChild?.remove();
   list.scrollTop = list.scrollHeight;
 }
 
@@ -29,7 +29,9 @@ export function listenToScript(machine, view) {
     show(byId("script"), before, told);
     before = told;
   });
-  const input = byId("line"), earlier = [];
+  /** @type {string[]} */
+  const earlier = [];
+  const input = byId("line");
   let at = 0;
   byId("type").onsubmit = (event) => {
     event.preventDefault();

@@ -16,7 +16,7 @@ export class StartPanel {
   constructor(machine, boards) {
     this.machine = machine;
     this.boards = boards;
-    byId("drop-here").prepend(iconOf("drop"));
+    byId("drop-here").prepend(iconOf("drop") ?? "");
     // Which drawing is the last: what an earlier one has read by then is left out.
     this.number = 0;
     this.drawn = "[]";
@@ -44,7 +44,7 @@ export class StartPanel {
     if (number !== this.number) return;
     byId("kept-boards").hidden = kept.length === 0;
     // (a card that is drawn again while it is pressed hears nothing of it)
-    const now = JSON.stringify(kept.map(({ board, where }, at) => [board.key, nameOf(board), board.shown, where, looks[at].bytes, looks[at].face?.length]));
+    const now = JSON.stringify(kept.map(({ board, where }, at) => [board.key, nameOf(board), board.shown, where, looks[at]?.bytes, looks[at]?.face?.length]));
     if (now === this.drawn) return;
     this.drawn = now;
     redraw(byId("kept-list"), ...kept.map((one, at) => this.card(one, looks[at])));
@@ -52,10 +52,10 @@ export class StartPanel {
 
   /**
    * @param {{ board: Page.Board | Page.Listing, where: string, verb: string, run: () => unknown }} one
-   * @param {{ face: Uint8Array | null, bytes: number, layers: number }} looks
+   * @param {{ face: Uint8Array | null, bytes: number, layers: number } | undefined} looks
    */
-  card({ board, where, verb, run }, { face, bytes, layers }) {
-    const title = nameOf(board), picture = element("canvas", { width: 192, height: 128, "aria-hidden": "true" });
+  card({ board, where, verb, run }, looks) {
+    const { face = null, bytes = 0, layers = 0 } = looks ?? {}, title = nameOf(board), picture = element("canvas", { width: 192, height: 128, "aria-hidden": "true" });
     if (face) paintFace(picture, face);
     const date = new Date(board.shown).toLocaleString("en-GB", DATE), size = [layers ? plural(layers, "layer") : "", sizeWords(bytes)];
     const card = button("", run, { "aria-label": `${verb} ${title}, ${where}`, title: `${verb} ${title}` });
@@ -71,6 +71,6 @@ async function paintFace(canvas, face) {
   const bitmap = await createImageBitmap(new Blob([face], { type: "image/png" })).catch(() => null);
   if (!bitmap) return;
   Object.assign(canvas, { width: bitmap.width, height: bitmap.height });
-  canvas.getContext("2d").drawImage(bitmap, 0, 0);
+  canvas.getContext("2d")?.drawImage(bitmap, 0, 0);
   bitmap.close();
 }

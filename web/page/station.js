@@ -18,7 +18,7 @@ export class Link {
     this.worker = new Worker(this.url);
     this.isOver = false;
     this.stopped = stopped;
-    /** @type {Map<number, { done: (answer: object) => void, fail: (fault: Error) => void }>} */
+    /** @type {Map<number, { done: (answer: unknown) => void, fail: (fault: Error) => void }>} */
     this.waiting = new Map();
     this.number = 0;
     this.worker.onmessage = ({ data }) => {
@@ -37,12 +37,12 @@ export class Link {
     navigator.locks?.request(lock, () => this.end("it ended")).catch(() => {});
   }
 
-  /** @param {{ call: number, answer?: object, fault?: string }} data */
+  /** @param {{ call: number, answer?: unknown, fault?: string }} data */
   called({ call, answer, fault }) {
-    const { done, fail } = this.waiting.get(call);
+    const waits = this.waiting.get(call);
     this.waiting.delete(call);
-    if (fault === undefined) return done(answer);
-    fail(new Error(fault));
+    if (fault === undefined) return waits?.done(answer);
+    waits?.fail(new Error(fault));
     return this.end(fault);
   }
 
@@ -67,7 +67,8 @@ export class Link {
     if (this.isOver) return Promise.reject(new Error("it ended"));
     const call = ++this.number;
     return new Promise((done, fail) => {
-      this.waiting.set(call, { done, fail });
+      // (what a worker of the page answers to a kind is known to who asks it)
+      this.waiting.set(call, { done: (answer) => done(/** @type {T} */ (answer)), fail });
       this.send({ call, kind, ...message }, over);
     });
   }

@@ -2,6 +2,8 @@
 // name; the other stores have its lines, its files and how it looks, by keys that begin with that name. So a board is listed,
 // changed and deleted in one transaction with all that it has.
 
+import { bytesFrom, looksFrom, partOfKey, recordFrom } from "./stored.js";
+
 const STORES = ["boards", "lines", "files", "looks"];
 // A write that the browser does not answer is given up, and told: no gesture waits for ever for a browser that has stopped writing.
 const SILENT_MS = 20000;
@@ -25,7 +27,7 @@ export function opened(factory, name) {
   let isNew = false;
   request.onupgradeneeded = () => {
     isNew = true;
-    request.transaction.abort();
+    request.transaction?.abort();
   };
   return settled(request).then((base) => base, (fault) => {
     if (isNew) return null;
@@ -33,8 +35,8 @@ export function opened(factory, name) {
   });
 }
 
-/** @param {Error} fault */
-export const faultWords = (fault) => fault?.message || fault?.name || "it does not say why";
+/** @param {unknown} fault */
+export const faultWords = (fault) => fault instanceof Error && (fault.message || fault.name) || "it does not say why";
 
 export class Store {
   // The database of this name; one that keeps nothing, and says why, where the browser has none. `lost` is told when it is deleted.
@@ -103,7 +105,7 @@ export class Store {
     try {
       return base.transaction(STORES, mode);
     } catch (fault) {
-      if (fault?.name === "InvalidStateError") this.over(base);
+      if (fault instanceof Error && fault.name === "InvalidStateError") this.over(base);
       throw fault;
     }
   }
@@ -113,16 +115,17 @@ export class Store {
    * @template T
    * @param {(stores: Page.Stores) => Promise<T>} act
    * @param {"readwrite" | "readonly"} mode
-   * @returns {Promise<{ found: T | null, fault: Error | null }>}
+   * @returns {Promise<{ found: T | null, fault: unknown }>}
    */
   async attempt(act, mode = "readwrite") {
     /** @type {IDBTransaction | null} */
     let transaction = null;
     try {
-      transaction = this.begin(mode);
-      const [boards, lines, files, looks] = STORES.map((name) => transaction.objectStore(name)), end = ended(transaction);
+      const begun = transaction = this.begin(mode), end = ended(begun);
+      /** @param {string} name */
+      const store = (name) => begun.objectStore(name);
       end.catch(() => {});
-      const acted = act({ boards, lines, files, looks }).then(async (found) => {
+      const acted = act({ boards: store("boards"), lines: store("lines"), files: store("files"), looks: store("looks") }).then(async (found) => {
         await end;
         return found;
       });
@@ -154,9 +157,9 @@ export class Store {
   /** @param {string[]} keys @returns {Promise<{ face: Uint8Array | null, bytes: number, layers: number }[]>} */
   async looksOf(keys) {
     const { found } = await this.attempt(({ files, looks }) => Promise.all(keys.map(async (key) => {
-      const its = await settled(looks.get([key, "looks"]));
-      const bytes = its?.bytes ?? (await settled(files.getAll(this.of(key)))).reduce((sum, file) => sum + file.length, 0);
-      return { face: its?.face ?? null, bytes, layers: its?.layers?.length ?? 0 };
+      const { face = null, bytes, layers = [] } = looksFrom(await settled(looks.get([key, "looks"])));
+      const sum = bytes ?? (await settled(files.getAll(this.of(key)))).reduce((all, file) => all + (Number(file?.length) || 0), 0);
+      return { face, bytes: sum, layers: layers.length };
     })), "readonly");
     return found ?? keys.map(() => ({ face: null, bytes: 0, layers: 0 }));
   }
@@ -168,8 +171,8 @@ export class Store {
     const { found } = await this.attempt(async ({ boards, lines, files }) => {
       const [keys, records, its, others] = await Promise.all([settled(boards.getAllKeys()), settled(boards.getAll()),
         settled(lines.getAllKeys()), settled(files.getAllKeys())]);
-      const filled = new Set([...its, ...others].map((name) => String(name[0])));
-      const listed = keys.map((key, at) => ({ ...records[at], key: String(key), isBlank: !filled.has(String(key)) }));
+      const filled = new Set([...its, ...others].map((name) => partOfKey(name, 0)));
+      const listed = keys.map((key, at) => ({ ...recordFrom(records[at]), key: String(key), isBlank: !filled.has(String(key)) }));
       const known = new Set(listed.map(({ key }) => key));
       const lost = [...filled].filter((key) => !known.has(key)).map((key) => ({ key, number: 0, title: null, shown: 0, window: null,
         holder: null, isFound: true, isBlank: false, isUnlisted: true }));

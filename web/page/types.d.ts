@@ -17,20 +17,21 @@ declare namespace Page {
   // ---- The boards of a browser (store.js, holding.js, boards.js) ----
 
   /** What is kept of which boards there are: the window that has it or had it last, and who writes it; `from` is its database of before. */
-  interface BoardRecord { number: number; title: string | null; shown: number; hasContents?: boolean; window: string | null; holder: string | null;
+  interface BoardRecord { number: number; title: string | null; shown: number; hasContents?: boolean | undefined; window: string | null; holder: string | null;
     isFound?: boolean; from?: string }
   /** A board as the store lists it: `isBlank` where nothing is in it, `isFound` where no list had it. */
   interface Listing extends BoardRecord { key: string; isBlank: boolean; isUnlisted?: boolean }
+  /** What a board's journal writes of it into its record. */
+  interface Titled { key: string; number: number; title: string | null; shown: number; hasContents?: boolean | undefined }
   /** A board of this window; without a state where it was not shown yet. */
-  interface Board {
-    key: string; number: number; title: string | null; shown: number; hasContents?: boolean; state: Machine.State | null; link?: Link | null; kept?: Kept;
-    view?: Machine.Seen; isTaken?: boolean; reading?: number;
+  interface Board extends Titled {
+    state: Machine.State | null; link?: Link | null; kept: Kept; view?: Machine.Seen; isTaken?: boolean; reading?: number;
   }
   interface Stores { boards: IDBObjectStore; lines: IDBObjectStore; files: IDBObjectStore; looks: IDBObjectStore }
   /** What windows tell one another: that one asks for a board, hands it over or refuses, and that there is something new. */
-  type Between = { kind: "ask"; key: string; from: string; to?: string } | { kind: "handing"; key: string; to: string }
-    | { kind: "refused"; key: string; to: string; why: string } | { kind: "news"; key?: string; to?: string };
-  interface Channel { postMessage(message: Between): void; onmessage: ((event: { data: Between }) => void) | null }
+  type Between = { kind: "ask"; key: string; from: string } | { kind: "handing"; key: string; to: string }
+    | { kind: "refused"; key: string; to: string; why: string } | { kind: "news" };
+  interface Channel { postMessage(message: Between): void; onmessage: ((event: MessageEvent<unknown>) => void) | null }
   /** What the page needs of the browser to keep its boards (platform.js). */
   interface Platform {
     window: string; isFresh: boolean; locks: LockManager | null; newName(): string; openChannel(name: string): Channel; database(): IDBFactory;
@@ -117,13 +118,13 @@ declare namespace Page {
   /** A command: `why` says why it cannot be done now, `word` is what its button has. */
   interface Action {
     id: string; group: string; label: string; keys: string[]; word: string; run(event: MouseEvent | KeyboardEvent): unknown;
-    why?: (state: Machine.State) => string | null;
+    why?: ((state: Machine.State) => string | null) | undefined;
   }
 
   // ---- Questions to the person, and the answers (questions.js of the page) ----
 
   /** How a question is asked; `end` is called when it is not open any more. */
   interface Dialogue {
-    title: string; parts: Node[]; choices: string[][]; answer?(): Partial<Machine.Replied>; end?(): void;
+    title: string; parts: Node[]; choices: [label: string, value: string][]; answer?(): Partial<Machine.Replied>; end?(): void;
   }
 }
