@@ -1,6 +1,6 @@
 // What the page can do by a name: one table, from which the buttons, the keys and the page of keys are made.
 
-import { byId, element } from "./dom.js";
+import { allOf, byId, element, oneOf } from "./dom.js";
 import { iconOf } from "./icons.js";
 
 /** @type {Page.Action[]} */
@@ -48,7 +48,7 @@ const PRESSABLE = "button, summary, input:is([type=checkbox], [type=color], [typ
 
 /** @param {HTMLElement & { type?: string }} control */
 const isTyping = (control) => /^(INPUT|SELECT|TEXTAREA)$/.test(control.tagName)
-  && !["checkbox", "color", "range", "button", "file"].includes(control.type);
+  && !["checkbox", "color", "range", "button", "file"].includes(control.type ?? "");
 
 // Whether the control that has the focus has a use for a key: Space and Enter press it, and the others move a slider, or
 // scroll a list.
@@ -69,6 +69,10 @@ function runKey(event) {
   event.preventDefault();
   found.run(event);
 }
+
+// Whether the button of a command stands as pressed.
+/** @param {string} id @param {boolean} isPressed */
+export const press = (id, isPressed) => oneOf(`[data-act=${id}]`, HTMLElement).setAttribute("aria-pressed", String(isPressed));
 
 export function listenToKeys() {
   document.addEventListener("keydown", (event) => {
@@ -91,7 +95,7 @@ const titleOf = ({ label, keys: [key] }) => key ? `${label} (${keyWords(key)})` 
 // The icon of a button stands before its word, or above it.
 /** @param {HTMLElement} found @param {string} word */
 function putIcon(found, word) {
-  const icon = word ? iconOf(found.dataset.act) : null;
+  const icon = word ? iconOf(found.dataset.act ?? "") : null;
   if (!icon) return;
   found.replaceChildren(icon, element("span", { className: "word" }, word));
   found.classList.add("command");
@@ -99,13 +103,13 @@ function putIcon(found, word) {
 
 // The buttons of the page: each names its action.
 export function listenToButtons() {
-  for (const found of /** @type {NodeListOf<HTMLElement>} */ (document.querySelectorAll("button[data-act]"))) {
+  for (const found of allOf("button[data-act]", HTMLElement)) {
     const action = actions.find(({ id }) => id === found.dataset.act);
     if (!action) throw new Error(`no action ${found.dataset.act}`);
     found.onclick = (event) => action.run(event);
     found.title = titleOf(action);
     // (its name has the words that it shows: a person who speaks says these)
-    const shown = found.textContent.trim(), isSaid = action.label.toLowerCase().includes(shown.toLowerCase());
+    const shown = (found.textContent ?? "").trim(), isSaid = action.label.toLowerCase().includes(shown.toLowerCase());
     found.setAttribute("aria-label", isSaid ? action.label : `${shown}: ${action.label}`);
     if (action.keys[0]) found.setAttribute("aria-keyshortcuts", action.keys[0].replace("Ctrl", "Control"));
     action.word ||= shown;
@@ -117,10 +121,10 @@ export function listenToButtons() {
 /** @param {Page.Runner} machine */
 export function listenToAble(machine) {
   const able = actions.filter(({ why }) => why).map((action) => ({ action,
-    buttons: /** @type {HTMLElement[]} */ ([...document.querySelectorAll(`button[data-act=${action.id}]`)]) }));
-  machine.panel((state) => able.map(({ action }) => action.why(state)), (state) => {
+    buttons: allOf(`button[data-act=${action.id}]`, HTMLElement) }));
+  machine.panel((state) => able.map(({ action }) => action.why?.(state)), (state) => {
     for (const { action, buttons } of able) {
-      const why = action.why(state);
+      const why = action.why?.(state) ?? null;
       for (const found of buttons) {
         found.setAttribute("aria-disabled", String(why !== null));
         found.title = why ?? titleOf(action);
@@ -136,8 +140,7 @@ export function showKeys() {
   const groups = new Map();
   for (const action of [...actions].sort((one, other) => groupAt(one) - groupAt(other))) {
     if (!action.keys.length) continue;
-    if (!groups.has(action.group)) groups.set(action.group, []);
-    groups.get(action.group).push(action);
+    groups.set(action.group, [...groups.get(action.group) ?? [], action]);
   }
   const parts = [...groups].map(([group, list]) => element("section", {}, element("h3", {}, group),
     element("dl", {}, ...list.flatMap(({ label, keys }) => [

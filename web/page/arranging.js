@@ -6,22 +6,24 @@ import { lengthIn, lengthText, wholeOf } from "../board/index.js";
 import { act, actions, keyWords } from "./actions.js";
 import { nothingPicked } from "./reasons.js";
 
-/** @type {<V extends "turn" | "align">(verb: V, more: Machine.Verbs[V]) => Machine.Gesture} */
-const edit = (verb, more) => /** @type {Machine.Edit} */ ({ kind: "edit", verb, ...more });
+/** @param {string} turn @returns {Machine.Gesture} */
+const turned = (turn) => ({ kind: "edit", verb: "turn", turn });
+/** @param {Machine.Verbs["align"]["to"]} to @returns {Machine.Gesture} */
+const aligned = (to) => ({ kind: "edit", verb: "align", to });
 
 // Each gesture by its name: the words on its button, its label and key, and what it is.
 /** @type {[id: string, words: string, label: string, key: string, gesture: Machine.Gesture][]} */
 const GESTURES = [
-  ["turn-left", "↺", "Turn a quarter counterclockwise", "r", edit("turn", { turn: "r90" })],
-  ["turn-right", "↻", "Turn a quarter clockwise", "Shift+r", edit("turn", { turn: "r270" })],
-  ["mirror", "⇄", "Mirror left and right", "y", edit("turn", { turn: "m0" })],
-  ["flip", "⇅", "Mirror top and bottom", "Shift+y", edit("turn", { turn: "m180" })],
-  ["align-left", "left", "Align the left edges", "Ctrl+ArrowLeft", edit("align", { to: "left" })],
-  ["align-right", "right", "Align the right edges", "Ctrl+ArrowRight", edit("align", { to: "right" })],
-  ["align-top", "top", "Align the upper edges", "Ctrl+ArrowUp", edit("align", { to: "top" })],
-  ["align-bottom", "bottom", "Align the lower edges", "Ctrl+ArrowDown", edit("align", { to: "bottom" })],
-  ["align-upright", "│", "Align the middles on an upright line", "i", edit("align", { to: "upright" })],
-  ["align-level", "─", "Align the middles on a level line", "Shift+i", edit("align", { to: "level" })],
+  ["turn-left", "↺", "Turn a quarter counterclockwise", "r", turned("r90")],
+  ["turn-right", "↻", "Turn a quarter clockwise", "Shift+r", turned("r270")],
+  ["mirror", "⇄", "Mirror left and right", "y", turned("m0")],
+  ["flip", "⇅", "Mirror top and bottom", "Shift+y", turned("m180")],
+  ["align-left", "left", "Align the left edges", "Ctrl+ArrowLeft", aligned("left")],
+  ["align-right", "right", "Align the right edges", "Ctrl+ArrowRight", aligned("right")],
+  ["align-top", "top", "Align the upper edges", "Ctrl+ArrowUp", aligned("top")],
+  ["align-bottom", "bottom", "Align the lower edges", "Ctrl+ArrowDown", aligned("bottom")],
+  ["align-upright", "│", "Align the middles on an upright line", "i", aligned("upright")],
+  ["align-level", "─", "Align the middles on a level line", "Shift+i", aligned("level")],
   ["like-entry", "aperture or tool", "Pick all of the same aperture or tool", "j", { kind: "pickLike", by: "entry" }],
   ["like-kind", "kind", "Pick all of the same kind", "Shift+j", { kind: "pickLike", by: "kind" }],
 ];
@@ -38,7 +40,9 @@ export function nameArranging({ machine }) {
 
 /** @param {string} id @param {string} words */
 function buttonOf(id, words) {
-  const { label, keys: [key], run } = actions.find((action) => action.id === id);
+  const action = actions.find((one) => one.id === id);
+  if (!action) throw new Error(`no action ${id}`);
+  const { label, keys: [key = ""], run } = action;
   return button(words, run, { "data-act": id, "aria-label": label, title: `${label} (${keyWords(key)})`,
     "aria-keyshortcuts": key.replace("Ctrl", "Control") });
 }
@@ -61,6 +65,7 @@ export function arrangingRows({ picked }) {
 // The dialogue of an array: how many columns and rows, and how far one is from the next.
 /** @param {Machine.State} state @returns {Page.Dialogue} */
 export function arrayQuestion({ picked, unit }) {
+  /** @param {string} value @param {string} label */
   const input = (value, label, properties = {}) => element("input", { type: "text", value, id: `array-${label}`, spellcheck: false,
     ...properties });
   const whole = { inputMode: "numeric" }, columns = input("2", "columns", whole), rows = input("1", "rows", whole);
@@ -71,6 +76,8 @@ export function arrayQuestion({ picked, unit }) {
       + "its layer." : "Nothing is picked to copy."),
     field("columns", columns), field(`to the right, ${unit}`, dx), field("rows", rows), field(`up, ${unit}`, dy)],
     choices: [["Copy", "yes"], ["Cancel", "no"]],
-    answer: () => ({ columns: wholeOf(columns.value), rows: wholeOf(rows.value), dx: lengthIn(dx.value, unit), dy: lengthIn(dy.value, unit) }),
+    // (the machine says what of it is no number)
+    answer: () => ({ columns: wholeOf(columns.value) ?? NaN, rows: wholeOf(rows.value) ?? NaN, dx: lengthIn(dx.value, unit) ?? NaN,
+      dy: lengthIn(dy.value, unit) ?? NaN }),
   };
 }

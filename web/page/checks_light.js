@@ -22,7 +22,7 @@ export class ChecksLight {
     context.setTransform(1, 0, 0, 1, 0, 0);
     context.strokeStyle = style.getPropertyValue("--ink-new");
     context.lineWidth = 2 * view.density;
-    const [from, to] = (led.measure ?? [led.place, led.place]).map(({ x, y }) => view.placeOf(x, y)), length = Math.hypot(to.x - from.x, to.y - from.y);
+    const [one, other] = led.measure ?? [led.place, led.place], from = view.placeOf(one.x, one.y), to = view.placeOf(other.x, other.y), length = Math.hypot(to.x - from.x, to.y - from.y);
     const isLine = length >= SHORT * view.density, words = led.value === null ? "" : `${mm(led.value)} mm`;
     if (isLine) this.line(from, to, length);
     else this.ring(from);

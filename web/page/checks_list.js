@@ -28,8 +28,8 @@ const counted = (count, what, many = `${what}s`) => `${count} ${count === 1 ? wh
 /** @param {string} kind @param {Map<string, number>} limits */
 function titleOf(kind, limits) {
   const rule = RULES.get(kind);
-  if (!rule) return TITLES[kind];
-  return `${rule.title[0].toUpperCase()}${rule.title.slice(1)}, ${rule.isMost ? "more" : "less"} than ${mm(limits.get(kind) ?? 0)} mm`;
+  if (!rule) return TITLES[kind] ?? kind;
+  return `${rule.title.slice(0, 1).toUpperCase()}${rule.title.slice(1)}, ${rule.isMost ? "more" : "less"} than ${mm(limits.get(kind) ?? 0)} mm`;
 }
 
 // A kind is looked for where it was checked: nets where there are points, a rule where it has a limit.

@@ -4,7 +4,7 @@
 import { AcceptDialogue } from "./accept_dialogue.js";
 import { ChecksLight } from "./checks_light.js";
 import { RulesChoice, areAlike, isRulesFile, rulesOf } from "./checks_rules.js";
-import { button, byId, element } from "./dom.js";
+import { allOf, button, byId, element } from "./dom.js";
 import { isAcceptedFile, mm, readAccepted, uncheckedWords } from "../nets/index.js";
 import { joinedAccepted, keptWords, sorted, whoWords, withAccepted, withoutAccepted } from "./checks_list.js";
 import { layerOf } from "../machine/index.js";
@@ -38,6 +38,12 @@ export class ChecksPanel {
     this.folded = new Set(["accepted", "gone", "no point"]);
     /** @type {Map<string, number>} */
     this.listed = new Map();
+    this.said = element("p", { id: "checks-said", className: "hint", role: "status" });
+    this.progress = element("progress", { id: "checks-progress", max: 1, "aria-label": "how much of the check is done" });
+    this.words = element("span", { id: "checks-words", className: "hint" });
+    this.stopping = button("stop", () => this.stop(), { id: "checks-stop" });
+    this.under = element("p", { id: "checks-under", className: "buttons", hidden: true }, this.progress, this.stopping, this.words);
+    this.list = element("div", { id: "nets-findings", className: "lines" });
     this.build();
     act("check", "View", "Check nets and rules", [], () => this.check(), noLayer);
     machine.panel(({ nets: its, checks, layers }) => [its.findings, its.isBefore, its.led, its.netlist, checks, layers], () => this.show());
@@ -45,14 +51,15 @@ export class ChecksPanel {
   }
 
   build() {
-    this.said = element("p", { id: "checks-said", className: "hint", role: "status" });
-    this.progress = element("progress", { id: "checks-progress", max: 1, "aria-label": "how much of the check is done" });
-    this.words = element("span", { id: "checks-words", className: "hint" });
-    this.stopping = button("stop", () => this.stop(), { id: "checks-stop" });
-    this.under = element("p", { id: "checks-under", className: "buttons", hidden: true }, this.progress, this.stopping, this.words);
-    this.list = element("div", { id: "nets-findings", className: "lines" });
     byId("checks").append(element("h2", {}, "Check ", element("small", { id: "checks-count" })), ...this.rules.parts,
       element("p", { className: "buttons" }, button("check", () => this.check(), { id: "nets-check" })), this.under, this.said, this.list);
+  }
+
+  // What was found, where some of it is shown.
+  get found() {
+    const { findings } = this.nets.nets;
+    if (!findings) throw new Error("nothing was checked");
+    return findings;
   }
 
   get state() {
@@ -139,13 +146,13 @@ export class ChecksPanel {
   // The place of a finding, with the layers that it is of.
   /** @param {Finding} finding */
   lead(finding) {
-    const { measure, place, shown } = finding, [from, to] = measure ?? [place, place], { labels } = this.nets.nets.findings;
+    const { measure, place, shown } = finding, [from, to] = measure ?? [place, place], { labels } = this.found;
     const around = Math.max(LEAST, TIMES * Math.hypot(to.x - from.x, to.y - from.y));
     const box = { left: Math.min(from.x, to.x) - around, low: Math.min(from.y, to.y) - around, right: Math.max(from.x, to.x) + around,
       high: Math.max(from.y, to.y) + around };
     this.nets.set({ led: finding });
     for (const name of shown) this.machine.send({ kind: "lead", name, box: null });
-    this.machine.send({ kind: "lead", name: place.layer === null ? null : labels[place.layer], box });
+    this.machine.send({ kind: "lead", name: place.layer === null ? null : labels[place.layer] ?? null, box });
   }
 
   // Drawing.
@@ -178,14 +185,14 @@ export class ChecksPanel {
 
   /** @param {import("./checks_list.js").Sorted} found */
   rows({ groups, accepted, gone, summary }) {
-    const { findings } = this.nets.nets;
+    const findings = this.found;
     if (findings.misfit && !findings.limits.length) return [element("p", { className: "fault" }, findings.misfit)];
     const nothing = "Nothing to compare with: drop a netlist (IPC-D-356) on the page, or choose rules.";
     const folds = [...groups.map((group) => this.fold(group.kind, `${group.title}: ${group.findings.length}`, group.findings, (finding) => this.findingRow(finding))),
       this.fold("accepted", `Accepted: ${accepted.length}`, accepted, ({ finding, by }) => this.acceptedRow(finding, by)),
       this.fold("gone", `Accepted and gone: ${gone.length}`, gone, (kept) => this.goneRow(kept)),
       this.fold("no point", `Copper without a point: ${findings.loose.length}`, findings.loose, (loose) => this.looseRow(loose))];
-    return [element("p", {}, element("b", {}, summary || nothing)), ...folds.filter((fold) => fold !== null),
+    return [element("p", {}, element("b", {}, summary || nothing)), ...folds.flatMap((fold) => fold ?? []),
       ...findings.unchecked.map((unchecked) => element("p", { className: "hint" }, uncheckedWords(unchecked)))];
   }
 
@@ -219,15 +226,15 @@ export class ChecksPanel {
   // A button that leads to a finding's place: of one with several lines all of them.
   /** @param {Finding} finding @param {string} key @param {boolean} isLed */
   leading(finding, key, isLed) {
-    const { lines, value, short, place, kind } = finding, on = place.layer === null ? "" : ` on ${this.label(this.nets.nets.findings.labels[place.layer])}`;
-    const words = lines.length > 1 ? this.withPitch(lines, kind) : value === null ? lines[0] : `${mm(value)} mm: ${short}${on}`;
-    return button(words, () => this.lead(finding), { title: lines[0], "data-key": key, "aria-pressed": String(isLed) });
+    const { lines, value, short, place, kind } = finding, on = place.layer === null ? "" : ` on ${this.label(this.found.labels[place.layer] ?? "")}`;
+    const [first = ""] = lines, words = lines.length > 1 ? this.withPitch(lines, kind) : value === null ? first : `${mm(value)} mm: ${short}${on}`;
+    return button(words, () => this.lead(finding), { title: first, "data-key": key, "aria-pressed": String(isLed) });
   }
 
   // A short may be a gap that is too narrow for the pitch.
   /** @param {string[]} lines @param {string} kind */
   withPitch([first, ...rest], kind) {
-    const pitch = `${Number((this.nets.nets.findings.pitch / 1000).toFixed(1))} µm`;
+    const pitch = `${Number((this.found.pitch / 1000).toFixed(1))} µm`;
     return [kind === "short" ? `${first}, at ${pitch}: gaps under ${pitch} look closed` : first, ...rest].join("\n");
   }
 
@@ -249,9 +256,9 @@ export class ChecksPanel {
 
   /** @param {import("../nets/index.js").Loose} loose */
   looseRow({ place, area }) {
-    const { labels } = this.nets.nets.findings, box = { left: place.x - LEAST, low: place.y - LEAST, right: place.x + LEAST, high: place.y + LEAST };
-    return element("li", { className: "finding" }, button(`no point: copper of ${area.toFixed(4)} mm² on ${this.label(labels[place.layer])}`,
-      () => this.machine.send({ kind: "lead", name: labels[place.layer], box })));
+    const name = this.found.labels[place.layer] ?? "", box = { left: place.x - LEAST, low: place.y - LEAST, right: place.x + LEAST, high: place.y + LEAST };
+    return element("li", { className: "finding" }, button(`no point: copper of ${area.toFixed(4)} mm² on ${this.label(name)}`,
+      () => this.machine.send({ kind: "lead", name, box })));
   }
 
   /** @param {string} name */
@@ -262,12 +269,12 @@ export class ChecksPanel {
   // Draws the list anew. What had the focus has it again, and the list stays where it was scrolled to.
   /** @param {(Node | string)[]} rows */
   draw(rows) {
-    const { list } = this, { activeElement } = document, focus = list.contains(activeElement) ? /** @type {HTMLElement} */ (activeElement).dataset.key : undefined;
+    const { list } = this, { activeElement } = document;
+    const focus = activeElement instanceof HTMLElement && list.contains(activeElement) ? activeElement.dataset.key : undefined;
     const { scrollTop } = list;
     list.replaceChildren(...rows);
     list.scrollTop = scrollTop;
     if (focus === undefined) return;
-    const all = /** @type {HTMLElement[]} */ ([...list.querySelectorAll("[data-key]")]);
-    all.find(({ dataset }) => dataset.key === focus)?.focus({ preventScroll: true });
+    allOf("[data-key]", HTMLElement, list).find(({ dataset }) => dataset.key === focus)?.focus({ preventScroll: true });
   }
 }

@@ -12,8 +12,8 @@ const MOST_BYTES = 65_536;
 /** @param {Uint8Array} bytes */
 export function isRulesFile(bytes) {
   if (bytes.length > MOST_BYTES) return false;
-  const first = latin1(bytes).split(/\r\n|\r|\n/).map((line) => line.split("#")[0].trim()).find((line) => line !== "");
-  return first !== undefined && RULES.has(first.split(/[ \t=]+/)[0]);
+  const first = latin1(bytes).split(/\r\n|\r|\n/).map((line) => (line.split("#")[0] ?? "").trim()).find((line) => line !== "");
+  return first !== undefined && RULES.has(first.split(/[ \t=]+/)[0] ?? "");
 }
 
 // What a file of rules says, or why it is refused.

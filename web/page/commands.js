@@ -1,7 +1,7 @@
 // The table of all commands: each with its group, its label, its keys, what it does, and why it cannot be done now. Buttons, keys,
 // the list of commands and the page of keys are made from it.
 
-import { act, showKeys } from "./actions.js";
+import { act, press, showKeys } from "./actions.js";
 import { activeBy } from "./layer_panel.js";
 import { byId } from "./dom.js";
 import { changeLook, changeUnit } from "./looks.js";
@@ -19,8 +19,12 @@ import { nameLooking } from "./looking.js";
 import { nameTelling } from "./telling_actions.js";
 import { switchBoard } from "./board_view.js";
 
+// The name of the chosen layer; none has the empty name.
+/** @param {Page.Runner} machine */
+const chosenIn = ({ state }) => state.active ?? "";
+
 // What a key does to what is picked, and else to the view.
-/** @param {Page.Parts} page @param {number} x @param {number} y */
+/** @param {Page.Parts} page @param {number} x @param {number} y @returns {Page.Action["run"]} */
 const step = ({ machine, view, held }, x, y) => (event) => {
   const { grid, picked, work, queue } = machine.state, length = grid * (event.shiftKey ? 10 : 1), way = view.wayOf(x, -y);
   // (where something is under way, what is picked is known when its turn comes)
@@ -31,22 +35,21 @@ const step = ({ machine, view, held }, x, y) => (event) => {
 
 /** @param {Page.Parts} page */
 function nameFiles({ machine, boards }) {
-  const state = () => machine.state;
   /** @param {"plot" | "give" | "anew"} kind */
   const ask = (kind) => () => machine.send({ kind: "ask", question: { kind } });
   act("open", "Files", "Open files", ["Ctrl+o"], () => byId("files").click());
   act("open-folder", "Files", "Open a folder", ["Ctrl+Shift+o"], () => byId("folder").click());
   act("example", "Files", "Try an example: a small board", [], () => machine.await(openExample(machine, boards)));
   act("save", "Files", "Save all layers", ["Ctrl+s"], () => machine.gesture({ kind: "save" }), noLayer);
-  act("save-layer", "Files", "Save this layer", ["Ctrl+Shift+s"], () => machine.gesture({ kind: "save", name: state().active }), noLayer);
+  act("save-layer", "Files", "Save this layer", ["Ctrl+Shift+s"], () => machine.gesture({ kind: "save", name: chosenIn(machine) }), noLayer);
   act("save-whole", "Files", "Save all layers with attributes", [], () => machine.gesture({ kind: "save", isWhole: true }), noLayer);
   act("save-layer-whole", "Files", "Save this layer with attributes", [],
-    () => machine.gesture({ kind: "save", name: state().active, isWhole: true }), noLayer);
-  act("plot", "Files", "Save a plot", ["Ctrl+p"], () => state().layers.length ? ask("plot")()
+    () => machine.gesture({ kind: "save", name: chosenIn(machine), isWhole: true }), noLayer);
+  act("plot", "Files", "Save a plot", ["Ctrl+p"], () => machine.state.layers.length ? ask("plot")()
     : machine.send({ kind: "say", text: "No layer is open.", isFault: true }), noLayer);
   act("give", "Files", "Save a picture in colours", ["Shift+p"], ask("give"), nothingOpen);
   act("save-script", "Files", "Save the script with its files", ["Ctrl+e"], () => askForScript(machine));
-  act("close-layer", "Files", "Close the chosen layer", [], () => machine.gesture({ kind: "close", name: state().active }), noLayer);
+  act("close-layer", "Files", "Close the chosen layer", [], () => machine.gesture({ kind: "close", name: chosenIn(machine) }), noLayer);
   act("new-board", "Files", "Another board, in a tab of its own", [], () => boards.add());
   act("close-board", "Files", "Close the board", [], () => machine.gesture({ kind: "closeAll" }),
     (now) => isBlank(now) && boards.list.length < 2 ? "No board is open." : null);
@@ -55,21 +58,23 @@ function nameFiles({ machine, boards }) {
 
 /** @param {Page.Parts} page */
 function nameEdits(page) {
-  const { machine } = page, edit = (verb, more = {}) => () => machine.gesture({ kind: "edit", verb, ...more });
-  act("undo", "Edit", "Undo", ["Ctrl+z"], edit("undo"), nothingDone);
-  act("redo", "Edit", "Redo", ["Ctrl+y", "Ctrl+Shift+z"], edit("redo"), nothingUndone);
-  act("delete", "Edit", "Delete what is picked", ["Delete", "Backspace"], edit("delete"), nothingPicked);
-  act("copy", "Edit", "Copy", ["Ctrl+c"], () => machine.gesture({ kind: "copy" }), nothingPicked);
+  const { machine } = page;
+  /** @param {Machine.Gesture} gesture */
+  const does = (gesture) => () => machine.gesture(gesture);
+  act("undo", "Edit", "Undo", ["Ctrl+z"], does({ kind: "edit", verb: "undo" }), nothingDone);
+  act("redo", "Edit", "Redo", ["Ctrl+y", "Ctrl+Shift+z"], does({ kind: "edit", verb: "redo" }), nothingUndone);
+  act("delete", "Edit", "Delete what is picked", ["Delete", "Backspace"], does({ kind: "edit", verb: "delete" }), nothingPicked);
+  act("copy", "Edit", "Copy", ["Ctrl+c"], does({ kind: "copy" }), nothingPicked);
   act("paste", "Edit", "Paste into the chosen layer", ["Ctrl+v"], () => {
     const far = 10 * machine.state.grid;
     return machine.gesture({ kind: "edit", verb: "paste", dx: far, dy: far });
   }, ({ copied }) => copied.length ? null : "Nothing was copied.");
   act("pick-all", "Edit", "Pick all items of the chosen layer", ["Ctrl+a"],
-    () => machine.gesture({ kind: "picks", all: machine.state.active }), noLayer);
-  act("dark", "Edit", "Make dark", ["d"], edit("polarity", { value: "dark" }), nothingPicked);
-  act("clear", "Edit", "Make clear", ["x"], edit("polarity", { value: "clear" }), nothingPicked);
-  act("earlier", "Edit", "One place earlier in the list", ["["], edit("reorder", { by: -1 }), nothingPicked);
-  act("later", "Edit", "One place later in the list", ["]"], edit("reorder", { by: 1 }), nothingPicked);
+    () => machine.gesture({ kind: "picks", all: chosenIn(machine) }), noLayer);
+  act("dark", "Edit", "Make dark", ["d"], does({ kind: "edit", verb: "polarity", value: "dark" }), nothingPicked);
+  act("clear", "Edit", "Make clear", ["x"], does({ kind: "edit", verb: "polarity", value: "clear" }), nothingPicked);
+  act("earlier", "Edit", "One place earlier in the list", ["["], does({ kind: "edit", verb: "reorder", by: -1 }), nothingPicked);
+  act("later", "Edit", "One place later in the list", ["]"], does({ kind: "edit", verb: "reorder", by: 1 }), nothingPicked);
   for (const [key, x, y, words] of /** @type {const} */ ([["ArrowLeft", -1, 0, "left"], ["ArrowRight", 1, 0, "right"],
     ["ArrowUp", 0, 1, "up"], ["ArrowDown", 0, -1, "down"]])) {
     act(`step-${words}`, "Edit", `Move ${words} what is picked, with Shift ten steps; else the view`,
@@ -85,8 +90,8 @@ function nameTools({ machine, view, pointer, marks, panels }) {
   act("pan", "Tools", "Move the view", ["h"], tool("pan"));
   act("measure", "Tools", "Measure", ["m"], tool("measure"));
   act("net", "Tools", "Net: light what hangs together", ["n"], tool("net"));
-  for (const [name, key] of [["flash", "1"], ["draw", "2"], ["arc", "3"], ["region", "4"], ["hit", "5"], ["rout", "6"]]) {
-    act(name, "Tools", drawingTools[name].label, [key], tool(name), noTool(name));
+  for (const [name, key] of /** @type {const} */ ([["flash", "1"], ["draw", "2"], ["arc", "3"], ["region", "4"], ["hit", "5"], ["rout", "6"]])) {
+    act(name, "Tools", drawingTools[name]?.label ?? name, [key], tool(name), noTool(name));
   }
   act("end", "Tools", "End a region or a rout", ["Enter"], () => machine.send({ kind: "endMaking" }));
   act("escape", "Tools", "Let go", ["Escape"], () => {
@@ -116,9 +121,8 @@ function nameGoing({ machine, view, going, keepLooks }) {
   act("go", "View", "Go to a point", ["g"], () => machine.send({ kind: "ask", question: { kind: "go" } }));
   act("link", "View", "Copy a link to this view", [], () => going.copyLink());
   view.onMirror = () => {
-    for (const [id, isSo] of [["below", view.isMirrored], ["quarter", view.quarters > 0]]) {
-      document.querySelector(`[data-act=${id}]`).setAttribute("aria-pressed", String(isSo));
-    }
+    press("below", view.isMirrored);
+    press("quarter", view.quarters > 0);
   };
   act("below", "View", "From below, or from above", ["Shift+b"], () => {
     view.mirror(!view.isMirrored);
@@ -138,7 +142,7 @@ function nameViews(page) {
   act("zoom-in", "View", "Closer", ["+", "="], zoomBy(1.5));
   act("zoom-out", "View", "Farther", ["-"], zoomBy(1 / 1.5));
   act("only", "View", "Show the chosen layer alone, or those before", ["o"],
-    () => machine.send({ kind: "only", name: machine.state.active }), noLayer);
+    () => machine.send({ kind: "only", name: chosenIn(machine) }), noLayer);
   act("toggle", "View", "Show or hide the chosen layer", ["t"], send({ kind: "toggle" }), noLayer);
   act("all", "View", "Show all layers", ["a"], send({ kind: "show", name: null, isShown: true }), noLayer);
   act("none", "View", "Hide all layers", [], send({ kind: "show", name: null, isShown: false }), noLayer);

@@ -3,7 +3,7 @@
 
 import { Converter } from "./converter.js";
 import { Link } from "./station.js";
-import { byId } from "./dom.js";
+import { textOf } from "./dom.js";
 import { plural } from "../board/index.js";
 import { refusalWords } from "../machine/index.js";
 import { unpacked } from "./contents.js";
@@ -54,7 +54,7 @@ export class ComparedBoards {
   /** @param {Given[]} sides @param {number} pitch */
   async compare(sides, pitch) {
     this.end();
-    const [source, module] = await Promise.all(["comparing-worker", "module"].map((id) => unpacked(byId(id).textContent)));
+    const [source, module] = await Promise.all(["comparing-worker", "module"].map((id) => unpacked(textOf(id))));
     // (another one may have begun meanwhile)
     this.end();
     /** @type {Link} */
@@ -75,7 +75,7 @@ export class ComparedBoards {
       if (this.link !== link) return;
       this.heard(found);
     }
-    const { words } = /** @type {{ words: string }} */ (await link.call("summary", { outcomes: found.rows.map(({ outcome }) => outcome) }));
+    const { words } = /** @type {{ words: string }} */ (await link.call("summary", { outcomes: found.rows.flatMap((row) => row?.outcome ?? []) }));
     if (this.link !== link) return;
     found.summary = words;
     this.heard(found);
@@ -96,8 +96,8 @@ export class ComparedBoards {
   /** @param {Link} link @param {number} at @param {RefusedLayer} refused */
   async mend(link, at, { place, kind, bytes, reply }) {
     const { converted } = /** @type {{ converted: Converted }} */ (await this.converter.call("first", { layer: kind, bytes }));
-    const made = converted?.bytes ?? null, why = refusalWords(reply, bytes, kind);
-    const words = made ? `it was converted to be read: ${plural(converted.changes.length, "change")}: ${converted.changes.join("; ")}` : why;
+    const made = converted?.bytes ?? null, changes = converted?.changes ?? [], why = refusalWords(reply, bytes, kind);
+    const words = made ? `it was converted to be read: ${plural(changes.length, "change")}: ${changes.join("; ")}` : why;
     const { reply: again } = /** @type {{ reply: string | null }} */ (await link.call("mend", { at, place, bytes: made, words }));
     if (made && again !== null) await link.call("mend", { at, place, bytes: null, words: why });
   }

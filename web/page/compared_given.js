@@ -20,12 +20,19 @@ import { withUnpacked } from "../zip/index.js";
 
 /** @param {Machine.Told[]} told @param {Record<string, Machine.File>} files @param {Machine.Layer[]} layers @param {Machine.File | null} job */
 function boardOf(told, files, layers, job) {
+  /** @param {string} id */
+  const fileOf = (id) => {
+    const found = files[id];
+    if (!found) throw new Error("a file of it is missing");
+    return found;
+  };
   const accepted = told.filter(({ reply }) => reply.startsWith("ok"));
-  const lines = accepted.map(({ line, file }) => (file === undefined ? { line } : { line, bytes: files[file].bytes }));
-  const loads = accepted.filter(({ file }) => file !== undefined).map(({ line, file }) => {
-    const [, name, kind] = wordsOf(line), layer = layers.find((one) => one.name === name) ?? null, { bytes } = files[file];
+  const lines = accepted.map(({ line, file }) => (file === undefined ? { line } : { line, bytes: fileOf(file).bytes }));
+  const loads = accepted.flatMap(({ line, file }) => {
+    if (file === undefined) return [];
+    const [, name = "", kind] = wordsOf(line), layer = layers.find((one) => one.name === name) ?? null, its = fileOf(file);
     // (of a page that was loaded again the files have numbers for names, and the layers know from which file they came)
-    return { name, kind: /** @type {Board.LayerKind} */ (kind), fileName: layer?.file ?? files[file].name, bytes: asShown(layer, layers, bytes) };
+    return [{ name, kind: /** @type {Board.LayerKind} */ (kind), fileName: layer?.file ?? its.name, bytes: asShown(layer, layers, its.bytes) }];
   });
   return { lines, layers: loads, job };
 }
@@ -41,7 +48,10 @@ export async function givenOfBoard(board, state) {
   if (now) return { ...common, board: boardOf(now.told, now.files, now.layers, now.job) };
   const { records, files, looks } = await board.kept.read();
   const named = Object.fromEntries(files.map(([id, bytes]) => [id, { name: id, bytes }])), told = records.flat();
-  for (const { file, layer, path } of told) if (file !== undefined) named[file].name = layer?.file ?? path.replace(/^.*\//, "");
+  for (const { file = "", layer, path } of told) {
+    const its = named[file];
+    if (its) its.name = layer?.file ?? path?.replace(/^.*\//, "") ?? its.name;
+  }
   return { ...common, board: boardOf(told, named, /** @type {Machine.Layer[]} */ (looks?.layers ?? []), looks?.job ?? null) };
 }
 
@@ -53,12 +63,12 @@ async function unpackedGiven(title, read) {
 }
 
 /** @param {string[]} names */
-const titleOfFiles = (names) => (names.length === 1 ? names[0] : plural(names.length, "file"));
+const titleOfFiles = (names) => (names.length === 1 ? names[0] ?? "" : plural(names.length, "file"));
 
 // What was chosen in a field of files: the files, or those of a folder.
 /** @param {HTMLInputElement} input */
 export async function givenOfInput(input) {
-  const files = [...input.files], [folder, rest] = (files[0]?.webkitRelativePath ?? "").split("/");
+  const files = [...input.files ?? []], [folder = "", rest] = (files[0]?.webkitRelativePath ?? "").split("/");
   input.value = "";
   return unpackedGiven(rest ? folder : titleOfFiles(files.map(({ name }) => name)), await readAll(files));
 }
@@ -66,5 +76,5 @@ export async function givenOfInput(input) {
 // What was dropped: files, or folders by their names.
 /** @param {import("./files.js").Dropped[]} dropped */
 export async function givenOfDrop(dropped) {
-  return unpackedGiven(titleOfFiles(dropped.map(({ entry, file }) => entry?.name ?? file?.name ?? "")), await readDropped(dropped));
+  return unpackedGiven(titleOfFiles(dropped.map((one) => ("file" in one ? one.file?.name : one.entry.name) ?? "")), await readDropped(dropped));
 }

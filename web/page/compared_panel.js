@@ -54,7 +54,7 @@ export class ComparedPanel {
 
   listen() {
     const { files, folder, pitch, dialog, command } = this.parts;
-    for (const input of [files, folder]) input.onchange = () => input.files.length && this.take(givenOfInput(input));
+    for (const input of [files, folder]) input.onchange = () => input.files?.length && this.takeRead(givenOfInput(input));
     pitch.onchange = () => this.compare();
     dialog.onkeydown = (event) => this.key(event);
     dialog.onclose = () => this.picture.stop();
@@ -66,6 +66,7 @@ export class ComparedPanel {
   // What is dropped here is the other board, and opened by nobody else.
   /** @param {HTMLElement} target */
   takeDrops(target) {
+    /** @param {boolean} isOver */
     const over = (isOver) => target.classList.toggle("over", isOver);
     target.addEventListener("dragover", () => over(true));
     target.addEventListener("dragleave", () => over(false));
@@ -76,7 +77,7 @@ export class ComparedPanel {
       byId("dropping").hidden = true;
       const dropped = droppedOf(event.dataTransfer), why = whyNot(this.machine.state);
       if (why || !dropped.length) this.machine.send({ kind: "say", text: why ?? "Nothing in that drop is a file.", isFault: true });
-      else this.take(givenOfDrop(dropped));
+      else this.takeRead(givenOfDrop(dropped));
     });
   }
 
@@ -89,7 +90,7 @@ export class ComparedPanel {
     this.drawChoices();
     this.draw(this.found);
     if (this.found && this.told !== machine.state.told) this.say("The board was changed since it was compared: compare again.");
-    if (!this.sources.length) choose.querySelector("button").focus();
+    if (!this.sources.length) choose.querySelector("button")?.focus();
   }
 
   forget() {
@@ -105,17 +106,23 @@ export class ComparedPanel {
     const words = this.sources.length ? "Another board:" : "Drop the other board here, a ZIP file, a folder or files of it, or choose:";
     redraw(parts.choose, element("span", { className: "hint" }, words), button("files", () => parts.files.click(), { id: "two-boards-open" }),
       button("folder", () => parts.folder.click()), ...others.map((board) =>
-        button(nameOf(board), () => this.take(null, () => givenOfBoard(board, null)), { className: "two-boards-tab", title: "the board of this tab" })));
+        button(nameOf(board), () => this.take(() => givenOfBoard(board, null)), { className: "two-boards-tab", title: "the board of this tab" })));
     parts.choose.dataset.isEmpty = String(!this.sources.length);
   }
 
-  // The other board: what was read once, or what reads it.
-  /** @param {Promise<Given> | null} reading @param {() => Promise<Given>} source */
-  take(reading, source = () => reading) {
+  // The other board, which is read once.
+  /** @param {Promise<Given>} reading */
+  takeRead(reading) {
+    return this.take(() => reading);
+  }
+
+  // The other board, by what reads it.
+  /** @param {() => Promise<Given>} source */
+  take(source) {
     const { boards, machine } = this, whyOf = whyNot(machine.state);
     if (whyOf) return machine.send({ kind: "say", text: whyOf, isFault: true });
     if (this.board !== boards.shown) this.forget();
-    this.sources = [() => givenOfBoard(boards.shown, machine.state), source];
+    this.sources = [() => givenOfBoard(boards.board, machine.state), source];
     this.open();
     return this.compare();
   }
@@ -138,7 +145,7 @@ export class ComparedPanel {
       if (this.sources === sources) await compared.compare(sides, Number(this.parts.pitch.value));
     } catch (fault) {
       // (what was ended for another comparison is no fault)
-      if (this.sources === sources && fault.message !== OVER) this.say(`They cannot be compared: ${faultWords(fault)}`, true);
+      if (this.sources === sources && faultWords(fault) !== OVER) this.say(`They cannot be compared: ${faultWords(fault)}`, true);
     }
   }
 
@@ -171,6 +178,7 @@ export class ComparedPanel {
 
   /** @param {Found} found */
   rows({ pairs, rows, onlyFirst, onlySecond }) {
+    /** @param {import("./compared_boards.js").Alone[]} list @param {string} words */
     const alone = (list, words) => list.map(({ title, file }) =>
       element("li", { className: "alone" }, element("b", {}, title), element("small", {}, `${words}: ${file}`)));
     return [...pairs.map(({ title, files }, at) => {
@@ -186,7 +194,7 @@ export class ComparedPanel {
   // A pair, at its first place.
   /** @param {number} pair */
   choose(pair) {
-    return this.go({ pair, place: this.found.rows[pair].places ? 0 : -1 });
+    return this.go({ pair, place: this.found?.rows[pair]?.places ? 0 : -1 });
   }
 
   // The next place, or one before; behind the last one the first comes again.
@@ -194,9 +202,11 @@ export class ComparedPanel {
   step(by) {
     const places = this.places(), { at } = this;
     if (!places.length) return undefined;
-    const order = ({ pair, place }) => pair * 1e9 + place, now = at ? order(at) : -1;
+    /** @param {At} at */
+    const order = ({ pair, place }) => pair * 1e9 + place;
+    const now = at ? order(at) : -1;
     const next = by > 0 ? places.find((one) => order(one) > now) ?? places[0] : [...places].reverse().find((one) => order(one) < now) ?? places[places.length - 1];
-    return this.go(next);
+    return next && this.go(next);
   }
 
   /** @param {At} at */
@@ -216,15 +226,17 @@ export class ComparedPanel {
 
   // Shows the place that is chosen, with its picture as soon as that is there.
   async ask() {
-    const { at, found, parts, picture, zoom } = this, row = found.rows[at.pair], hasPlace = at.place >= 0, places = this.places();
+    const { at, found, parts, picture, zoom } = this, row = at && found?.rows[at.pair];
+    if (!at || !found || !row) return undefined;
+    const hasPlace = at.place >= 0, places = this.places();
     const number = places.findIndex(({ pair, place }) => pair === at.pair && place === at.place) + 1;
     const ofAll = places.length === row.places ? "" : `, ${number} of ${places.length} in all`;
     parts.where.textContent = `${row.title}: ${hasPlace ? `place ${at.place + 1} of ${row.places}${ofAll}` : row.words}`;
     this.parts.place.dataset.has = hasPlace ? "yes" : "no";
     this.parts.place.dataset.place = "";
     if (!hasPlace) return this.clear(row.besides);
-    const shown = await this.compared.place({ ...at, ...picture.sides(), zoom }).catch((fault) => {
-      if (fault.message !== OVER) this.say(`The place cannot be shown: ${faultWords(fault)}`, true);
+    const shown = await this.compared.place({ ...at, ...picture.sides(), zoom }).catch((/** @type {unknown} */ fault) => {
+      if (faultWords(fault) !== OVER) this.say(`The place cannot be shown: ${faultWords(fault)}`, true);
       return null;
     });
     if (!shown || this.at !== at || this.zoom !== zoom) return undefined;
@@ -246,14 +258,17 @@ export class ComparedPanel {
 
   // The place on the board that is shown, over which the panel closes.
   show() {
-    const { at, found, machine, shown: { box: { left, low, right, high } } } = this, side = found.sides.findIndex(({ isShown }) => isShown);
+    const { at, found, machine, shown } = this;
+    if (!at || !found || !shown) return;
+    const { box: { left, low, right, high } } = shown, side = found.sides.findIndex(({ isShown }) => isShown);
     this.parts.dialog.close();
-    machine.send({ kind: "lead", name: found.rows[at.pair].names[side],
+    machine.send({ kind: "lead", name: found.rows[at.pair]?.names[side] ?? null,
       box: { left: left - AROUND, low: low - AROUND, right: right + AROUND, high: high + AROUND } });
   }
 
   async save() {
     const { compared, found } = this;
+    if (!found) return;
     this.isSaving = true;
     this.draw(found);
     this.say("making the report ..");

@@ -3,10 +3,10 @@
 import { button, byId, element } from "./dom.js";
 
 /** The pitches by which pictures are compared, in nm. */
-const PITCHES = [["25400", "25.4 µm"], ["10000", "10 µm"], ["5000", "5 µm"]];
+const PITCHES = /** @type {const} */ ([["25400", "25.4 µm"], ["10000", "10 µm"], ["5000", "5 µm"]]);
 const WAYS = /** @type {const} */ ([["both", "both colours"], ["slider", "slider"], ["blink", "blink"]]);
 /** What its colours are. */
-const MARKS = [["both", "in both"], ["a", "in A alone"], ["b", "in B alone"], ["frame", "what changed"]];
+const MARKS = /** @type {const} */ ([["both", "in both"], ["a", "in A alone"], ["b", "in B alone"], ["frame", "what changed"]]);
 
 /**
  * What the buttons of the panel do.

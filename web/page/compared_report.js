@@ -74,10 +74,10 @@ async function addPair(written, compared, { title, words, files, besides, places
   for (let place = 0; place < Math.min(places, MOST_PLACES); place++) {
     const shown = await compared.place({ pair, place, ...PICTURE });
     if (!shown) throw new Error("the comparison is over.");
-    const [first, second, both] = sheetsOf(shown, COLOURS.dark), more = shown.more ? [`and ${shown.more} more`] : [];
+    const { a, b, both } = sheetsOf(shown, COLOURS.dark), more = shown.more ? [`and ${shown.more} more`] : [];
     written.add("h3", `${place + 1}. ${shown.line}`);
     written.body.append(written.list([...shown.changes, ...more]));
-    written.add("div", await written.figure(first, "A: what B lacks is red", "a"), await written.figure(second, "B: what A lacks is blue", "b"),
+    written.add("div", await written.figure(a, "A: what B lacks is red", "a"), await written.figure(b, "B: what A lacks is blue", "b"),
       await written.figure(both, `both, with frames around what changed; pixels of ${shown.window.pitch} nm`, "both"));
   }
   if (places > MOST_PLACES) written.add("p", `${places - MOST_PLACES} more places without pictures`);
@@ -90,13 +90,13 @@ async function addPair(written, compared, { title, words, files, besides, places
  * @returns {Promise<string>}
  */
 export async function reportOf(compared, { sides, rows, onlyFirst, onlySecond, notes, summary }) {
-  const written = new Written(), row = (...cells) => written.element("tr", {}, ...cells.map((cell) => written.element("td", {}, cell)));
+  const written = new Written(), row = (/** @type {string[]} */ ...cells) => written.element("tr", {}, ...cells.map((cell) => written.element("td", {}, cell)));
   written.add("h1", "Two boards compared");
   for (const [at, { title }] of sides.entries()) written.add("p", `${"AB"[at]}: ${title}`);
   written.add("p", summary);
   if (notes.length) written.body.append(written.list(notes));
   const alone = [...onlyFirst.map(({ title, file }) => row(title, "only in A", file)), ...onlySecond.map(({ title, file }) => row(title, "only in B", file))];
-  written.add("table", ...rows.map(({ title, words, besides }) => row(title, words, besides.length ? "with notes below" : "")), ...alone);
-  for (const [at, pair] of rows.entries()) if (!pair.isSame || pair.besides.length) await addPair(written, compared, pair, at);
+  written.add("table", ...rows.flatMap((pair) => pair ? [row(pair.title, pair.words, pair.besides.length ? "with notes below" : "")] : []), ...alone);
+  for (const [at, pair] of rows.entries()) if (pair && (!pair.isSame || pair.besides.length)) await addPair(written, compared, pair, at);
   return `${HEAD}${written.body.outerHTML}\n</html>\n`;
 }

@@ -23,20 +23,16 @@ export class ComparingView {
     this.found = comparison?.window ?? null;
     if (!comparison || !view.isWhole || view.isWanted || comparison.pair?.some(({ isOpened }) => isOpened)) return;
     const window = view.window(), isAsked = [work?.gesture, ...queue].some((gesture) => gesture?.kind === "compareView");
-    if (comparison.pair && pitchOf(window) >= pitchOf(comparison.whole)) this.showWhole(comparison);
-    else if (!isAsked && window !== comparison.window && window !== this.tried) this.compare(window);
+    // (the pictures of the window around both are shown again)
+    if (comparison.pair && pitchOf(window) >= pitchOf(comparison.whole)) {
+      this.tried = "";
+      if (comparison.sheets) machine.send({ kind: "setting", changes: { comparison: { ...comparison, sheets: null, view: "", window: null } } });
+    } else if (!isAsked && window !== comparison.window && window !== this.tried) this.compare(window);
   }
 
   /** @param {string} window */
   compare(window) {
     this.tried = window;
     this.machine.gesture({ kind: "compareView" });
-  }
-
-  // The pictures of the window around both are shown again.
-  /** @param {Machine.Comparison} comparison */
-  showWhole(comparison) {
-    this.tried = "";
-    if (comparison.sheets) this.machine.send({ kind: "setting", changes: { comparison: { ...comparison, sheets: null, view: "", window: null } } });
   }
 }

@@ -16,6 +16,14 @@ export const byId = /** @type {Page.ById} */ ((id) => {
 /** @param {string} id */
 export const textOf = (id) => byId(id).textContent ?? "";
 
+// What a canvas is drawn on by.
+/** @param {HTMLCanvasElement} canvas @param {CanvasRenderingContext2DSettings} settings */
+export function contextOf(canvas, settings = {}) {
+  const context = canvas.getContext("2d", settings);
+  if (context) return context;
+  throw new Error("the browser gives nothing to draw on");
+}
+
 // What was found, as an element of this class.
 /** @template {Element} T @param {Element} found @param {new () => T} kind @returns {T} */
 function ofClass(found, kind) {

@@ -57,8 +57,9 @@ async function filesOfEntry(entry, files) {
 
 // What is dropped: each file as it is, each folder by what reads it. It is asked while the drop is told, since a drop has
 // its items no longer.
-/** @param {DataTransfer} transfer @returns {Dropped[]} */
+/** @param {DataTransfer | null} transfer @returns {Dropped[]} */
 export function droppedOf(transfer) {
+  if (!transfer) return [];
   /** @param {DataTransferItem} item @returns {Dropped} */
   const dropped = (item) => {
     const entry = item.webkitGetAsEntry?.();
@@ -75,7 +76,7 @@ export async function readDropped(list) {
   /** @type {string[]} */
   const faults = [];
   for (const item of list) {
-    if (!item.isFolder) {
+    if ("file" in item) {
       if (item.file) files.push(item.file);
       continue;
     }
@@ -163,7 +164,7 @@ export function listenToFiles(machine, boards, take = (files) => files) {
   listenToDrags();
   document.addEventListener("drop", (event) => {
     event.preventDefault();
-    const dropped = event.dataTransfer ? droppedOf(event.dataTransfer) : [];
+    const dropped = droppedOf(event.dataTransfer);
     if (dropped.length) inTurn(readDropped(dropped));
     else machine.send({ kind: "say", text: "Nothing in that drop is a file.", isFault: true });
   });

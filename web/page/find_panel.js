@@ -139,11 +139,11 @@ export class FindPanel {
   /** @param {number} at */
   choose(at) {
     this.chosen = at;
-    const rows = byId("find-results").querySelectorAll("[role=option]");
-    rows.forEach((row, place) => row.setAttribute("aria-selected", String(place === at)));
-    rows[at]?.scrollIntoView({ block: "nearest" });
+    const rows = byId("find-results").querySelectorAll("[role=option]"), row = rows[at];
+    rows.forEach((other, place) => other.setAttribute("aria-selected", String(place === at)));
+    row?.scrollIntoView({ block: "nearest" });
     this.input.setAttribute("aria-expanded", String(this.results.length > 0));
-    if (rows[at]) this.input.setAttribute("aria-activedescendant", rows[at].id);
+    if (row) this.input.setAttribute("aria-activedescendant", row.id);
     else this.input.removeAttribute("aria-activedescendant");
   }
 

@@ -35,13 +35,13 @@ export class Fingers {
 
   // The point of the board between two fingers stays between them.
   begin() {
-    const { x, y, span } = this.between();
-    return { point: this.view.pointAt(x, y), pitch: this.view.pitch, span };
+    const between = this.between();
+    return between && { point: this.view.pointAt(between.x, between.y), pitch: this.view.pitch, span: between.span };
   }
 
   between() {
     const [one, other] = this.places.values();
-    return { x: (one.x + other.x) / 2, y: (one.y + other.y) / 2, span: Math.max(1, Math.hypot(one.x - other.x, one.y - other.y)) };
+    return one && other ? { x: (one.x + other.x) / 2, y: (one.y + other.y) / 2, span: Math.max(1, Math.hypot(one.x - other.x, one.y - other.y)) } : null;
   }
 
   // Whether the fingers pinch, of which one was moved.
@@ -49,9 +49,10 @@ export class Fingers {
   move(id, at) {
     if (!this.places.has(id)) return false;
     this.places.set(id, at);
-    if (!this.pinch) return false;
-    const { x, y, span } = this.between(), { point, pitch } = this.pinch;
-    this.view.hold(point, x, y, pitch * this.pinch.span / span);
+    const between = this.between();
+    if (!this.pinch || !between) return false;
+    const { point, pitch, span } = this.pinch;
+    this.view.hold(point, between.x, between.y, pitch * span / between.span);
     return true;
   }
 
@@ -61,6 +62,6 @@ export class Fingers {
     this.rest();
     const isFinger = this.places.delete(id);
     this.pinch = this.count === 2 ? this.begin() : null;
-    return isFinger && this.count === 1 ? [...this.places.values()][0] : null;
+    return isFinger && this.count === 1 ? [...this.places.values()][0] ?? null : null;
   }
 }

@@ -9,8 +9,8 @@ const PAIRS = 4e6;
 // The gap of two picks by their shapes: { distance, from, to }; null where they have none that is simple.
 /** @param {Machine.State} state */
 function exactOf({ picked, entries }) {
-  const shapes = picked.map(({ name, words }) => shapeOf(words, entries[name]));
-  return shapes.includes(null) || shapes[0].sides.length * shapes[1].sides.length > PAIRS ? null : gapBetween(shapes[0], shapes[1]);
+  const [one, other] = picked.map(({ name, words }) => shapeOf(words, entries[name]));
+  return !one || !other || one.sides.length * other.sides.length > PAIRS ? null : gapBetween(one, other);
 }
 
 // What is known of the gap: { distance, from, to } with `pitch` where it is of pixels; undefined where it was not asked, null where

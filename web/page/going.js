@@ -14,14 +14,14 @@ const LINK = /^#(-?\d{1,4}(?:\.\d{1,6})?),(-?\d{1,4}(?:\.\d{1,6})?)(?:,(\d{1,8}(
 export function placeIn(hash) {
   const found = LINK.exec(hash);
   if (!found) return null;
-  const [x, y] = [found[1], found[2]].map((text) => Math.round(Number(text) * NM_PER_MM));
+  const x = Math.round(Number(found[1]) * NM_PER_MM), y = Math.round(Number(found[2]) * NM_PER_MM);
   const zoom = found[3] === undefined ? null : Number(found[3]);
   if (Math.abs(x) > BOARD || Math.abs(y) > BOARD || zoom === 0) return null;
   return { x, y, zoom, isMirrored: found[4] !== undefined, ...found[5] ? { quarters: Number(found[5]) / 90 } : {} };
 }
 
 // The link to a place: x and y in mm, and the nm of a pixel of the page.
-/** @param {Page.Goal} goal */
+/** @param {Page.Goal & { zoom: number }} goal */
 export const linkOf = ({ x, y, zoom, isMirrored, quarters = 0 }) =>
   `#${mm(x)},${mm(y)},${Number(zoom.toFixed(4))}${isMirrored ? ",below" : ""}${quarters ? `,turned${90 * quarters}` : ""}`;
 
@@ -35,7 +35,7 @@ export function goQuestion({ unit }, question, allow) {
   input.oninput = () => allow(pointIn(input.value, unit) !== null);
   form.onsubmit = (event) => {
     event.preventDefault();
-    if (pointIn(input.value, unit)) form.closest("dialog").close("yes");
+    if (pointIn(input.value, unit)) form.closest("dialog")?.close("yes");
   };
   allow(false);
   return {
@@ -157,7 +157,7 @@ export class Going {
     context.lineWidth = 2 * density;
     context.beginPath();
     context.arc(x, y, size, 0, 2 * Math.PI);
-    for (const [across, down] of [[1, 0], [-1, 0], [0, 1], [0, -1]]) {
+    for (const [across, down] of /** @type {const} */ ([[1, 0], [-1, 0], [0, 1], [0, -1]])) {
       context.moveTo(x + across * size * 0.5, y + down * size * 0.5);
       context.lineTo(x + across * size * 1.6, y + down * size * 1.6);
     }

@@ -1,7 +1,7 @@
 // The list of what can be undone and redone, in words; and what a comparison has found, with the way to where it differs
 // and back to the layers.
 
-import { button, byId, element, redraw } from "./dom.js";
+import { button, byId, element, oneOf, redraw } from "./dom.js";
 import { FOUND, layerOf } from "../machine/index.js";
 import { plural, wordsIn } from "../board/index.js";
 
@@ -32,9 +32,8 @@ function list(machine, { steps: { done, undone, group }, nets, unit }) {
   redraw(byId("history"), ...made, ...taken);
   byId("history-count").textContent = group ? `a group is open, ${plural(group.length, "edit")}`
     : `${done.length} to undo, ${undone.length} to redo`;
-  for (const [id, length] of [["undo", done.length], ["redo", undone.length]]) {
-    /** @type {HTMLButtonElement} */ (document.querySelector(`[data-act=${id}]`)).disabled = length === 0 || group !== null;
-  }
+  oneOf("[data-act=undo]", HTMLButtonElement).disabled = done.length === 0 || group !== null;
+  oneOf("[data-act=redo]", HTMLButtonElement).disabled = undone.length === 0 || group !== null;
 }
 
 // The layers that differ: each leads there.

@@ -202,7 +202,7 @@ export function iconOf(id) {
   const outline = BOOTSTRAP[id] ?? OWN[id];
   if (!outline) return null;
   const icon = document.createElementNS(SVG, "svg"), path = document.createElementNS(SVG, "path");
-  for (const [name, value] of [["viewBox", "0 0 16 16"], ["aria-hidden", "true"], ["class", "icon"]]) icon.setAttribute(name, value);
+  for (const [name, value] of /** @type {const} */ ([["viewBox", "0 0 16 16"], ["aria-hidden", "true"], ["class", "icon"]])) icon.setAttribute(name, value);
   path.setAttribute("d", outline);
   icon.append(path);
   return icon;

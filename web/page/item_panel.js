@@ -36,8 +36,9 @@ class PickedForms {
     this.of = state.picked.map(({ id }) => id);
   }
 
-  edit(verb, more) {
-    return this.machine.gesture({ kind: "edit", verb, of: this.of, ...more });
+  /** @param {Machine.Edit} edit */
+  edit(edit) {
+    return this.machine.gesture({ ...edit, of: this.of });
   }
 
   /** @param {string} text */
@@ -49,23 +50,23 @@ class PickedForms {
     const { unit } = this.state;
     const dx = input("0", { "aria-label": `to the right, in ${unit}` }), dy = input("0", { "aria-label": `up, in ${unit}` });
     return form(`by, ${unit}`, "move", [dx, dy], () => {
-      const [x, y] = [dx, dy].map((each) => lengthIn(each.value, unit));
+      const x = lengthIn(dx.value, unit), y = lengthIn(dy.value, unit);
       if (x === null || y === null) return this.say(`A length is a number of ${unit}, as 1.25, or with a unit, as 50 mil.`);
-      return this.edit("move", { dx: x, dy: y });
+      return this.edit({ kind: "edit", verb: "move", dx: x, dy: y });
     });
   }
 
   /** @param {Machine.Picked} item */
   entry(item) {
-    const layer = layerOf(this.state, item.name), isDrill = layer.kind === "drill";
+    const isDrill = layerOf(this.state, item.name)?.kind === "drill";
     const choice = entryChoice(this.state, item.name, Number(item.words.split(" ")[1]));
     return form(isDrill ? "tool" : "aperture", "set", [choice],
-      () => this.edit(isDrill ? "tool" : "aperture", { number: Number(choice.value) }));
+      () => this.edit({ kind: "edit", verb: isDrill ? "tool" : "aperture", number: Number(choice.value) }));
   }
 
   polarity() {
     return element("div", { className: "buttons", "data-row": "polarity" }, ...["dark", "clear"].map((value) =>
-      button(value, () => this.edit("polarity", { value }))));
+      button(value, () => this.edit({ kind: "edit", verb: "polarity", value }))));
   }
 
   /** @param {Machine.Picked} item */
@@ -74,12 +75,12 @@ class PickedForms {
     return form("place", "move there", [to], () => {
       const place = wholeOf(to.value);
       if (place === null) return this.say("A place is a whole number from 0.");
-      return this.edit("reorder", { to: place });
+      return this.edit({ kind: "edit", verb: "reorder", to: place });
     });
   }
 }
 
-/** @param {Machine.State} state @param {string} name @param {number} chosen */
+/** @param {Machine.State} state @param {string} name @param {number | null} chosen */
 function entryChoice({ entries, unit }, name, chosen) {
   return element("select", { "aria-label": "aperture or tool" }, ...(entries[name] ?? []).map(({ number, words }) =>
     element("option", { value: number, selected: number === chosen }, `${number}: ${wordsIn(words, unit)}`)));
@@ -94,11 +95,11 @@ function sizeWords(box, unit) {
 
 /** @param {Page.Runner} machine @param {Machine.State} state */
 function showPicked(machine, state) {
-  const items = state.picked, panel = byId("picked");
-  if (!items.length) return panel.replaceChildren(element("p", { className: "hint" },
+  const items = state.picked, [first] = items, panel = byId("picked");
+  if (!first) return panel.replaceChildren(element("p", { className: "hint" },
     "Click an item to pick it, again for the one under it; drag a box to the right for all that lie in it, to the left for all "
       + "that it touches."));
-  const [first] = items, isOne = items.length === 1, forms = new PickedForms(machine, state);
+  const isOne = items.length === 1, forms = new PickedForms(machine, state);
   /** @type {HTMLElement[]} */
   const parts = isOne ? toldParts(machine, state, first) : [element("h3", {}, plural(items.length, "item"))];
   parts.push(element("p", { className: "hint" }, sizeWords(joined(items.map((item) => item.box)), state.unit)),
@@ -142,23 +143,23 @@ function attributeParts(machine, name, lines) {
   if (!lines) return [];
   const key = input("", { placeholder: ".Part", "aria-label": "name of the attribute" });
   const fields = input("", { placeholder: "Single", "aria-label": "fields of the attribute" });
-  const edit = (verb, more) => machine.gesture({ kind: "edit", verb, name, ...more });
   const rows = lines.map((line) => {
-    const [shown] = line.split(/[ ,]/, 1);
+    const [shown = ""] = line.split(/[ ,]/, 1);
     return element("li", {}, element("code", {}, line.slice(0, 120)),
-      button("drop", () => edit("dropattr", { key: shown }), { "aria-label": `drop ${shown}` }));
+      button("drop", () => machine.gesture({ kind: "edit", verb: "dropattr", name, key: shown }), { "aria-label": `drop ${shown}` }));
   });
   return [element("details", {}, element("summary", {}, plural(lines.length, "file attribute")),
     element("ul", { className: "attributes" }, ...rows),
-    form("attribute", "set", [key, fields], () => edit("setattr", { key: key.value.trim(), fields: fields.value.trim() })))];
+    form("attribute", "set", [key, fields],
+      () => machine.gesture({ kind: "edit", verb: "setattr", name, key: key.value.trim(), fields: fields.value.trim() })))];
 }
 
 /** @param {Page.Runner} machine */
 export function listenToItems(machine) {
-  machine.panel(({ picked, entries, layers, unit, gap, inWords, lit }) => [picked, entries[picked[0]?.name], layers.length, unit, gap, inWords, lit],
+  machine.panel(({ picked, entries, layers, unit, gap, inWords, lit }) => [picked, entries[picked[0]?.name ?? ""], layers.length, unit, gap, inWords, lit],
     (state) => showPicked(machine, state));
   machine.panel((state) => {
     const { active, entries, attributes } = state, layer = layerOf(state, active);
-    return [active, layer?.label, entries[active], attributes[active], state.unit];
+    return [active, layer?.label, entries[active ?? ""], attributes[active ?? ""], state.unit];
   }, (state) => showActive(machine, state));
 }

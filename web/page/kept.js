@@ -133,7 +133,9 @@ export class Kept {
 
   // Lists a board in which nothing was done yet, or knows why not.
   async list() {
-    if (!this.store.why) this.why = (await this.attempt(() => {})).why ?? null;
+    if (this.store.why) return;
+    const written = await this.attempt(() => {});
+    this.why = written.isKept ? null : written.why ?? null;
   }
 
   // Writes records behind the first `from`, files, and what waits where that is given; answers { isKept, why, isLost }.

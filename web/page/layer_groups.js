@@ -37,12 +37,13 @@ export function nameGroups({ machine }) {
 export function listenToGroupBoxes(machine) {
   const list = element("div", { id: "layer-groups", role: "group", "aria-label": "Groups of layers" });
   byId("layers").before(list);
-  const counted = (state) => GROUPS.map(([id]) => {
+  /** @param {Machine.State} state */
+  const counted = (state) => GROUPS.map(([id, words]) => {
     const layers = layersOf(state, id);
-    return [layers.length, layers.filter(({ isShown }) => isShown).length];
+    return { id, words, count: layers.length, shown: layers.filter(({ isShown }) => isShown).length };
   });
-  machine.panel((state) => counted(state).flat(), (state) => redraw(list, ...counted(state).flatMap(([count, shown], at) => {
-    const [id, words] = GROUPS[at], title = `${shown} of ${count} shown`;
+  machine.panel((state) => counted(state).flatMap(({ count, shown }) => [count, shown]), (state) => redraw(list, ...counted(state).flatMap(({ id, words, count, shown }) => {
+    const title = `${shown} of ${count} shown`;
     const box = element("input", { type: "checkbox", checked: shown === count, indeterminate: shown > 0 && shown < count, "aria-label": `all of ${words} shown` });
     box.onchange = () => switchGroup(machine, id);
     return count ? [element("label", { className: "target", "data-row": id, title }, box, ` ${words}`)] : [];

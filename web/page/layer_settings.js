@@ -28,14 +28,14 @@ function functionField(machine, { name, shows }) {
 
 // The layer goes up in the pile, so that it covers more, or down.
 /** @param {Page.Runner} machine @param {number} by @param {string} name */
-export const raise = (machine, by, name = machine.state.active) => machine.send({ kind: "raise", name, by });
+export const raise = (machine, by, name = machine.state.active ?? "") => machine.send({ kind: "raise", name, by });
 
 /** @param {Page.Runner} machine @param {Machine.State} state */
 function show(machine, state) {
-  const layer = layerOf(state, state.active), at = state.layers.indexOf(layer);
+  const layer = layerOf(state, state.active);
   byId("layer-panel").hidden = layer === null;
   if (!layer) return;
-  const { name, label } = layer, last = state.layers.length - 1;
+  const at = state.layers.indexOf(layer), { name, label } = layer, last = state.layers.length - 1;
   redraw(byId("layer-settings"), nameField(machine, layer), functionField(machine, layer), element("p", { className: "buttons" },
     button("up", () => raise(machine, 1, name), { id: "layer-up", disabled: at === last, "aria-label": `${label} up in the pile` }),
     button("down", () => raise(machine, -1, name), { id: "layer-down", disabled: at === 0, "aria-label": `${label} down in the pile` }),
@@ -53,6 +53,6 @@ export function listenToLayerSettings(machine, view) {
   });
   machine.panel((state) => {
     const layer = layerOf(state, state.active);
-    return [state.active, layer?.label, layer?.shows, state.layers.indexOf(layer), state.layers.length];
+    return [state.active, layer?.label, layer?.shows, layer && state.layers.indexOf(layer), state.layers.length];
   }, (state) => show(machine, state));
 }

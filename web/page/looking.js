@@ -1,9 +1,6 @@
 // The actions of looking and measuring: what lies at a point, snaps, the origin of lengths, quarter turns of the view.
 
-import { act } from "./actions.js";
-
-/** @param {string} id @param {boolean} isPressed */
-const press = (id, isPressed) => document.querySelector(`[data-act=${id}]`).setAttribute("aria-pressed", String(isPressed));
+import { act, press } from "./actions.js";
 
 // The next click says where the origin is; where there is one, there is none again.
 /** @param {Page.Parts} page */

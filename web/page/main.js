@@ -29,7 +29,7 @@ import { Runner } from "./runner.js";
 import { StartPanel } from "./start_panel.js";
 import { TablesPanel } from "./tables_panel.js";
 import { View } from "./view.js";
-import { byId, tell } from "./dom.js";
+import { byId, tell, textOf } from "./dom.js";
 import { listenToFiles, unpackedApart } from "./files.js";
 import { listenToGroups } from "./refused_groups.js";
 import { listenToHistory } from "./history_panel.js";
@@ -73,14 +73,16 @@ const asked = {
   script: ({ number }) => handed(number, () => saveScript(machine)),
   copy: ({ text }) => navigator.clipboard?.writeText(text).catch(() => {}),
   "show picked": () => machine.send({ kind: "showPicked" }),
-  "put picture": ({ name, file, window }) => machine.link.send({ number: 0, kind: "picture", name,
-    picture: readPbm(machine.state.files[file].bytes), line: window }),
+  "put picture": ({ name, file, window }) => {
+    const found = machine.state.files[file];
+    if (found) machine.link?.send({ number: 0, kind: "picture", name, picture: readPbm(found.bytes), line: window });
+  },
   start: () => machine.await(openStation().then(() => machine.send({ kind: "restarted" }), stopped)),
   anew: () => boards.forgetAll().finally(() => location.reload()),
   "board closed": () => boards.left(),
 };
 
-/** @param {Error} fault */
+/** @param {unknown} fault */
 const stopped = (fault) => machine.send({ kind: "stopped", why: faultWords(fault) });
 
 const machine = new Runner(asked);
@@ -114,7 +116,7 @@ view.afterDraw = () => {
 };
 const pointer = new Pointer(machine, view, marks);
 const held = new HeldMove(machine, marks);
-pointer.onNet = (place) => nets.lightAt(place);
+pointer.onNet = (/** @type {Board.Point} */ place) => nets.lightAt(place);
 new Menu(machine, view, marks.signs);
 new TablesPanel(machine);
 new ComparingView(machine, view);
@@ -159,7 +161,7 @@ let contents = null;
 
 // The station's module, unpacked once; again where that failed.
 function stationModule() {
-  module ??= unpacked(byId("module").textContent).catch((fault) => {
+  module ??= unpacked(textOf("module")).catch((fault) => {
     module = null;
     throw fault;
   });
@@ -172,7 +174,7 @@ async function openStation() {
   machine.link = null;
   before?.end("opened again");
   /** @type {Link} */
-  const link = new Link(byId("worker").textContent, (message) => machine.link === link && heard(message), (why) => {
+  const link = new Link(textOf("worker"), (message) => machine.link === link && heard(message), (why) => {
     if (machine.link === link) machine.send({ kind: "stopped", why });
     else boards.happened((board) => board.link === link, { kind: "stopped", why });
   });
@@ -194,7 +196,7 @@ const canRun = () => typeof DecompressionStream === "function" && WebAssembly.va
 
 function keepLooks(picture = machine.kept?.looks?.face ?? null) {
   if (!machine.kept) return;
-  boards.shown.title = titleOf(machine.state);
+  boards.board.title = titleOf(machine.state);
   const looks = { ...looksNow(machine.state, view), face: machine.state.layers.length ? picture : null };
   machine.kept.keepLooks(looks).then(() => machine.settle());
 }
@@ -242,17 +244,17 @@ async function start() {
   listenToKeys();
   panels.listen(machine);
   if (!canRun()) return tell(TOO_OLD, true);
-  knowRefusals(JSON.parse(byId("refusals").textContent));
+  knowRefusals(JSON.parse(textOf("refusals")));
   listen();
   // Before this a key in a field would have sent its form, and another page come.
   document.body.inert = false;
   new ResizeObserver(resize).observe(byId("stage"));
   resize();
-  contents = await contentsOf(byId("contents").textContent.trim());
+  contents = await contentsOf(textOf("contents").trim());
   if (contents?.title) document.title = byId("title").textContent = contents.title;
-  const words = await boards.open(contents?.id ?? "", contents !== null), { shown } = boards;
-  Object.assign(machine, { kept: shown.kept });
-  machine.send({ kind: "begin", kept: await shown.kept.read(), contents: shown.hasContents ? contents : null });
+  const words = await boards.open(contents?.id ?? "", contents !== null), { board } = boards;
+  Object.assign(machine, { kept: board.kept });
+  machine.send({ kind: "begin", kept: await board.kept.read(), contents: board.hasContents ? contents : null });
   boards.tellLost();
   listenToChanges();
   try {
@@ -269,7 +271,7 @@ async function start() {
 }
 
 // For tests and for those who look with a browser's own tools.
-globalThis.camplot = {
+const hooks = {
   view, marks, pointer, saved, snapped, machine, nets, going, boards,
   get state() { return machine.state; },
   get steps() { return machine.state.steps; },
@@ -277,22 +279,23 @@ globalThis.camplot = {
   get session() { return sessionOf(machine.state); },
   idle: () => machine.idle(),
   scriptText: () => scriptText(machine.state),
-  run: (lines) => machine.gesture({ kind: "lines", lines, window: view.window() }),
-  pickAt: (x, y, reach, isAdded = false) =>
+  run: (/** @type {string[]} */ lines) => machine.gesture({ kind: "lines", lines, window: view.window() }),
+  pickAt: (/** @type {number} */ x, /** @type {number} */ y, /** @type {number} */ reach, isAdded = false) =>
     machine.gesture({ kind: "pickAt", x, y, reach, isAdded, pile: pileOf(machine.state, view.isMirrored) }),
-  pickIn: (box, isAdded = false) => machine.gesture({ kind: "pickIn", box, isAdded, pile: pileOf(machine.state, view.isMirrored) }),
-  pick: (places, isAdded = false) => machine.gesture({ kind: "picks", places, isAdded }),
-  pickPlace: (name, place) => machine.gesture({ kind: "picks", places: [{ name, place }], isShown: true }),
-  compare: (back) => machine.gesture({ kind: "compare", back }),
-  compareChosen: (names) => compareChosen(machine, names),
+  pickIn: (/** @type {Board.Box} */ box, isAdded = false) => machine.gesture({ kind: "pickIn", box, isAdded, pile: pileOf(machine.state, view.isMirrored) }),
+  pick: (/** @type {Machine.Place[]} */ places, isAdded = false) => machine.gesture({ kind: "picks", places, isAdded }),
+  pickPlace: (/** @type {string} */ name, /** @type {number} */ place) => machine.gesture({ kind: "picks", places: [{ name, place }], isShown: true }),
+  compare: (/** @type {number} */ back) => machine.gesture({ kind: "compare", back }),
+  compareChosen: (/** @type {string[]} */ names) => compareChosen(machine, names),
   leave: () => machine.send({ kind: "leave" }),
-  openFiles: async (given, areNamed = true) => {
+  openFiles: async (/** @type {Machine.File[]} */ given, areNamed = true) => {
     const { files, faults, isAny } = await withUnpacked(given, unpackedApart), rest = nets.take(files);
     return rest.length || faults.length || !files.length ? machine.open(rest, areNamed && !isAny, faults) : { opened: [], refused: [] };
   },
-  plot: (layers, pitch, form) => machine.gesture({ kind: "plot", names: layers.map(({ name }) => name), pitch, form }),
-  makeActive: (name) => machine.gesture({ kind: "choose", name }),
+  plot: (/** @type {{ name: string }[]} */ layers, /** @type {number} */ pitch, /** @type {string} */ form) => machine.gesture({ kind: "plot", names: layers.map(({ name }) => name), pitch, form }),
+  makeActive: (/** @type {string} */ name) => machine.gesture({ kind: "choose", name }),
   fit: () => machine.gesture({ kind: "fit" }),
 };
+Object.assign(globalThis, { camplot: hooks });
 
 start().catch((fault) => tell(`The page could not start: ${faultWords(fault)}`, true));

@@ -7,7 +7,7 @@ import { layerOf } from "../machine/index.js";
 // An item in a few words: what it is, and how large.
 /** @param {Machine.Listed} item @param {string} unit */
 function itemWords({ words, box }, unit) {
-  const item = itemOf(words), [kind] = words.split(" ", 1);
+  const item = itemOf(words), [kind = ""] = words.split(" ", 1);
   const ofEntry = item?.number ? ` of ${/hit|rout/.test(kind) ? "tool" : "aperture"} ${item.number}` : "";
   const of = item?.kind === "region" ? ` of ${plural(item.segments.length, "side")}` : ofEntry;
   const sides = boxOf(box);
@@ -47,7 +47,9 @@ export class Menu {
 
   /** @param {Machine.State} state @param {Machine.Menu} menu @param {Machine.Listed} item */
   row(state, menu, item) {
-    const layer = layerOf(state, item.name), light = (listed) => () => this.light(listed);
+    const layer = layerOf(state, item.name);
+    /** @param {Machine.Listed | null} listed */
+    const light = (listed) => () => this.light(listed);
     const mark = element("i", {});
     mark.style.background = layer?.colour ?? "";
     const row = button("", (event) => this.choose(menu, item, event.shiftKey), { role: "menuitem", onfocus: light(item),
@@ -77,13 +79,14 @@ export class Menu {
     const more = menu.isMore ? [element("p", { className: "hint" }, `${menu.items.length} of more`)] : [];
     list.replaceChildren(...menu.items.map((item) => this.row(state, menu, item)), ...more);
     if (!wasShown) this.place(menu);
-    list.querySelector("button").focus({ preventScroll: true });
+    list.querySelector("button")?.focus({ preventScroll: true });
   }
 
   // Beside its point, and within the board.
   /** @param {Board.Point} at */
   place({ x, y }) {
     const { view, list } = this, at = view.placeOf(x, y), { clientWidth, clientHeight } = byId("stage");
+    /** @param {number} value @param {number} most */
     const within = (value, most) => `${Math.max(0, Math.min(value, most))}px`;
     list.style.left = within(at.x / view.density + 8, clientWidth - list.offsetWidth);
     list.style.top = within(at.y / view.density + 8, clientHeight - list.offsetHeight);
@@ -96,7 +99,7 @@ export class Menu {
     event.stopPropagation();
     if (to !== undefined) {
       event.preventDefault();
-      rows[to % rows.length].focus();
+      rows[to % rows.length]?.focus();
     } else if (event.key === "Escape" || event.key === "Tab") {
       event.preventDefault();
       this.close();

@@ -103,19 +103,21 @@ export class NetsFollow {
 
   /** @param {Machine.Told[]} given @param {Machine.State["files"]} files @param {Machine.Way} step @param {Machine.State} state */
   send(given, files, step, state) {
-    const lines = given.map(({ line, file }) => (file === undefined ? { line } : { line, name: files[file].name,
-      bytes: asShown(layerOf(state, wordsOf(line)[1]), state.layers, files[file].bytes) }));
+    const lines = given.map(({ line, file }) => {
+      const its = file === undefined ? undefined : files[file];
+      return its ? { line, name: its.name, bytes: asShown(layerOf(state, wordsOf(line)[1] ?? null), state.layers, its.bytes) } : { line };
+    });
     this.edits += given.filter(({ line }) => !LOOKS.has(firstWord(line))).length;
-    const isMade = !RETURNS.has(firstWord(given[given.length - 1].line));
+    const isMade = !RETURNS.has(firstWord(given.at(-1)?.line ?? ""));
     this.call("lines", { lines }).then((answer) => answer && this.heard(answer, step, isMade));
   }
 
   // An answer of the worker; null where it is gone.
   /** @template T @param {string} kind @param {object} message @returns {Promise<T | null>} */
   call(kind, message = {}) {
-    const { link } = this;
-    if (!link) return Promise.resolve(null);
-    const answer = this.opened.then(() => link.call(kind, message)).then((told) => (this.link === link ? told : null), () => null);
+    const { link, opened } = this;
+    if (!link || !opened) return Promise.resolve(null);
+    const answer = opened.then(() => link.call(kind, message)).then((told) => (this.link === link ? told : null), () => null);
     this.machine.await(answer);
     return answer;
   }

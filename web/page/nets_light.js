@@ -22,7 +22,7 @@ export class NetsLight {
   // Over the pictures of the view.
   paint() {
     const { nets } = this.machine.state;
-    if (nets.lit) this.drawLit(nets.lit, nets.about);
+    if (nets.lit && nets.about) this.drawLit(nets.lit, nets.about);
     for (const { place } of nets.change?.places ?? []) this.ring(place);
   }
 
@@ -36,11 +36,11 @@ export class NetsLight {
     this.view.fromAbove();
     // The farthest first, so that the nearest lies over it, and holes over all.
     const pile = pileSeen(this.machine.state.layers, this.view.isMirrored).map(({ name }) => name);
-    const order = [...shown.keys()].sort((one, other) => pile.indexOf(shown[one]) - pile.indexOf(shown[other]));
-    for (const at of order) {
-      const layer = layerOf(this.machine.state, shown[at]);
-      context.fillStyle = layer?.colour ?? "#ffffff";
-      this.fill(runs[at], window);
+    const order = [...shown.entries()].sort(([, one], [, other]) => pile.indexOf(one) - pile.indexOf(other));
+    for (const [at, name] of order) {
+      const its = runs[at];
+      context.fillStyle = layerOf(this.machine.state, name)?.colour ?? "#ffffff";
+      if (its) this.fill(its, window);
     }
     context.setTransform(1, 0, 0, 1, 0, 0);
   }
@@ -49,10 +49,12 @@ export class NetsLight {
   /** @param {Uint32Array} runs @param {Machine.About["window"]} window */
   fill(runs, { x, y, pitch, height }) {
     const { context, view } = this, { left, top } = view, size = view.pitch;
+    // (a run has a row, and the columns where it begins and ends)
+    const part = (/** @type {number} */ at) => /** @type {number} */ (runs[at]);
     for (let at = 0; at < runs.length; at += 3) {
-      const above = (top - (y + (height - runs[at]) * pitch)) / size, from = (x + runs[at + 1] * pitch - left) / size;
+      const above = (top - (y + (height - part(at)) * pitch)) / size, from = (x + part(at + 1) * pitch - left) / size;
       const low = Math.max(Math.floor(above) + 1, Math.ceil(above + pitch / size));
-      const right = Math.max(Math.floor(from) + 1, Math.ceil((x + runs[at + 2] * pitch - left) / size));
+      const right = Math.max(Math.floor(from) + 1, Math.ceil((x + part(at + 2) * pitch - left) / size));
       if (low < 0 || above > view.height || right < 0 || from > view.width) continue;
       context.fillRect(Math.floor(from), Math.floor(above), right - Math.floor(from), low - Math.floor(above));
     }

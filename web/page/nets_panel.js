@@ -4,7 +4,7 @@ import { ChecksPanel } from "./checks_panel.js";
 import { NetsFollow } from "./nets_follow.js";
 import { NetsLight } from "./nets_light.js";
 import { isNetlist, limitWords, limitsOf, pointNames } from "../nets/index.js";
-import { button, byId, element, redraw } from "./dom.js";
+import { button, byId, element, redraw, textOf } from "./dom.js";
 import { layerOf, pileSeen, shownLayers } from "../machine/index.js";
 import { areaText, lengthIn, lengthText, plural, point } from "../board/index.js";
 import { stackWords } from "./net_stack.js";
@@ -15,7 +15,7 @@ const AROUND = 1_000_000, MOST = 200;
 
 // What is said of a board without copper.
 /** @type {Machine.About} */
-const NO_COPPER = { count: null, shown: [], copper: 0, missing: [], points: 0, isNetlist: false, shift: { x: 0, y: 0 }, pitch: 0, window: null };
+const NO_COPPER = { count: null, shown: [], copper: 0, missing: [], points: 0, isNetlist: false, shift: { x: 0, y: 0 }, pitch: 0, window: { x: 0, y: 0, pitch: 0, height: 0 } };
 
 /** @param {number} pitch */
 const micrometres = (pitch) => `${Number((pitch / 1000).toFixed(1))} µm`;
@@ -43,7 +43,7 @@ export function changeOf({ joins, cuts, before, after }) {
   if (!words.length && before === after) return null;
   const kind = joins.length && cuts.length ? "joins, cuts" : joins.length ? "joins" : cuts.length ? "cuts" : `${after > before ? "+" : "−"}${Math.abs(after - before)} net`;
   const count = before === after ? "" : ` (${before} to ${plural(after, "net")})`;
-  return { kind, words: `${words.join("; ") || "other nets"}${count}`, places: [...joins, ...cuts].filter(({ place }) => place) };
+  return { kind, words: `${words.join("; ") || "other nets"}${count}`, places: [...joins, ...cuts].flatMap(({ place }) => place ? [{ place }] : []) };
 }
 
 export class NetsPanel {
@@ -52,7 +52,7 @@ export class NetsPanel {
     this.machine = machine;
     this.light = new NetsLight(view, machine);
     this.asked = 0;
-    this.follow = new NetsFollow(machine, byId("nets-worker").textContent, module, (answer, step, isMade) => this.heard(answer, step, isMade),
+    this.follow = new NetsFollow(machine, textOf("nets-worker"), module, (answer, step, isMade) => this.heard(answer, step, isMade),
       (checking) => this.checks.tell(checking));
     this.checks = new ChecksPanel(machine, view, this);
     this.listen();
@@ -142,11 +142,11 @@ export class NetsPanel {
   async compareWith({ name, bytes }) {
     if (!this.nets.isOn) this.switchTo(true);
     this.set({ findings: null, led: null, netlist: null });
-    /** @type {(Machine.About & { refusals: Machine.Nets["netlist"]["refusals"] }) | null} */
+    /** @type {(Machine.About & { refusals: NonNullable<Machine.Nets["netlist"]>["refusals"] }) | null} */
     const answer = await this.follow.call("netlist", { bytes });
     if (!answer) return;
     const { refusals, ...about } = answer;
-    this.set({ about, netlist: name && { name, refusals } });
+    this.set({ about, netlist: name ? { name, refusals } : null });
     if (name && !refusals.length) await this.checks.check();
   }
 
@@ -180,36 +180,39 @@ export class NetsPanel {
     const shifted = about.isNetlist && (about.shift.x || about.shift.y) ? `, shifted by ${point(about.shift.x, about.shift.y, this.unit)}` : "";
     const { misfit } = /** @type {Machine.About & { misfit?: string | null }} */ (about);
     const truth = misfit ? `${netlist?.name ?? "The netlist"}: ${misfit}. ` : about.points ? `${source}: ${plural(about.points, "point")}${shifted}. ` : "";
-    return `${missing}${truth}${limit[0].toUpperCase()}${limit.slice(1)}.`;
+    return `${missing}${truth}${limit.slice(0, 1).toUpperCase()}${limit.slice(1)}.`;
   }
 
-  /** @param {string} name @param {Board.Point[]} places */
+  /** @param {string | undefined} name @param {Board.Point[]} places */
   lead(name, ...places) {
-    this.machine.send({ kind: "lead", name, box: boxAround(...places) });
+    this.machine.send({ kind: "lead", name: name ?? null, box: boxAround(...places) });
   }
 
   /** @param {Machine.NetChange | null} change */
   showChange(change) {
-    const box = byId("nets-change");
-    if (!change) return box.replaceChildren();
-    const { shown } = this.nets.about;
+    const box = byId("nets-change"), { about } = this.nets;
+    if (!change || !about) return box.replaceChildren();
+    const { shown } = about;
     const places = change.places.map(({ place }) => button("show where", () => this.lead(shown[place.layer], place), { className: "only" }));
-    return redraw(box, element("b", {}, `The last edit ${change.words}, ${atPitch(this.nets.about.pitch)}. `), ...places);
+    return redraw(box, element("b", {}, `The last edit ${change.words}, ${atPitch(about.pitch)}. `), ...places);
   }
 
   /** @param {Machine.Nets} nets */
   showLit({ lit, near, about }) {
     const rows = [];
-    if (lit) {
+    if (lit && about) {
       const copper = about.shown.slice(0, about.copper), all = lit.areas.reduce((sum, area) => sum + area, 0);
-      const parts = copper.flatMap((name, at) => (lit.areas[at] ? [`${this.label(name)} ${areaText(lit.areas[at], this.unit)}`] : []));
+      const parts = copper.flatMap((name, at) => {
+        const area = lit.areas[at];
+        return area ? [`${this.label(name)} ${areaText(area, this.unit)}`] : [];
+      });
       rows.push(element("h3", {}, lit.names.length ? lit.names.join(" and ") : "A net without a name"),
         element("p", {}, `${areaText(all, this.unit)} of copper (${parts.join(", ")}), ${plural(lit.holes, "hole")}`));
       if (lit.pins.length) rows.push(element("p", { className: "words" }, pointNames(/** @type {import("../nets/index.js").NetPoint[]} */ (lit.pins.map((name) => ({ name }))))));
     }
     byId("nets-lit").replaceChildren(...rows);
     redraw(byId("nets-near"), ...(near ?? []).slice(0, MOST).map(({ names, distance, place }) => element("li", {},
-      button(`${named(names)}, ${lengthText(distance, this.unit)} ${this.unit}`, () => this.lead(about.shown[place.layer], place)))),
+      button(`${named(names)}, ${lengthText(distance, this.unit)} ${this.unit}`, () => this.lead(about?.shown[place.layer], place)))),
     ...near && !near.length ? [element("li", { className: "hint" }, "no net is nearer")] : []);
   }
 

@@ -54,7 +54,7 @@ export class Outlines {
     this.view = view;
     this.machine = machine;
     // The shape of each item that is picked, with the entries that it was made by; and the picture of long ones.
-    /** @type {WeakMap<Machine.Picked, Board.Outline & { entries?: Board.Entry[] }>} */
+    /** @type {WeakMap<Machine.Picked, Board.Outline & { entries: Board.Entry[] | undefined }>} */
     this.shapes = new WeakMap();
     /** @type {Page.OutlineSheet | null} */
     this.sheet = null;
@@ -63,7 +63,7 @@ export class Outlines {
 
   // The apertures or tools of a layer, as far as the page knows them.
   entriesOf(name = this.machine.state.active) {
-    return this.machine.state.entries[name];
+    return name === null ? undefined : this.machine.state.entries[name];
   }
 
   /** @param {Machine.Picked} item */
@@ -105,8 +105,7 @@ export class Outlines {
   /** @param {Machine.Picked[]} items @param {Board.Point} shift @param {string} ink @param {number} alpha */
   drawSheet(items, shift, ink, alpha) {
     const { view } = this, { context } = view;
-    this.renew(items, alpha === 1 ? ink : this.sheet?.ink ?? ink);
-    const { canvas, left, top, pitch } = this.sheet, scale = pitch / view.pitch;
+    const { canvas, left, top, pitch } = this.renew(items, alpha === 1 ? ink : this.sheet?.ink ?? ink), scale = pitch / view.pitch;
     context.globalAlpha = alpha;
     context.imageSmoothingEnabled = scale !== 1;
     context.drawImage(canvas, Math.round((left + shift.x - view.left) / view.pitch), Math.round((view.top - top - shift.y) / view.pitch),
@@ -114,21 +113,21 @@ export class Outlines {
     context.globalAlpha = 1;
   }
 
-  // Draws the picture anew for what is picked now, and for another view once that rests.
+  // The picture, which is drawn anew for what is picked now, and for another view once that rests.
   /** @param {Machine.Picked[]} items @param {string} ink */
   renew(items, ink) {
     const { sheet, view } = this, { left, top, pitch, width, height } = view;
     const isSame = sheet && sheet.ink === ink && sheet.items.length === items.length
       && items.every((item, at) => this.shapeOf(item) === sheet.items[at]);
-    if (isSame && sheet.view.join() === [left, top, pitch, width, height].join()) return;
+    if (isSame && sheet.view.join() === [left, top, pitch, width, height].join()) return sheet;
     if (isSame && view.isMoving) {
       clearTimeout(this.timer);
       this.timer = setTimeout(() => view.paint(), AGAIN_MS);
-      return;
+      return sheet;
     }
     const canvas = sheet?.canvas ?? new OffscreenCanvas(1, 1), frame = { left: left - MARGIN * pitch, top: top + MARGIN * pitch, pitch };
     Object.assign(canvas, { width: width + 2 * MARGIN, height: height + 2 * MARGIN });
     for (const item of items) stroke(canvas.getContext("2d"), frame, this.shapeOf(item), NOWHERE, ink, THIN);
-    this.sheet = { canvas, ...frame, ink, items: items.map((item) => this.shapeOf(item)), view: [left, top, pitch, width, height] };
+    return this.sheet = { canvas, ...frame, ink, items: items.map((item) => this.shapeOf(item)), view: [left, top, pitch, width, height] };
   }
 }

@@ -18,15 +18,17 @@ function fitOf(action, typed) {
   const names = [action.word, action.label].map((name) => name.toLowerCase());
   if (names.some((name) => name === typed)) return 0;
   if (names.some((name) => name.startsWith(typed))) return 1;
-  return all.split(/[^a-z0-9]+/).some((word) => word.startsWith(parts[0])) ? 2 : 3;
+  return all.split(/[^a-z0-9]+/).some((word) => word.startsWith(parts[0] ?? "")) ? 2 : 3;
 }
 
 // The commands that fit what was typed, the best first, and else by their groups and as they stand in the table.
 /** @param {Page.Action[]} all @param {string} typed */
 export function fitting(all, typed) {
   const words = typed.trim().toLowerCase();
-  return all.map((action) => ({ action, fit: words ? fitOf(action, words) : 0 })).filter(({ fit }) => fit !== null)
-    .sort((one, other) => one.fit - other.fit || groupAt(one.action) - groupAt(other.action)).map(({ action }) => action);
+  return all.flatMap((action) => {
+    const fit = words ? fitOf(action, words) : 0;
+    return fit === null ? [] : [{ action, fit }];
+  }).sort((one, other) => one.fit - other.fit || groupAt(one.action) - groupAt(other.action)).map(({ action }) => action);
 }
 
 export class Palette {
@@ -73,20 +75,20 @@ export class Palette {
 
   /** @param {number} at */
   mark(at) {
-    const rows = byId("palette-list").querySelectorAll("[role=option]");
+    const rows = byId("palette-list").querySelectorAll("[role=option]"), row = rows[at];
     this.at = at;
-    rows.forEach((row, place) => row.setAttribute("aria-selected", String(place === at)));
-    rows[at]?.scrollIntoView({ block: "nearest" });
-    if (rows[at]) byId("palette-words").setAttribute("aria-activedescendant", rows[at].id);
+    rows.forEach((other, place) => other.setAttribute("aria-selected", String(place === at)));
+    row?.scrollIntoView({ block: "nearest" });
+    if (row) byId("palette-words").setAttribute("aria-activedescendant", row.id);
     else byId("palette-words").removeAttribute("aria-activedescendant");
   }
 
   /** @param {KeyboardEvent} event */
   key(event) {
-    const { found, at } = this, last = found.length - 1;
+    const { found, at } = this, last = found.length - 1, marked = found[at];
     const to = { ArrowDown: at < last ? at + 1 : 0, ArrowUp: at > 0 ? at - 1 : last, PageDown: Math.min(last, at + 8), PageUp: Math.max(0, at - 8) }[event.key];
     if (to !== undefined && found.length) this.mark(to);
-    else if (event.key === "Enter" && !event.isComposing && found[at]) this.run(found[at], event);
+    else if (event.key === "Enter" && !event.isComposing && marked) this.run(marked, event);
     else return;
     event.preventDefault();
   }

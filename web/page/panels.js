@@ -1,13 +1,14 @@
 // The panels beside the board: each can be folded away. In a small window they are drawers, which lie over the board when they
 // are open, one at a time; and where there is little room they are folded until a person unfolds them.
 
-import { byId } from "./dom.js";
+import { byId, oneOf } from "./dom.js";
 import { act } from "./actions.js";
 
 const SIZES = { phone: "(max-width: 44rem)", small: "(max-width: 60rem)", narrow: "(max-width: 75rem)", low: "(max-height: 45rem)" };
 
 // Each panel with its key, and the sizes of a window in which it is a drawer, or folded at first.
-/** @type {Record<string, { key: string | null, words: string, drawer: string[], folded: string[] }>} */
+/** @typedef {"commands" | "left" | "right" | "foot"} Name */
+/** @type {Record<Name, { key: string | null, words: string, drawer: string[], folded: string[] }>} */
 const PANELS = {
   commands: { key: null, words: "the commands", drawer: ["phone"], folded: [] },
   left: { key: "q", words: "the layers and the history", drawer: ["small"], folded: [] },
@@ -15,15 +16,16 @@ const PANELS = {
   foot: { key: "s", words: "the script", drawer: [], folded: ["phone", "low"] },
 };
 
-const names = Object.keys(PANELS);
+/** @type {Name[]} */
+const names = ["commands", "left", "right", "foot"];
 
 export class Panels {
   constructor() {
     this.sizes = Object.fromEntries(Object.entries(SIZES).map(([name, query]) => [name, matchMedia(query)]));
     // The drawer that is open, and of the other panels which a person folded or unfolded.
-    /** @type {string | null} */
+    /** @type {Name | null} */
     this.drawer = null;
-    /** @type {Record<string, boolean>} */
+    /** @type {Partial<Record<Name, boolean>>} */
     this.folded = {};
     for (const name of names) {
       const { key, words } = PANELS[name];
@@ -33,20 +35,20 @@ export class Panels {
 
   /** @param {string[]} sizes */
   isAny(sizes) {
-    return sizes.some((name) => this.sizes[name].matches);
+    return sizes.some((name) => this.sizes[name]?.matches);
   }
 
-  /** @param {string} name */
+  /** @param {Name} name */
   isDrawer(name) {
     return this.isAny(PANELS[name].drawer);
   }
 
-  /** @param {string} name */
+  /** @param {Name} name */
   isOpen(name) {
     return this.isDrawer(name) ? this.drawer === name : !(this.folded[name] ?? this.isAny(PANELS[name].folded));
   }
 
-  /** @param {string} name */
+  /** @param {Name} name */
   toggle(name) {
     if (this.drawer === name) return this.close();
     const hadFocus = byId(name).contains(document.activeElement);
@@ -59,7 +61,7 @@ export class Panels {
     return undefined;
   }
 
-  /** @param {string} name */
+  /** @param {Name} name */
   unfold(name) {
     if (!this.isOpen(name)) this.toggle(name);
   }
@@ -75,9 +77,9 @@ export class Panels {
     return true;
   }
 
-  /** @param {string} name @returns {HTMLElement} */
+  /** @param {Name} name */
   buttonOf(name) {
-    return document.querySelector(`[aria-controls=${name}]`);
+    return oneOf(`[aria-controls=${name}]`, HTMLElement);
   }
 
   // The strips at the edges of the board are in the drawer of the commands where these are one.

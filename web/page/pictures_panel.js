@@ -26,7 +26,8 @@ function listChoices(state) {
   const proposed = [first, picture?.name ?? found.find(({ name }) => name !== first)?.name];
   /** @type {const} */ (["first", "second"]).forEach((id, at) => {
     byId(id).replaceChildren(...found.map(({ name, label }) => element("option", { value: name }, label)));
-    byId(id).value = found.some(({ name }) => name === chosen[id]) ? chosen[id] : proposed[at] ?? "";
+    const own = chosen[id];
+    byId(id).value = own && found.some(({ name }) => name === own) ? own : proposed[at] ?? "";
   });
   byId("two-panel").hidden = found.length < 2;
 }

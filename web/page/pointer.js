@@ -2,7 +2,7 @@
 // events of the machine. A finger pans and taps, and one that is held drags what is picked. The points of a tool snap to items.
 
 import { Fingers } from "./fingers.js";
-import { byId, tell } from "./dom.js";
+import { allOf, byId, tell } from "./dom.js";
 import { point } from "../board/index.js";
 import { Grip } from "./grips.js";
 import { Snaps, takesPoints } from "./snaps.js";
@@ -15,7 +15,7 @@ const STILL = 4, STILL_FINGER = 10;
 // How long it rests before the page looks what lies there, which reads a pixel of each picture: some frames.
 const REST_MS = 60;
 
-const toolButtons = () => /** @type {NodeListOf<HTMLElement>} */ (document.querySelectorAll("[data-tool-button]"));
+const toolButtons = () => allOf("[data-tool-button]", HTMLElement);
 
 /** @param {Board.Point} at */
 const whole = ({ x, y }) => ({ x: Math.round(x), y: Math.round(y) });
@@ -110,6 +110,7 @@ export class Pointer {
   /** @param {Board.Point} at */
   dragOn(at) {
     const { drag, marks, view } = this, to = this.under(at), { unit } = this.machine.state;
+    if (!drag) return;
     drag.hasMoved ||= Math.hypot(at.x - drag.start.x, at.y - drag.start.y) > drag.still * view.density;
     if (drag.kind === "measure") {
       marks.measured = [drag.from, this.taken(at)];
@@ -161,7 +162,7 @@ export class Pointer {
 
   // A click or a tap, by the tool.
   /** @param {Board.Point} at @param {Page.Drag} drag @param {boolean} isCentre */
-  press(at, { isAdded, still }, isCentre) {
+  press(at, { isAdded = false, still }, isCentre) {
     const { machine, view } = this, { tool } = machine.state, to = this.under(at);
     if (tool === "net") this.onNet(to);
     else if (tool === "origin") this.setOrigin(this.taken(at));
@@ -185,12 +186,14 @@ export class Pointer {
 
   /** @param {PointerEvent} event */
   end(event) {
-    const { machine, marks, drag } = this, { kind, from, hasMoved, isAdded, grip } = drag;
+    const { machine, marks, drag } = this;
+    if (!drag) return undefined;
+    const { kind, from, hasMoved, isAdded = false } = drag;
     const at = this.onCanvas(event), to = this.under(at);
     this.drag = null;
     byId("stage").classList.remove("dragging");
     if (kind === "pan" && drag.isMenu && !hasMoved) return this.list(at);
-    if (kind === "pan" || kind === "measure" || kind === "tap" && hasMoved) return;
+    if (kind === "pan" || kind === "measure" || kind === "tap" && hasMoved) return undefined;
     if (kind === "net" || kind === "draw" || kind === "tap") return this.press(at, drag, event.shiftKey);
     const pile = pileOf(machine.state, this.view.isMirrored), letGo = () => this.letGo();
     marks.dragged = marks.signs.snap = null;
@@ -198,8 +201,8 @@ export class Pointer {
       letGo();
       if (drag.isHeld) this.list(at);
       else this.press(at, drag, false);
-    } else if (kind === "grip") {
-      machine.gesture(grip.gesture()).then(letGo);
+    } else if (drag.kind === "grip") {
+      machine.gesture(drag.grip.gesture()).then(letGo);
     } else {
       const [left, right, low, high] = [Math.min(from.x, to.x), Math.max(from.x, to.x), Math.min(from.y, to.y),
         Math.max(from.y, to.y)];
@@ -281,7 +284,7 @@ export class Pointer {
   listen(canvas) {
     canvas.onpointerdown = (event) => {
       canvas.focus({ preventScroll: true });
-      document.getSelection().removeAllRanges();
+      document.getSelection()?.removeAllRanges();
       try {
         canvas.setPointerCapture(event.pointerId);
       } catch {

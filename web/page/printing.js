@@ -1,7 +1,7 @@
 // The shown layers to scale on paper, or as PDF by the print dialogue: the page has the board's size in mm, and the sheet on it the
 // station's picture of each layer.
 
-import { byId, element } from "./dom.js";
+import { byId, contextOf, element } from "./dom.js";
 import { placeSeen, seen } from "../board/index.js";
 import { readPbm } from "../bytes/index.js";
 import { pileSeen, shownLayers } from "../machine/index.js";
@@ -14,14 +14,14 @@ let rule = null;
 
 /** @param {number} width @param {number} height */
 function setPaper(width, height) {
-  const sheet = document.styleSheets[0];
+  const [sheet] = document.styleSheets;
   clearPaper();
   document.documentElement.dataset.printing = "yes";
-  rule = sheet.insertRule(`@page { size: ${width}mm ${height}mm; margin: 0 }`, sheet.cssRules.length);
+  rule = sheet?.insertRule(`@page { size: ${width}mm ${height}mm; margin: 0 }`, sheet.cssRules.length) ?? null;
 }
 
 function clearPaper() {
-  if (rule !== null) document.styleSheets[0].deleteRule(rule);
+  if (rule !== null) document.styleSheets[0]?.deleteRule(rule);
   delete document.documentElement.dataset.printing;
   rule = null;
 }
@@ -35,7 +35,7 @@ function inked({ width, height, bits }, colour) {
   const ink = (0xff000000 | (value & 255) << 16 | value & 0xff00 | value >> 16) >>> 0;
   for (let row = 0, at = 0; row < height; row++) {
     for (let column = 0; column < width; column++, at++) {
-      if (bits[row * stride + (column >> 3)] >> 7 - (column & 7) & 1) pixels[at] = ink;
+      if (/** @type {number} */ (bits[row * stride + (column >> 3)]) >> 7 - (column & 7) & 1) pixels[at] = ink;
     }
   }
   context.putImageData(image, 0, 0);
@@ -49,7 +49,7 @@ function inked({ width, height, bits }, colour) {
  */
 export async function printSheet(view, { layers: names, window: { width, height, pitch }, pictures }) {
   const isTurned = view.quarters % 2 === 1, [across, down] = isTurned ? [height, width] : [width, height];
-  const canvas = element("canvas", { width: across, height: down }), context = canvas.getContext("2d", { alpha: false });
+  const canvas = element("canvas", { width: across, height: down }), context = contextOf(canvas, { alpha: false });
   context.fillStyle = PAPER;
   context.fillRect(0, 0, across, down);
   placeSeen(context, { width, height }, view);
@@ -59,7 +59,7 @@ export async function printSheet(view, { layers: names, window: { width, height,
     context.globalAlpha = layer.opacity;
     context.drawImage(inked(readPbm(bytes), seen(layer.colour, true)), 0, 0);
   }
-  const [wide, high] = [across, down].map((pixels) => pixels * pitch / 1e6);
+  const wide = across * pitch / 1e6, high = down * pitch / 1e6;
   canvas.style.width = `${wide}mm`;
   canvas.style.height = `${high}mm`;
   byId("sheet").replaceChildren(canvas);

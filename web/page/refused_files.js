@@ -4,6 +4,7 @@
 import { button, byId, element, field, redraw } from "./dom.js";
 import { CHOICES } from "../convert/index.js";
 import { Converter } from "./converter.js";
+import { faultWords } from "./store.js";
 import { refusalWords } from "../machine/index.js";
 
 /**
@@ -23,8 +24,8 @@ const FEW_BYTES = 2e6;
 /** @type {Record<import("../convert/index.js").Choice["form"], (choice: import("../convert/index.js").Choice) => HTMLInputElement | HTMLSelectElement>} */
 const INPUTS = {
   switch: () => element("input", { type: "checkbox" }),
-  one: ({ values }) => element("select", {}, ...[["", "as in the file"], ...values].map(([value, label]) =>
-    element("option", { value }, label))),
+  one: ({ values = [] }) => element("select", {}, element("option", { value: "" }, "as in the file"),
+    ...values.map(([value, label]) => element("option", { value }, label))),
   text: ({ example }) => element("input", { type: "text", placeholder: example, spellcheck: false }),
   file: () => element("input", { type: "file" }),
 };
@@ -35,24 +36,29 @@ export const fieldsOf = (kind) => CHOICES[kind].map((choice) => ({ ...choice, in
 
 /** @param {Field[]} fields @param {Page.Choices} choices */
 export function fill(fields, choices) {
+  const given = new Map(Object.entries(choices));
   for (const { name, form, input } of fields) {
-    if (form === "switch") Object.assign(input, { checked: choices[name] ?? false });
-    else if (form !== "file") input.value = choices[name] ?? "";
+    if (form === "switch") Object.assign(input, { checked: given.get(name) ?? false });
+    else if (form !== "file") input.value = String(given.get(name) ?? "");
   }
 }
 
+/** @param {Field["input"]} input */
 async function valueOf(input) {
+  if (!(input instanceof HTMLInputElement)) return input.value.trim();
   if (input.type === "checkbox") return input.checked;
   if (input.type !== "file") return input.value.trim();
-  const [file] = input.files;
+  const [file] = input.files ?? [];
   return file ? { name: file.name, bytes: new Uint8Array(await file.arrayBuffer()) } : null;
 }
 
 /** @param {Field[]} fields @returns {Promise<Page.Choices>} */
 export async function choicesOf(fields) {
+  /** @type {Record<string, unknown>} */
   const choices = {};
   for (const { name, input } of fields) choices[name] = await valueOf(input);
-  return choices;
+  // (the fields are those of CHOICES, each with a value of its form)
+  return /** @type {Page.Choices} */ (choices);
 }
 
 /** @param {string[]} lines @param {string} className */
@@ -65,7 +71,7 @@ function listOf(lines, className = "changes") {
 function outcome(converted, kind) {
   if (converted === null) return [element("p", {}, "Nothing in it needs a change.")];
   if (!converted.refusals) return [element("p", {}, kind === "drill" ? "It is read so, and changed so:"
-    : "These changes are made, and no others:"), listOf(converted.changes)];
+    : "These changes are made, and no others:"), listOf(converted.changes ?? [])];
   const { refusals } = converted;
   const more = refusals.length > SHOWN ? [`and ${refusals.length - SHOWN} more`] : [];
   return [element("p", { className: "fault" }, "So it cannot be converted:"), listOf([...refusals.slice(0, SHOWN), ...more])];
@@ -110,8 +116,16 @@ export async function waysFor(layer, bytes, asks) {
   return asking.call("ways", { layer, bytes }).catch(() => []);
 }
 
-/** @param {Error} fault */
-export const stoppedWords = (fault) => `the conversion ended: ${fault.message}`;
+/** @param {unknown} fault */
+export const stoppedWords = (fault) => `the conversion ended: ${faultWords(fault)}`;
+
+// A file that is still refused, with its bytes.
+/** @param {Machine.State} state @param {number} id */
+export function refusedOf({ refused, files }, id) {
+  const entry = refused.find((one) => one.id === id), file = entry && files[entry.file];
+  if (!file) throw new Error("that file is not refused any more");
+  return { ...entry, bytes: file.bytes };
+}
 
 // The part of a question that converts: what comes of the choices in its fields, told in `seen`.
 class Conversion {
@@ -155,9 +169,8 @@ class Conversion {
 
 // The question how a refused file is to be converted; its answer has the bytes that come of it. It can be left at any time.
 /** @param {Machine.State} state @param {Machine.QuestionOf<"convert">} question @param {Page.Allow} allow @returns {Page.Dialogue} */
-export function convertQuestion({ refused, files }, question, allow) {
-  const { layer, file, reply } = refused.find(({ id }) => id === question.refused);
-  const { bytes } = files[file], { kind } = layer, fields = fieldsOf(kind), offered = element("div", {});
+export function convertQuestion(state, question, allow) {
+  const { layer, bytes, reply } = refusedOf(state, question.refused), { kind } = layer, fields = fieldsOf(kind), offered = element("div", {});
   const conversion = new Conversion(kind, bytes, fields, allow), renew = () => conversion.renew();
   const choose = element("details", { id: "choices" }, element("summary", {}, "Choices"),
     ...fields.map(({ label, input }) => field(label, input)));
@@ -185,9 +198,10 @@ export function convertQuestion({ refused, files }, question, allow) {
 // to convert.
 /** @param {Page.Runner} machine @param {number} id */
 export function tryRefused(machine, id) {
-  const { refused, files } = machine.state, { layer, file } = refused.find((entry) => entry.id === id);
+  const { layer, bytes } = refusedOf(machine.state, id);
+  /** @param {boolean | null} isAble @param {string} why @param {string[]} asks */
   const told = (isAble, why = "", asks = []) => machine.send({ kind: "tried", refused: id, isAble, why, asks });
-  machine.await(firstOf(layer.kind, files[file].bytes).then(({ converted }) => {
+  machine.await(firstOf(layer.kind, bytes).then(({ converted }) => {
     if (converted === null) told(null);
     else told(!converted.refusals, converted.refusals?.slice(0, 5).join("; "), converted.asks?.map(({ name }) => name));
   }, (fault) => told(false, stoppedWords(fault))));
@@ -195,7 +209,7 @@ export function tryRefused(machine, id) {
 
 /** @param {Page.Runner} machine @param {Machine.State} state @param {Machine.Refused} entry */
 function row(machine, { files }, { id, layer, file, reply, isTried, offer, note }) {
-  const words = refusalWords(reply, files[file].bytes, layer.kind), { fileName } = layer;
+  const its = files[file], words = its ? refusalWords(reply, its.bytes, layer.kind) : reply, { fileName } = layer;
   const convert = () => button("convert ..", () => machine.send({ kind: "offer", refused: id }),
     { "aria-label": `convert ${fileName}` });
   return element("li", { "data-row": id }, element("b", {}, fileName), ` ${words} `, ...offer ? [convert()] : [],

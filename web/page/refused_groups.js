@@ -3,19 +3,19 @@
 import { button, byId, element, field, redraw } from "./dom.js";
 import { CHOICES } from "../convert/index.js";
 import { askingAlike } from "../machine/index.js";
-import { asking, choicesOf, fieldsOf, fill, firstOf, forgetFirst, stoppedWords, waysFor, waysOffered } from "./refused_files.js";
+import { asking, choicesOf, fieldsOf, fill, firstOf, forgetFirst, refusedOf, stoppedWords, waysFor, waysOffered } from "./refused_files.js";
 import { plural } from "../board/index.js";
 
 // So many changes or refusals of each file are told one by one.
 const SHOWN = 12;
 
-/** @param {string} kind @param {string[]} asks */
+/** @param {Board.LayerKind} kind @param {string[]} asks */
 const labelsOf = (kind, asks) => CHOICES[kind].filter(({ name }) => asks.includes(name)).map(({ label }) => label).join(", ");
 
 // What comes of the choices for a file, in words, with its changes or refusals behind them.
 /** @param {string} name @param {Page.Converted} found */
 function outcome(name, found) {
-  const told = found === null ? [] : found.changes ?? found.refusals;
+  const told = found === null ? [] : found.changes ?? found.refusals ?? [];
   const words = found === null ? "needs no change, and is refused all the same" : found.bytes ? plural(told.length, "change")
     : `cannot be converted so: ${told[0]}`;
   const shown = told.slice(0, SHOWN).map((line) => element("li", {}, line));
@@ -77,12 +77,16 @@ class Conversions {
 
 // The question how several refused files are to be converted: by the same choices. Its answer has the bytes of each.
 /** @param {Machine.State} state @param {Machine.QuestionOf<"convertAll">} question @param {Page.Allow} allow @returns {Page.Dialogue} */
-export function convertAllQuestion({ refused, files: given }, question, allow) {
-  const entries = refused.filter(({ id }) => question.refused.includes(id)), [{ layer: { kind }, offer }] = entries;
-  const files = entries.map(({ id, layer, file }) => ({ id, name: layer.fileName, bytes: given[file].bytes }));
-  const asks = offer?.asks ?? [], fields = fieldsOf(kind), isAsked = ({ name }) => asks.includes(name);
+export function convertAllQuestion(state, question, allow) {
+  const entries = state.refused.filter(({ id }) => question.refused.includes(id)).map(({ id }) => refusedOf(state, id)), [first] = entries;
+  if (!first) throw new Error("no file is refused any more");
+  const { layer: { kind }, offer } = first, files = entries.map(({ id, layer, bytes }) => ({ id, name: layer.fileName, bytes }));
+  const asks = offer?.asks ?? [], fields = fieldsOf(kind);
+  /** @param {{ name: string }} choice */
+  const isAsked = ({ name }) => asks.includes(name);
   const conversions = new Conversions(kind, files, fields, allow), renew = () => conversions.renew();
   const offered = element("div", {}), form = element("div", { id: "answers" });
+  /** @param {import("./refused_files.js").Field[]} some */
   const rowsOf = (some) => some.map(({ label, input }) => field(label, input)), others = fields.filter((choice) => !isAsked(choice));
   const choose = element("details", { id: "choices" }, element("summary", {}, "Choices"), ...rowsOf(others));
   form.append(...rowsOf(fields.filter(isAsked)), choose);
@@ -90,7 +94,7 @@ export function convertAllQuestion({ refused, files: given }, question, allow) {
   conversions.asked = (names) => { choose.open ||= others.some(({ name }) => names.has(name)); };
   form.onchange = form.oninput = renew;
   conversions.show(({ bytes }) => firstOf(kind, bytes, asking).then(({ converted }) => converted));
-  waysFor(kind, files[0].bytes, asks).then((found) => offered.replaceChildren(...waysOffered(found, (choices) => {
+  waysFor(kind, first.bytes, asks).then((found) => offered.replaceChildren(...waysOffered(found, (choices) => {
     fill(fields, choices);
     renew();
   }, "They can be read so:")));

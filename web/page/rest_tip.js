@@ -117,7 +117,12 @@ export class RestTip {
   areaOf(box, at) {
     const { view } = this, { density } = view;
     if (!box) return null;
-    const [one, other] = [view.placeOf(box.left, box.low), view.placeOf(box.right, box.high)].map(({ x, y }) => ({ x: x / density, y: y / density }));
+    /** @param {number} x @param {number} y */
+    const placeOf = (x, y) => {
+      const place = view.placeOf(x, y);
+      return { x: place.x / density, y: place.y / density };
+    };
+    const one = placeOf(box.left, box.low), other = placeOf(box.right, box.high);
     return { left: Math.min(one.x, other.x, at.x), right: Math.max(one.x, other.x, at.x), top: Math.min(one.y, other.y, at.y), low: Math.max(one.y, other.y, at.y) };
   }
 }

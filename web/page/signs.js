@@ -32,8 +32,8 @@ export class Signs {
     this.gap = null;
     /** @type {{ items: Machine.Lit["items"], shapes: Board.Outline[] } | null} */
     this.paths = null;
-    machine.panel(({ picked, tool }) => [picked, tool], ({ picked, tool }) => {
-      this.handles = tool === "pick" && picked.length === 1 ? handlesOf(picked[0].words) : [];
+    machine.panel(({ picked, tool }) => [picked, tool], ({ picked: [item, ...others], tool }) => {
+      this.handles = tool === "pick" && item && !others.length ? handlesOf(item.words) : [];
     });
     machine.panel(({ picked, entries, gap }) => [picked, entries, gap], (state) => {
       this.gap = gapLine(state);
@@ -46,8 +46,8 @@ export class Signs {
   seenHandles() {
     const { view, handles } = this, { left, top, pitch, width, height } = view, right = left + width * pitch, low = top - height * pitch;
     const found = [];
-    for (let number = 0; number < handles.length && found.length <= MOST; number++) {
-      const [x, y] = handles[number];
+    for (const [number, [x, y]] of handles.entries()) {
+      if (found.length > MOST) break;
       if (x >= left && x <= right && y >= low && y <= top) found.push({ number, ...view.placeOf(x, y) });
     }
     return found.length > MOST ? [] : found;
@@ -85,18 +85,20 @@ export class Signs {
     const { entries, lit, tables } = this.machine.state;
     if (lit || !tables.lit?.items) return lit;
     const { name, items } = tables.lit;
-    return { items, entries: { [name]: tables.found[name]?.entries ?? entries[name] } };
+    return { items, entries: { [name]: tables.found[name]?.entries ?? entries[name] ?? [] } };
   }
 
   // The outlines of all lit items as one path for each width, made once.
   /** @param {Machine.Found["items"]} items @param {Record<string, Board.Entry[]>} entries */
   pathsOf(items, entries) {
     if (this.paths?.items === items) return this.paths.shapes;
+    /** @type {Map<number, Board.Outline>} */
     const shapes = new Map();
     for (const { name, words, box } of items) {
       const { path, width } = shapeOf(words, box, entries[name]);
-      if (!shapes.has(width)) shapes.set(width, { path: new Path2D(), width });
-      shapes.get(width).path.addPath(path);
+      const all = shapes.get(width)?.path ?? new Path2D();
+      all.addPath(path);
+      shapes.set(width, { path: all, width });
     }
     this.paths = { items, shapes: [...shapes.values()] };
     return this.paths.shapes;
@@ -110,11 +112,11 @@ export class Signs {
     context.lineWidth = 1.5 * density;
     if (origin) this.cross(view.placeOf(origin.x, origin.y), ORIGIN * density);
     if (this.gap) {
-      const [from, to] = [this.gap.from, this.gap.to].map(([x, y]) => view.placeOf(x, y));
-      this.lines([[from, to]]);
+      const { from, to } = this.gap;
+      this.lines([[view.placeOf(...from), view.placeOf(...to)]]);
     }
     for (const at of this.seenHandles()) this.handle(marks, at, HANDLE * density);
-    if (this.snap) this.snapSign(marks);
+    if (this.snap) this.snapSign(marks, this.snap);
   }
 
   /** @param {[from: Board.Point, to: Board.Point][]} pairs */
@@ -156,9 +158,9 @@ export class Signs {
   }
 
   // A sign of its own for each kind, with its word.
-  /** @param {Page.Marks} marks */
-  snapSign(marks) {
-    const { view, context, snap: { x, y, kind } } = this, { density } = view, at = view.placeOf(x, y), size = SIGN * density;
+  /** @param {Page.Marks} marks @param {Page.Snap} snap */
+  snapSign(marks, { x, y, kind }) {
+    const { view, context } = this, { density } = view, at = view.placeOf(x, y), size = SIGN * density;
     context.strokeStyle = marks.colour("--ink-new");
     context.lineWidth = 2 * density;
     if (kind === "centre") this.ring(at, size);

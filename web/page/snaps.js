@@ -21,17 +21,22 @@ export class Snaps {
     this.view = view;
     // Called when the station has answered.
     this.onFound = () => {};
-    this.forget();
-    // Items that were changed are asked for again.
-    machine.panel(({ told, layers }) => [told, layers], () => this.forget());
-  }
-
-  forget() {
     /** @type {(Machine.Place & { points: { kind: string, at: Board.Pair }[], shape: Board.Shape | null })[]} */
     this.items = [];
     /** @type {Map<string, Board.Entry[]>} */
     this.entries = new Map();
     /** @type {Board.Point | null} */
+    this.asked = null;
+    /** @type {Board.Point | null} */
+    this.wanted = null;
+    this.isUnderWay = false;
+    // Items that were changed are asked for again.
+    machine.panel(({ told, layers }) => [told, layers], () => this.forget());
+  }
+
+  forget() {
+    this.items = [];
+    this.entries = new Map();
     this.asked = this.wanted = null;
     this.isUnderWay = false;
   }
@@ -54,14 +59,16 @@ export class Snaps {
   }
 
   async ask() {
-    const { machine, entries, wanted: { x, y } } = this, names = shownLayers(machine.state).map(({ name }) => name);
+    const { machine, machine: { link }, entries, wanted } = this;
+    if (!wanted || !link) return;
+    const { x, y } = wanted, names = shownLayers(machine.state).map(({ name }) => name);
     const unknown = names.filter((name) => !entries.has(name));
     this.isUnderWay = true;
     this.asked = this.wanted;
     try {
       // (twice as far, so that a small move has its items)
       /** @type {{ items: Machine.Listed[], entries: Record<string, string[]> }} */
-      const found = await machine.link.call("near", { names, unknown, x, y, reach: 2 * this.reach });
+      const found = await link.call("near", { names, unknown, x, y, reach: 2 * this.reach });
       if (entries !== this.entries) return;
       for (const [name, lines] of Object.entries(found.entries)) entries.set(name, entriesFrom(lines));
       this.items = found.items.map((item) => this.described(item));
@@ -90,7 +97,7 @@ export class Snaps {
     /** @param {Board.Pair | null} at @param {string} kind @param {Machine.Place} item */
     const take = (at, kind, { name, place }) => {
       const distance = at ? far(at, [x, y]) : Infinity;
-      if (distance <= reach && (!best || distance < best.distance)) best = { ...whole(at), kind, name, place, distance };
+      if (at && distance <= reach && (!best || distance < best.distance)) best = { ...whole(at), kind, name, place, distance };
     };
     for (const item of items) for (const { kind, at } of item.points) take(at, kind, item);
     if (!best) for (const item of items) if (item.shape) take(edgeOf(item.shape, [x, y]), "edge", item);

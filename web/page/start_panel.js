@@ -1,7 +1,7 @@
 // What an empty page shows in its middle: the place to drop, and the boards that this browser keeps, each with its picture, its size
 // and its date.
 
-import { button, byId, element, redraw } from "./dom.js";
+import { button, byId, contextOf, element, redraw } from "./dom.js";
 import { iconOf } from "./icons.js";
 import { isBlank, isOpening } from "../machine/index.js";
 import { nameOf, plural } from "../board/index.js";
@@ -71,6 +71,6 @@ async function paintFace(canvas, face) {
   const bitmap = await createImageBitmap(new Blob([face], { type: "image/png" })).catch(() => null);
   if (!bitmap) return;
   Object.assign(canvas, { width: bitmap.width, height: bitmap.height });
-  canvas.getContext("2d")?.drawImage(bitmap, 0, 0);
+  contextOf(canvas).drawImage(bitmap, 0, 0);
   bitmap.close();
 }

@@ -2,7 +2,7 @@
 // name; the other stores have its lines, its files and how it looks, by keys that begin with that name. So a board is listed,
 // changed and deleted in one transaction with all that it has.
 
-import { bytesFrom, looksFrom, partOfKey, recordFrom } from "./stored.js";
+import { looksFrom, partOfKey, recordFrom } from "./stored.js";
 
 const STORES = ["boards", "lines", "files", "looks"];
 // A write that the browser does not answer is given up, and told: no gesture waits for ever for a browser that has stopped writing.

@@ -28,13 +28,13 @@ const listOf = (is) => (value) => Array.isArray(value) && value.every(is);
 const oneOf = (names) => (value) => isText(value) && names.includes(value);
 
 // Whether a value has the parts of a type, each as its check says.
-/** @template T @param {unknown} value @param {{ [K in keyof Required<T>]: Check }} checks @returns {value is T} */
+/** @param {unknown} value @param {Record<string, Check>} checks */
 function fits(value, checks) {
   const parts = partsOf(value);
-  return typeof value === "object" && value !== null && Object.entries(checks).every(([name, is]) => /** @type {Check} */ (is)(parts[name]));
+  return typeof value === "object" && value !== null && Object.entries(checks).every(([name, is]) => is(parts[name]));
 }
 
-/** @template T @param {{ [K in keyof Required<T>]: Check }} checks @returns {(value: unknown) => value is T} */
+/** @template T @param {Page.Checks<T>} checks @returns {(value: unknown) => value is T} */
 const shape = (checks) => /** @returns {value is T} */ (value) => fits(value, checks);
 
 const LOOK = { label: isText, colour: isText, height: isNumber, opacity: isNumber, isShown: isTruth, file: maybe(isText), origin: maybe(isText),
@@ -97,7 +97,7 @@ const GIVEN = { id: maybe((value) => isText(value) || isNumber(value)), opening:
 /** @type {Record<string, Record<string, Check>>} */
 const WAITING = {
   lines: { lines: listOf(isText), window: maybe(isText), isAllowed: maybe(isTruth) },
-  load: { layer: isRecognised, given: maybe(shape({ name: isText, path: isText })), refused: maybe(isNumber) },
+  load: { layer: isRecognised, given: maybe((value) => fits(value, { name: isText, path: isText })), refused: maybe(isNumber) },
   opened: {},
   picture: { label: isText, of: orNull(isText), window: orNull(isText), isShown: maybe(isTruth), opacity: maybe(isNumber), colour: maybe(isText),
     isInside: maybe(isTruth) },

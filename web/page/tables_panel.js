@@ -1,7 +1,7 @@
 // The table of drill tools and that of the chosen layer's apertures: sizes, how many items each has, and buttons that light or pick
 // all of them.
 
-import { button, byId, element, redraw } from "./dom.js";
+import { button, byId, contextOf, element, redraw } from "./dom.js";
 import { filesOf, isOpening, layerOf, platingOf, tabled } from "../machine/index.js";
 import { lengthText, seen, wordsIn } from "../board/index.js";
 
@@ -25,13 +25,19 @@ const heads = (...words) => element("thead", {}, element("tr", {}, ...words.map(
 
 // The bytes of a layer's file.
 /** @param {Machine.State} state @param {string | undefined} name */
-const fileOf = (state, name) => state.files[filesOf(state).get(name)]?.bytes;
+function fileOf(state, name) {
+  const id = name === undefined ? undefined : filesOf(state).get(name);
+  return id === undefined ? undefined : state.files[id]?.bytes;
+}
+
+/** @param {Machine.State} state @param {string} name */
+const labelOf = (state, name) => layerOf(state, name)?.label ?? name;
 
 // The shape of an aperture as the station paints it.
 /** @param {ImageBitmap | undefined} bitmap @param {string} words */
 function canvasOf(bitmap, words) {
   const canvas = element("canvas", { width: SIDE, height: SIDE, role: "img", "aria-label": words });
-  if (bitmap) canvas.getContext("2d").drawImage(bitmap, 0, 0);
+  if (bitmap) contextOf(canvas).drawImage(bitmap, 0, 0);
   return canvas;
 }
 
@@ -81,10 +87,11 @@ export class TablesPanel {
    * @param {number} number
    * @param {string} words
    * @param {number} count
+   * @returns {[light: HTMLButtonElement, pick: HTMLButtonElement]}
    */
   buttons(state, name, number, words, count) {
     const { lit } = state.tables, isLit = lit?.name === name && lit.number === number;
-    const label = `${words} of ${layerOf(state, name).label}`;
+    const label = `${words} of ${labelOf(state, name)}`;
     const light = { "aria-pressed": String(isLit), "aria-label": `light all of ${label}`, disabled: count === 0 };
     const pick = { className: "only", "aria-label": `pick all of ${label}`, disabled: count === 0 };
     return [button(words, () => this.light(name, number), light),
@@ -95,7 +102,7 @@ export class TablesPanel {
   /** @param {HTMLElement} panel @param {Machine.State} state @param {unknown[]} more */
   isNew(panel, state, ...more) {
     const { lit, found } = state.tables, names = tabled(state), shown = panel.id === "drills" ? "drill" : "gerber";
-    const of = names.filter((name) => layerOf(state, name).kind === shown).map((name) => [name, layerOf(state, name).label, found[name]]);
+    const of = names.filter((name) => layerOf(state, name)?.kind === shown).map((name) => [name, labelOf(state, name), found[name]]);
     const key = JSON.stringify([of, lit && [lit.name, lit.number], state.unit, more]), isNew = this.shown.get(panel) !== key;
     this.shown.set(panel, key);
     return isNew;
@@ -104,7 +111,8 @@ export class TablesPanel {
   /** @param {Machine.State} state */
   show(state) {
     const { isDrill, isApertures } = state.tables, names = tabled(state);
-    const isDrillLayer = (name) => layerOf(state, name).kind === "drill";
+    /** @param {string} name */
+    const isDrillLayer = (name) => layerOf(state, name)?.kind === "drill";
     if (isDrill) this.showDrills(state, names.filter(isDrillLayer));
     if (isApertures) this.showApertures(state, names.find((name) => !isDrillLayer(name)));
   }
@@ -123,19 +131,20 @@ export class TablesPanel {
     const plating = platingOf(state, name);
     const rows = found.entries.map(({ number, width }) => {
       const counts = found.counts[number] ?? {}, [light, pick] = this.buttons(state, name, number, `T${number}`, sum(counts));
-      const [hits, routs] = [counts.hit ?? 0, counts.rout ?? 0].map(String);
+      const hits = String(counts.hit ?? 0), routs = String(counts.rout ?? 0);
       return element("tr", { "data-row": number },
         ...cells(light, lengthText(width, state.unit), hits, routs, plating.of(number), pick));
     });
-    return [element("h3", {}, layerOf(state, name).label), element("table", { className: "tally", "data-row": name },
+    return [element("h3", {}, labelOf(state, name)), element("table", { className: "tally", "data-row": name },
       heads("tool", state.unit, "hits", "routs", "plated", ""), element("tbody", {}, ...rows))];
   }
 
   /** @param {Machine.State} state @param {string | undefined} name */
   showApertures(state, name) {
-    const panel = byId("apertures"), found = state.tables.found[name], bytes = fileOf(state, name), shapes = this.shapes.get(bytes);
-    if (!this.isNew(panel, state, filesOf(state).get(name), shapes?.size)) return undefined;
+    const panel = byId("apertures"), bytes = fileOf(state, name), shapes = bytes && this.shapes.get(bytes);
+    if (!this.isNew(panel, state, filesOf(state).get(name ?? ""), shapes?.size)) return undefined;
     if (!name) return redraw(panel, element("p", { className: "hint" }, "Choose a Gerber layer: a drill layer has tools."));
+    const found = state.tables.found[name];
     if (!found) return undefined;
     this.draw(state, name, bytes);
     const rows = found.entries.map(({ number, words }) => {
@@ -144,19 +153,22 @@ export class TablesPanel {
         ...cells(light, canvasOf(shapes?.get(number), words), wordsIn(words, state.unit), countWords(counts), pick));
     });
     const without = found.counts.none ? [element("p", { className: "hint" }, `without an aperture: ${countWords(found.counts.none)}`)] : [];
-    return redraw(panel, element("h3", {}, layerOf(state, name).label), element("table", { className: "tally" },
+    return redraw(panel, element("h3", {}, labelOf(state, name)), element("table", { className: "tally" },
       heads("", "shape", "size", "items", ""), element("tbody", {}, ...rows)), ...without);
   }
 
   // Asks for the shapes of a layer once: nothing changes a definition.
   /** @param {Machine.State} state @param {string} name @param {Uint8Array | undefined} bytes */
   draw(state, name, bytes) {
-    const { machine } = this;
-    if (!bytes || this.shapes.has(bytes) || !state.station.isOpen) return;
-    const shapes = new Map(), isLight = document.documentElement.dataset.look === "light";
+    const { machine, machine: { link } } = this, layer = layerOf(state, name);
+    if (!bytes || !layer || !link || this.shapes.has(bytes) || !state.station.isOpen) return;
+    /** @type {Map<number, ImageBitmap>} */
+    const shapes = new Map();
+    const isLight = document.documentElement.dataset.look === "light";
     this.shapes.set(bytes, shapes);
-    const colour = seen(layerOf(state, name).colour, isLight);
-    machine.await(machine.link.call("shapes", { name, side: SIDE, colour }).then((found) => {
+    /** @type {Promise<{ shapes: { number: number, bitmap: ImageBitmap }[] }>} */
+    const asked = link.call("shapes", { name, side: SIDE, colour: seen(layer.colour, isLight) });
+    machine.await(asked.then((found) => {
       for (const { number, bitmap } of found.shapes) shapes.set(number, bitmap);
       this.show(machine.state);
     }, () => this.shapes.delete(bytes)));

@@ -41,7 +41,7 @@ export class Telling {
     }
     /** @type {Machine.Answer<Machine.Words> | null} */
     const answer = await this.ask("words", { name: item.name, place: item.place });
-    const [now, ...more] = machine.state.picked, found = answer?.found;
+    const [now, ...more] = machine.state.picked, found = answer?.found ?? null;
     if (!answer || now?.id !== item.id || more.length || found && found.line !== now.words) return;
     machine.send({ kind: "setting", changes: { inWords: { id: item.id, told, unit, words: found, why: answer.why } } });
     // (in place of the station's line, which is what is said of a click)

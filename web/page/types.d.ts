@@ -44,6 +44,11 @@ declare namespace Page {
     show(seen: Machine.Seen | null): void;
   }
 
+  /** What a type is given by, and not found from. */
+  type Given<T> = [T][T extends unknown ? 0 : never];
+  /** A check of each part of a type (stored.js). */
+  type Checks<T> = { [K in keyof Required<Given<T>>]: (value: unknown) => boolean };
+
   // ---- The board on the screen (view.js, composed.js, marks.js, pointer.js) ----
 
   /** A custom property of the style, as a colour. */
@@ -62,9 +67,9 @@ declare namespace Page {
   /** A place that is gone to: `zoom` is the nm of a pixel of the page. */
   interface Goal extends Board.Point, Partial<Board.Turned> { zoom?: number | null }
   /** What the pointer drags, by its kind: since where and when, and how far it may go in a click. */
-  interface Drag {
-    kind: "pan" | "measure" | "tap" | "net" | "draw" | "grip" | "box"; at: Board.Point; from: Board.Point; start: Board.Point; still: number; hasMoved: boolean;
-    isAdded?: boolean; isMenu?: boolean; isHeld?: boolean; grip?: import("./grips.js").Grip;
+  type Drag = Dragged & ({ kind: "pan" | "measure" | "tap" | "net" | "draw" | "box" } | { kind: "grip"; grip: import("./grips.js").Grip });
+  interface Dragged {
+    at: Board.Point; from: Board.Point; start: Board.Point; still: number; hasMoved: boolean; isAdded?: boolean; isMenu?: boolean; isHeld?: boolean;
   }
 
   // ---- Between the page and its worker, but for what the machine asks (view.js, main.js) ----
