@@ -41,7 +41,8 @@ export class Boards {
     const store = this.store = await Store.open(platform, name, () => this.lost());
     this.holding = new Holding(platform, name, { asked: (key) => handOver(this, key), stolen: (key) => stolen(this, key),
       heard: () => this.refresh() });
-    const older = store.base ? await bringOver(store, `camplot ${journal}`).catch((/** @type {unknown} */ fault) => ({ left: 0, fault })) : { left: 0 };
+    const bringing = store.base ? bringOver(store, `camplot ${journal}`) : Promise.resolve({ left: 0 });
+    const older = await bringing.catch((/** @type {unknown} */ fault) => ({ left: 0, fault }));
     if (store.base) await this.sweep();
     const taken = await this.takeFree(CLOSING_MS);
     this.list = taken.length ? taken : [await this.fresh(hasContents)];
@@ -206,7 +207,8 @@ export class Boards {
     this.say(`${plural(files.length, "file")} for ${nameOf(board)}: opened as soon as it is shown.`);
     const { count, isLost, isOpen, records } = state.kept, ids = waiting.queue.flatMap(({ files: its = [] }) => its);
     if (!isOpen || isLost || records.length) return undefined;
-    return this.machine.await(kept.write({ from: count, records: [], files: Object.entries(waiting.files).filter(([id]) => ids.includes(id)).map(([id, { bytes }]) => [id, bytes]),
+    const its = Object.entries(waiting.files).filter(([id]) => ids.includes(id));
+    return this.machine.await(kept.write({ from: count, records: [], files: its.map(([id, { bytes }]) => [id, bytes]),
       waiting: waitingOf(waiting) }));
   }
 

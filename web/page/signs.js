@@ -32,8 +32,9 @@ export class Signs {
     this.gap = null;
     /** @type {{ items: Machine.Lit["items"], shapes: Board.Outline[] } | null} */
     this.paths = null;
-    machine.panel(({ picked, tool }) => [picked, tool], ({ picked: [item, ...others], tool }) => {
-      this.handles = tool === "pick" && item && !others.length ? handlesOf(item.words) : [];
+    machine.panel(({ picked, tool }) => [picked, tool], ({ picked, tool }) => {
+      const [item] = picked;
+      this.handles = tool === "pick" && item && picked.length === 1 ? handlesOf(item.words) : [];
     });
     machine.panel(({ picked, entries, gap }) => [picked, entries, gap], (state) => {
       this.gap = gapLine(state);
@@ -46,8 +47,8 @@ export class Signs {
   seenHandles() {
     const { view, handles } = this, { left, top, pitch, width, height } = view, right = left + width * pitch, low = top - height * pitch;
     const found = [];
-    for (const [number, [x, y]] of handles.entries()) {
-      if (found.length > MOST) break;
+    for (let number = 0; number < handles.length && found.length <= MOST; number++) {
+      const [x, y] = /** @type {Board.Pair} */ (handles[number]);
       if (x >= left && x <= right && y >= low && y <= top) found.push({ number, ...view.placeOf(x, y) });
     }
     return found.length > MOST ? [] : found;

@@ -59,6 +59,12 @@ for (const value of VALUES) {
       assert.deepEqual(told(page), LAMP);
     });
 
+    test("as the look of a line's layer: the line is there", async () => {
+      const { page, key } = await withNonsense((row, name) => { row("lines", [name, 1])[1].entries[0].layer = value; });
+      await showRadio(page, key);
+      assert.deepEqual([told(page), page.state.kept.why], [RADIO, null]);
+    });
+
     test("as a file: the page says that it cannot be read", async () => {
       const { page, key } = await withNonsense((row, name) => { row("files", [name, row("lines", [name, 1])[1].entries[0].file])[1] = value; });
       await showRadio(page, key);
