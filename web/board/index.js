@@ -9,14 +9,14 @@
 //
 //     import { gapBetween, itemOf, lengthText, shapeOf } from "./index.js";
 //     itemOf("draw 10 0 0 1000000 0 r0 dark").points; // [[0, 0], [1000000, 0]]
-//     const pen = { number: 10, words: "", width: 200000, height: 200000, shape: "circle", hasHole: false };
+//     const pen = { number: 10, words: "", width: 200000, height: 200000, shape: "circle", hasHole: false, definition: "" };
 //     const [one, other] = ["flash 10 0 0 r0 dark", "flash 10 1000000 0 r0 dark"].map((words) => shapeOf(words, [pen]));
 //     lengthText(gapBetween(one, other).distance, "mm"); // "0.800"
 
 export { nameOf, titleOf } from "./board_names.js";
 export { boxFrom, joined } from "./boxes.js";
 export { DRILL, GERBER, HEAD, endingOf, kindOf } from "./file_kinds.js";
-export { boxOf, boxOfWindow, entriesFrom, itemOf, outlineOf, shifted } from "./items.js";
+export { boxOf, boxOfWindow, entriesFrom, itemOf, outlineOf, renumbered, shifted } from "./items.js";
 export { PLAIN, byFunction, fileFunction, functionFields, inner, plain } from "./layer_functions.js";
 export { BY_ATTRIBUTE, Layer, nameParts, recognise, recogniseFiles } from "./layers.js";
 export { UNIT_WORDS, isNumber, lengthOf } from "./lengths.js";

@@ -70,6 +70,10 @@ export function shifted(text, dx, dy) {
   }).join(" ");
 }
 
+// The words of the same item with another aperture or tool.
+/** @param {string} text @param {number} number */
+export const renumbered = (text, number) => text.trim().split(/\s+/).map((word, at) => at === 1 ? String(number) : word).join(" ");
+
 // The path of an item in nm, with what is stroked; `entryOf(number)` is its aperture or tool, or null.
 /**
  * @param {Board.Item | null} item
@@ -138,8 +142,8 @@ export function boxOfWindow(line) {
 }
 
 // The apertures, blocks or tools that an answer to `entries` tells: each has a line of its kind and number, and its
-// definition below. { number, words, width, height, shape, hasHole }, with the width in nm that it strokes, 0 where that is not
-// known, and the name of its shape where that is simple.
+// definition below. { number, words, width, height, shape, hasHole, definition }, with the width in nm that it strokes, 0 where that
+// is not known, the name of its shape where that is simple, and its definition without its number.
 /** @param {string[]} lines @returns {Board.Entry[]} */
 export function entriesFrom(lines) {
   /** @type {Board.Entry[]} */
@@ -147,7 +151,7 @@ export function entriesFrom(lines) {
   for (const line of lines) {
     const [, kind, number] = /^(aperture|block|tool) (\d+)/.exec(line) ?? [], last = found.at(-1);
     if (kind) found.push({ number: Number(number), words: kind === "block" ? "block" : "", width: 0, height: 0,
-      shape: null, hasHole: false });
+      shape: null, hasHole: false, definition: kind });
     else if (last) describe(last, line);
   }
   return found;
@@ -158,6 +162,7 @@ const NAMES = { C: "circle", R: "rectangle", O: "obround" };
 
 /** @param {Board.Entry} entry @param {string} line */
 function describe(entry, line) {
+  entry.definition += `\n${line.replace(/^(%ADD|T)\d+/, "$1")}`;
   const [, name, width, second, third] = /^%ADD\d+([CRO]),([\d.]+)(?:X([\d.]+))?(?:X([\d.]+))?\*%$/.exec(line) ?? [];
   const [, tool] = /^T\d+C([\d.]+)$/.exec(line) ?? [], shape = name && NAMES[name];
   /** @param {string | undefined} length */

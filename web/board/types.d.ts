@@ -37,7 +37,7 @@ declare namespace Board {
   /** How far two are from one another, and by which points; `pitch` where that is by pixels. */
   interface Gap { distance: number; from: Pair; to: Pair; pitch?: number }
   /** An aperture, block or tool; `shape` is a name where it is simple, and a width of 0 is one that is not known. */
-  interface Entry { number: number; words: string; width: number; height: number; shape: string | null; hasHole: boolean }
+  interface Entry { number: number; words: string; width: number; height: number; shape: string | null; hasHole: boolean; definition: string }
   /** A path on the board, and the width that is stroked along it. */
   interface Outline { path: Path2D; width: number }
 
@@ -80,6 +80,7 @@ declare namespace Board {
     compareTwoView: { names: string[]; colours: string[] };
     pictures: { names: string[]; line: string };
     picture: { name: string; picture: import("../bytes/index.js").Picture | null; line?: string };
+    whole: { name: string; names: string[] };
     stop: {};
   }
   /** What a line came to: its reply, and the bytes of a plot or a text. */
@@ -112,5 +113,6 @@ declare namespace Board {
     withAttributes: { files: { name: string; bytes: Uint8Array | null; why?: string }[] };
     compare: Differing; compareView: Sheets; compareTwo: Counts; compareTwoView: Sheets;
     pictures: { pictures: Uint8Array[] | null }; picture: Nothing; stop: Nothing;
+    whole: { items: string[]; own: string; boxes: string[] };
   }
 }

@@ -7,6 +7,7 @@ import { fieldsOf } from "./functions.js";
 import { layerOf } from "./state.js";
 import { reshape } from "./reshaping.js";
 import { shifted } from "../board/index.js";
+import { wordsInto } from "./copied.js";
 
 /** @param {Machine.Picked} item */
 const isRepeat = (item) => item.words.startsWith("repeat");
@@ -37,8 +38,10 @@ function drawnWords(state, { words, active, again }) {
 
 /** @param {Machine.State} state @param {Machine.EditOf<"paste">} gesture @returns {Machine.Outcome} */
 function paste(state, { dx, dy }) {
-  if (!layerOf(state, state.active) || !state.copied.length) return { why: "Nothing was copied." };
-  const copied = state.copied.map((words) => shifted(words, dx, dy)), made = insertAll(state, copied);
+  if (!state.copied.length) return { why: "Nothing was copied." };
+  const copied = state.copied.map((item) => ({ ...item, words: shifted(item.words, dx, dy) }));
+  const other = whyNotInto(state, copied.map(({ words }) => words)), { words, why } = other ? { words: [], why: other } : wordsInto(state, copied);
+  const made = why ? { why } : insertAll(state, words);
   return made.why ? made : { ...made, changes: { copied } };
 }
 
@@ -91,6 +94,3 @@ export function linesOf(state, gesture) {
   const make = /** @type {(state: Machine.State, gesture: Machine.Edit) => Machine.Outcome} */ (verbs[gesture.verb]);
   return isOf(state, gesture) ? make(state, gesture) : { why: "What was picked is another by now, so nothing was done." };
 }
-
-/** @param {Machine.State} state */
-export const copiedOf = ({ picked }) => picked.filter((item) => !isRepeat(item)).map((item) => item.words);

@@ -6,6 +6,8 @@ import { drawnLayers, isMadeShown, shownLayers } from "./state.js";
 // A side has so many pixels at most, as browsers allow a canvas, and all pictures together so many, 128 MB of bits. What is printed
 // has fewer, of the least pitch that fits, and none below 5 µm, about 5,000 dots an inch.
 const SIDE = 16384, ALL = 2 ** 30, PRINTED = 6000, LEAST_PRINTED = 5000;
+// The board as it will be made has four of the station's pixels for each of its own.
+const BOARD_SIDE = 8192;
 
 // The window around a box, a pixel wider on each side.
 /** @param {Board.Box} box @param {number} pitch @returns {Machine.Area} */
@@ -34,6 +36,22 @@ function askForPictures(turn, form, given, boxes) {
   return turn.ask("pictures", { kind: "pictures", names: layers, line: `window ${left} ${low} ${pitch} ${width} ${height}` });
 }
 
+// The side of the board as it will be made, which the page asks the worker for; its pitch is even.
+/** @param {Machine.Turn} turn @param {string} form @param {number} given @param {string[]} boxes */
+function handBoard(turn, form, given, boxes) {
+  const box = joined(boxes.map(boxOf)), asked = box && form === "print" ? printedPitch(box) : given, pitch = 2 * Math.ceil(asked / 2);
+  const window = box && windowOf(box, pitch);
+  if (!window || Math.max(window.width, window.height) > BOARD_SIDE) {
+    turn.say(window ? `That is more than ${BOARD_SIDE.toLocaleString("en")} pixels along a side: use fewer dots an inch.`
+      : "The layers have nothing to draw.", true);
+    return turn.finish();
+  }
+  const [width, height] = [window.width, window.height].map((pixels) => mm(pixels * pitch)), pixels = `pixels of ${pitch.toLocaleString("en")} nm`;
+  return handOut(turn, { kind: "give board", window, form }, form === "print"
+    ? `The board as it will be made goes to the printer, ${width} by ${height} mm, with ${pixels}: print at actual size.`
+    : `The board as it will be made is saved as board.svg, with ${pixels}.`);
+}
+
 /** @param {Machine.Turn} turn @param {Machine.HandedOut} message @param {string} words */
 function handOut(turn, message, words) {
   turn.work({ stage: "handing", words });
@@ -43,7 +61,8 @@ function handOut(turn, message, words) {
 /** @type {Machine.Kind<"give">} */
 export const give = {
   begin(turn, { form }) {
-    const shown = shownLayers(turn.state), isAny = form === "png" ? drawnLayers(turn.state).length > 0 || isMadeShown(turn.state) : shown.length > 0;
+    const isMade = isMadeShown(turn.state), shown = isMade ? turn.state.layers : shownLayers(turn.state);
+    const isAny = form === "png" ? drawnLayers(turn.state).length > 0 || isMade : shown.length > 0;
     if (!isAny) {
       turn.say("No layer is shown.", true);
       return turn.finish();
@@ -54,7 +73,7 @@ export const give = {
   },
   answer(turn, { form, pitch }, answer) {
     const { stage, area: window, words, names } = turn.state.work;
-    if (stage === "boxes") return askForPictures(turn, form, pitch, answer.boxes);
+    if (stage === "boxes") return (isMadeShown(turn.state) ? handBoard : askForPictures)(turn, form, pitch, answer.boxes);
     if (stage === "pictures" && answer.pictures && form === "print") {
       const [width, height] = [window.width, window.height].map((pixels) => mm(pixels * window.pitch));
       return handOut(turn, { kind: "give print", window, pictures: answer.pictures, layers: names },

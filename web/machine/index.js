@@ -15,6 +15,7 @@
 export { askingAlike } from "./asking.js";
 export { filesOf, losses } from "./attributes.js";
 export { FOUND } from "./comparing.js";
+export { fromElsewhere } from "./copied.js";
 export { drawingTools } from "./drawing_tools.js";
 export { whyNoTool } from "./drawn_into.js";
 export { FUNCTIONS, fieldsOf } from "./functions.js";
@@ -33,6 +34,7 @@ export { step } from "./step.js";
 export { firstWord, wordsOf } from "./steps.js";
 export { tabled } from "./tables.js";
 export { tellingOf } from "./telling.js";
+export { MOST } from "./whole_layer.js";
 
 /** @typedef {import("./steps.js").Steps} Steps */
 /** @typedef {import("./turn.js").Turn} Turn */

@@ -6,7 +6,9 @@ import { firstWord, isEdit, wordsOf } from "./steps.js";
 import { keep, keepAnew } from "./keeping.js";
 import { layerOf } from "./state.js";
 import { close, closeAll } from "./closing.js";
-import { copiedOf, linesOf } from "./edits.js";
+import { applied, entriesOf, grouped } from "./grouped.js";
+import { copiedOf } from "./copied.js";
+import { linesOf } from "./edits.js";
 import { gap, pickListed, pile } from "./lying.js";
 import { give } from "./giving.js";
 import { load, losesSteps, opened, picture } from "./loading.js";
@@ -19,15 +21,7 @@ import { light, pickShared } from "./telling.js";
 import { replay } from "./replaying.js";
 import { seek } from "./seeking.js";
 import { tellRefused } from "./refused.js";
-
-// The entries of lines with their answers; those without a reply are none.
-/** @param {string[]} lines @param {Machine.Applied[]} answers @param {(at: number) => Partial<Machine.Told>} more */
-export const entriesOf = (lines, answers, more = () => ({})) =>
-  answers.map(({ reply }, at) => ({ line: lines[at], reply, ...more(at) })).filter(({ reply }) => reply);
-
-// What a group's lines are with those around it.
-/** @param {string[]} lines @param {boolean} isRefused */
-const grouped = (lines, isRefused) => ["begin", ...lines, isRefused ? "abort" : "end"];
+import { whole } from "./whole_layer.js";
 
 /** @type {Machine.Kind<"edit">} */
 const edit = {
@@ -42,23 +36,7 @@ const edit = {
     turn.work({ lines, isGroup, changes, places });
     turn.apply(lines.map((line) => ({ line })), isGroup);
   },
-  answer(turn, gesture, { answers, isStopped }) {
-    const { lines, isGroup, places, changes } = turn.state.work;
-    if (isStopped) {
-      turn.say("Stopped: nothing of it was done.");
-      return turn.finish();
-    }
-    const isRefused = tellRefused(turn, answers);
-    const made = !isGroup ? lines : isRefused ? ["begin", ...lines.slice(0, answers.length - 2), "abort"] : grouped(lines, false);
-    if (!isRefused) {
-      turn.say("");
-      if (changes) turn.set(changes);
-    }
-    const fresh = (place) => ({ id: turn.number(), ...place, words: "", box: null });
-    const then = !isRefused && places ? { picks: places.map(fresh) } : {};
-    turn.work({ result: { isWell: !isRefused, answers } });
-    settle(turn, entriesOf(made, answers), then);
-  },
+  answer: (turn, gesture, answer) => applied(turn, answer),
 };
 
 // Lines as they are: one that was typed, or several of a caller, which are a group where all are edits.
@@ -89,7 +67,7 @@ const lines = {
       return turn.finish({ isWell: false, answers: [] });
     }
     const isRefused = tellRefused(turn, answers), all = turn.state.work.lines;
-    const made = !isGroup ? all : isRefused ? ["begin", ...all.slice(0, answers.length - 2), "abort"] : grouped(all, false);
+    const made = isGroup ? grouped(all, isRefused, answers.length) : all;
     if (!isRefused) turn.say("");
     turn.work({ result: { isWell: !isRefused, answers: isGroup ? answers.slice(1, -1) : answers.slice(isBlind ? 1 : 0) } });
     const more = (at) => file !== undefined && firstWord(made[at]) === "load" ? { path, file } : {};
@@ -117,7 +95,7 @@ const copy = {
   begin(turn) {
     const copied = copiedOf(turn.state);
     turn.set({ copied });
-    turn.send({ to: "page", kind: "copy", text: copied.join("\n") });
+    turn.send({ to: "page", kind: "copy", text: copied.map(({ words }) => words).join("\n") });
     turn.say(copied.length ? `${copied.length} copied.` : "Nothing is picked to copy.");
     turn.finish();
   },
@@ -144,4 +122,5 @@ const list = {
 
 /** @type {Machine.Kinds} */
 export const kinds = { choose, close, closeAll, compare, compareTwo, compareView, copy, dropped, edit, fit, gap, give, keep: keeping, light, lines,
-  list, load, opened, pickAt, pickIn, pickLike, pickListed, pickShared, picks, picture, pile, plot, replay, save, script, seek, tally };
+  list, load, opened, pickAt, pickIn, pickLike, pickListed, pickShared, picks, picture, pile, plot, replay, save, script, seek, tally,
+  whole };

@@ -150,12 +150,14 @@ export const save = {
     if (isRefused) return settle(turn, entries);
     const files = answers.map(({ bytes }, at) => ({ name: names[at], bytes, layer: wordsOf(lines[at])[1] }));
     turn.work({ entries, files });
-    if (gesture.isWhole) {
-      const layers = files.filter(({ layer }) => layerOf(turn.state, layer).kind === "gerber")
+    const lost = losses(turn.state, files.map(({ layer }) => layerOf(turn.state, layer)));
+    /** @param {string} name */
+    const isGerber = (name) => layerOf(turn.state, name)?.kind === "gerber";
+    if (gesture.isWhole ?? lost.some(({ name }) => isGerber(name))) {
+      const layers = files.filter(({ layer }) => isGerber(layer))
         .map(({ layer, bytes }) => ({ name: layer, canonical: bytes }));
       return turn.ask("attributes", { ...carriedLines(turn.state), layers });
     }
-    const lost = losses(turn.state, files.map(({ layer }) => layerOf(turn.state, layer)));
     return handOutTexts(turn, gesture.name, files, lost.length ? ", without the attributes of items." : ".");
   },
 };
@@ -165,9 +167,12 @@ export const save = {
 function savedWith(turn, { name }, { files: made }) {
   const { files } = turn.state.work, found = new Map(made.map((file) => [file.name, file]));
   const whys = made.filter(({ bytes }) => !bytes).map((file) => `${file.name}: ${file.why}`);
+  const texts = files.map((file) => ({ ...file, bytes: found.get(file.layer)?.bytes ?? file.bytes }));
+  // (what was added makes a text longer)
+  const isMore = texts.some(({ bytes }, at) => bytes.length !== files[at].bytes.length);
   const words = whys.length ? `; these without attributes, which could not be joined: ${whys.join("; ")}.`
-    : ", with the attributes of items.";
-  handOutTexts(turn, name, files.map((file) => ({ ...file, bytes: found.get(file.layer)?.bytes ?? file.bytes })), words);
+    : isMore ? ", with the attributes of items." : ".";
+  handOutTexts(turn, name, texts, words);
 }
 
 // The window around a box in nm at a pitch, as a line.

@@ -20,7 +20,7 @@ export const firstState = () => ({
   unsaved: 0,
   hasWindow: false,
   // What is picked, { id, name, place, words, box }, in the order of picking: `id` is the pick's own for as long as it lasts.
-  // Then the last click, { x, y, id }, and the words of what was copied.
+  // Then the last click, { x, y, id }, and what was copied, in the words of its items with their apertures' and tools' definitions.
   picked: [],
   click: null,
   copied: [],

@@ -92,6 +92,8 @@ declare namespace Machine {
   interface Answer<T> { found: T | null; why: string | null }
   /** What lies at a point, of the script as it was, `told`. */
   interface Menu extends Board.Point { items: (Place & { words: string; box: string })[]; isMore: boolean; told: Told[] }
+  /** A copied item: its words, its layer's name, null in another board, and the definition of its aperture or tool, in short `entry`. */
+  interface Copied { words: string; from: string | null; definition: string | null; entry: string }
   /** The points of what is drawn, and the centre of the arc that the next one ends. */
   interface Drawn { points: (Board.Point & { centre?: Board.Point; direction?: string })[]; centre: Board.Point | null }
   /** What the browser keeps, and what it was not given yet (keeping.js). */
@@ -130,7 +132,7 @@ declare namespace Machine {
   /** All that the page knows. */
   interface State {
     layers: Layer[]; told: Told[]; steps: Steps; saved: Record<string, Way>; unsaved: number; hasWindow: boolean;
-    picked: Picked[]; click: (Board.Point & { id: number }) | null; copied: string[];
+    picked: Picked[]; click: (Board.Point & { id: number }) | null; copied: Copied[];
     active: string | null; entry: number | null; entries: Record<string, Board.Entry[]>; attributes: Record<string, string[]>;
     list: { isOpen: boolean; from: number; words: string[]; name: string | null };
     tool: string; making: Drawn | null; grid: number; unit: string; polarity: string; turn: string; direction: string;
@@ -195,6 +197,7 @@ declare namespace Machine {
     script: {};
     seek: {};
     tally: { changes?: Partial<Tables> };
+    whole: { name: string };
   }
   /** The edits by their verbs (edits.js). */
   interface Verbs {
@@ -257,8 +260,12 @@ declare namespace Machine {
     look?: Partial<Look>; changes?: Partial<State>; places?: Place[]; found?: Place | null; item?: Place; count?: number; pair?: Compared[];
     picture?: import("../bytes/index.js").Picture; window?: string; area?: Area; files?: (File & { layer?: string })[]; plotted?: string[];
     entries?: Told[]; after?: Partial<State>; picks?: Picked[]; isKept?: boolean; isSeen?: boolean;
-    rest?: Told[]; made?: Told[]; spoiled?: State["spoiled"]; isSent?: boolean[]; steps?: Real;
+    whole?: Whole; rest?: Told[]; made?: Told[]; spoiled?: State["spoiled"]; isSent?: boolean[]; steps?: Real;
   }
+  /** All items of a layer in their words, its box, and that of all layers. */
+  interface Whole { items: string[]; box: Board.Box; all: Board.Box }
+  /** A turn about the middle of the layer, of all layers, or about the zero point; and then a move in nm. */
+  interface LayerChange { turn: string; about: "layer" | "all" | "zero"; dx: number; dy: number }
   /** Where an item went in its layer's list: `from` is null where it comes in, `to` where it goes. */
   interface Shift { name: string; from: number | null; to: number | null }
   /** What came of a gesture, for who waits for it. */
@@ -289,6 +296,7 @@ declare namespace Machine {
     compareTwo: { pair: Compared[]; names: string[] };
     compareTwoView: { names: string[]; colours: string[] };
     pictures: { names: string[]; line: string };
+    whole: { name: string; names: string[] };
     picture: { name: string; picture: import("../bytes/index.js").Picture | null; line?: string };
     stop: {};
   }
@@ -323,6 +331,7 @@ declare namespace Machine {
     save: Lines & Handed & { files: { name: string; bytes: Uint8Array | null; why?: string }[] };
     tally: { layers: Record<string, { counts: Tally["counts"]; entries: string[] }>; lit: Listed[] | null };
     light: Answer<{ items: Listed[]; count: number; entries: Record<string, string[]> }>; pickShared: Answer<Places & { count: number }>;
+    whole: Lines & { items: string[]; own: string; boxes: string[] };
   }
 
   // ---- Questions to the person, and the answers (questions.js of the page) ----
@@ -339,6 +348,7 @@ declare namespace Machine {
     history: { steps: number };
     place: { label: string; width: number; height: number; box: Board.Box };
     plot: {};
+    whole: { label: string; isDrill: boolean; count: number; repeats: number; box: Board.Box; all: Board.Box };
   }
   /** `gesture` is the one that waits for the answer, `opening` the one that the question belongs to. */
   type Question = { [K in keyof Questions]: { kind: K; id?: number; gesture?: number | string; opening?: number } & Questions[K] }[keyof Questions];
@@ -347,7 +357,7 @@ declare namespace Machine {
   interface Replied {
     question: number; value: string | null; why?: string | null; bytes?: Uint8Array | null; made?: { id: number; bytes: Uint8Array }[];
     names?: string[]; pitch?: number; form?: string; columns?: number; rows?: number; dx?: number; dy?: number; place?: Board.Point | null;
-    window?: string | null;
+    window?: string | null; change?: LayerChange;
   }
 
   // ---- Events: what the machine is told (step.js) ----
@@ -424,6 +434,7 @@ declare namespace Machine {
     download: { number: number; files: File[]; zip: string | null; form?: string; pitch?: number };
     finished: { gesture: number | string; result: Result | null };
     fit: { box: Board.Box; room?: number };
+    "give board": { number: number; window: Area; form: string };
     "give print": { number: number } & Pictures;
     "give svg": { number: number } & Pictures;
     "give view": { number: number };
@@ -439,7 +450,8 @@ declare namespace Machine {
     try: { refused: number };
     view: { view: Seen };
   }
-  type HandedOut = { [K in "give view" | "give svg" | "give print"]: { kind: K } & Omit<ToPage[K], "number"> }["give view" | "give svg" | "give print"];
+  type Given = "give view" | "give svg" | "give print" | "give board";
+  type HandedOut = { [K in Given]: { kind: K } & Omit<ToPage[K], "number"> }[Given];
   /** The station's pictures of layers by their names, as PBM files. */
   interface Pictures { window: Area; pictures: Uint8Array[]; layers: string[] }
   /** To the journal: records behind the first `from`, or all anew. */

@@ -4,7 +4,7 @@
 import { button, element, field } from "./dom.js";
 import { lengthIn, lengthText, wholeOf } from "../board/index.js";
 import { act, actions, keyWords } from "./actions.js";
-import { nothingPicked } from "./reasons.js";
+import { noLayer, nothingPicked } from "./reasons.js";
 
 /** @param {string} turn @returns {Machine.Gesture} */
 const turned = (turn) => ({ kind: "edit", verb: "turn", turn });
@@ -36,6 +36,10 @@ const askForArray = (machine) => machine.send({ kind: "ask",
 export function nameArranging({ machine }) {
   for (const [id, , label, key, gesture] of GESTURES) act(id, "Arrange", label, [key], () => machine.gesture(gesture), nothingPicked);
   act("array", "Arrange", "Copies in columns and rows", ["k"], () => askForArray(machine), nothingPicked);
+  act("whole-layer", "Arrange", "Move, turn or mirror the chosen layer, all of it", ["Shift+m"], () => {
+    const { active } = machine.state;
+    return active === null ? undefined : machine.gesture({ kind: "whole", name: active });
+  }, noLayer);
 }
 
 /** @param {string} id @param {string} words */

@@ -3,7 +3,7 @@
 
 import { CLOSING_MS, Holding } from "./holding.js";
 import { Kept, LOST } from "./kept.js";
-import { firstState, isBlank, step, waitingOf } from "../machine/index.js";
+import { firstState, fromElsewhere, isBlank, step, waitingOf } from "../machine/index.js";
 import { Store, faultWords, settled } from "./store.js";
 import { adopt, handOver, stolen, takeOver } from "./handing.js";
 import { nameOf, plural, titleOf } from "../board/index.js";
@@ -236,6 +236,7 @@ export class Boards {
     if (board === this.shown || !this.list.includes(board)) return;
     const journal = board.state ? null : await board.kept.read();
     await machine.atRest();
+    const copied = fromElsewhere(machine.state.copied);
     desk.keepLooks();
     this.park();
     Object.assign(board, { shown: this.now() });
@@ -244,12 +245,13 @@ export class Boards {
       Object.assign(machine, { state: board.state, link: board.link, kept: board.kept });
       desk.show(board.view ?? null);
       // (what was given to it meanwhile begins)
-      machine.send({ kind: "setting", changes: {} });
+      machine.send({ kind: "setting", changes: { copied } });
       machine.draw();
     } else {
       desk.show(null);
       Object.assign(machine, { state: firstState(), link: null, kept: board.kept });
       machine.send({ kind: "begin", kept: journal ?? await board.kept.read(), contents: board.hasContents ? desk.contents() : null });
+      machine.send({ kind: "setting", changes: { copied } });
       this.tellLost();
       await this.begin();
     }

@@ -42,9 +42,10 @@ function nameFiles({ machine, boards }) {
   act("example", "Files", "Try an example: a small board", [], () => machine.await(openExample(machine, boards)));
   act("save", "Files", "Save all layers", ["Ctrl+s"], () => machine.gesture({ kind: "save" }), noLayer);
   act("save-layer", "Files", "Save this layer", ["Ctrl+Shift+s"], () => machine.gesture({ kind: "save", name: chosenIn(machine) }), noLayer);
-  act("save-whole", "Files", "Save all layers with attributes", [], () => machine.gesture({ kind: "save", isWhole: true }), noLayer);
-  act("save-layer-whole", "Files", "Save this layer with attributes", [],
-    () => machine.gesture({ kind: "save", name: chosenIn(machine), isWhole: true }), noLayer);
+  act("save-bare", "Files", "Save all layers without attributes of items", [],
+    () => machine.gesture({ kind: "save", isWhole: false }), noLayer);
+  act("save-layer-bare", "Files", "Save this layer without attributes of items", [],
+    () => machine.gesture({ kind: "save", name: chosenIn(machine), isWhole: false }), noLayer);
   act("plot", "Files", "Save a plot", ["Ctrl+p"], () => machine.state.layers.length ? ask("plot")()
     : machine.send({ kind: "say", text: "No layer is open.", isFault: true }), noLayer);
   act("give", "Files", "Save a picture in colours", ["Shift+p"], ask("give"), nothingOpen);
@@ -96,9 +97,8 @@ function nameTools({ machine, view, pointer, marks, panels }) {
   act("end", "Tools", "End a region or a rout", ["Enter"], () => machine.send({ kind: "endMaking" }));
   act("escape", "Tools", "Let go", ["Escape"], () => {
     if (panels.close()) return;
-    marks.measured = null;
+    if (marks.forget()) return;
     machine.send({ kind: "escape" });
-    marks.draw();
   });
   act("pick-under", "Tools", "Pick under the pointer, again for the item below", [" "], () => {
     const at = pointer.last ?? { x: view.canvas.width / 2, y: view.canvas.height / 2 };

@@ -5,7 +5,7 @@ import { element, field } from "./dom.js";
 import { lengthIn, mm, plural, seen } from "../board/index.js";
 import { inkPngOf } from "../zip/index.js";
 import { download } from "./saving.js";
-import { pileSeen, shownLayers } from "../machine/index.js";
+import { isMadeShown, pileSeen, shownLayers } from "../machine/index.js";
 
 // The view is given away when it is drawn, and for that the page waits so long: a person is told rather than kept waiting for
 // a drawing that takes longer.
@@ -16,12 +16,13 @@ const PATIENCE_MS = 20000;
 export function giveQuestion(state) {
   const { unit } = state, dots = element("input", { type: "text", value: "1000", inputMode: "decimal" });
   const form = element("select", {}, element("option", { value: "png" }, "PNG of the view, at the screen's pixels"),
-    element("option", { value: "svg" }, "SVG of the shown layers, to scale"),
+    element("option", { value: "svg" }, isMadeShown(state) ? "SVG of the board as it will be made, to scale" : "SVG of the shown layers, to scale"),
     element("option", { value: "print" }, "on paper or as PDF, to scale, by the print dialogue"));
   const way = element("select", { "aria-label": "unit of the pitch" }, element("option", { value: "dpi" }, "dots an inch"),
     element("option", { value: "pitch" }, `${unit} a pixel`));
   const row = element("div", {}, element("div", { className: "row" }, field("with", dots), way), element("p", { className: "hint" },
-    "It has the exact picture of each layer at that pitch, in its colour, and the board's size in mm."));
+    isMadeShown(state) ? "It has the side that is shown, at that pitch, and the board's size in mm."
+      : "It has the exact picture of each layer at that pitch, in its colour, and the board's size in mm."));
   row.hidden = true;
   form.onchange = () => { row.hidden = form.value !== "svg"; };
   return {
@@ -67,17 +68,17 @@ function base64(bytes) {
 // Pixels stay squares; old programs know the first, and new ones the second.
 const SHARP = "image-rendering:optimizeSpeed;image-rendering:pixelated";
 
-// An SVG of pictures over each other: { left, low, pitch, width, height } in nm and pixels, the colour of the board, and of each
-// layer { label, colour, opacity, png }.
+// An SVG of pictures over each other: { left, low, pitch, width, height } in nm and pixels, the colour of the board, of each layer
+// { label, colour, opacity, png }, and what they are in words.
 /**
  * @param {Machine.Area} window
  * @param {string} board
  * @param {{ label: string, colour: string, opacity: number, png: Uint8Array }[]} layers
  * @param {boolean} isMirrored
  */
-export function svgOf({ left, low, pitch, width, height }, board, layers, isMirrored) {
-  const title = `${plural(layers.length, "layer")}, exact pictures with pixels of ${pitch} nm; the lower left corner of the board's `
-    + `picture is at ${mm(left)}, ${mm(low)} mm${isMirrored ? "; seen from below" : ""}`;
+export function svgOf({ left, low, pitch, width, height }, board, layers, isMirrored, what = `${plural(layers.length, "layer")}, exact pictures`) {
+  const title = `${what} with pixels of ${pitch} nm; the lower left corner of the board's picture is at ${mm(left)}, ${
+    mm(low)} mm${isMirrored ? "; seen from below" : ""}`;
   const image = `<image width="${width}" height="${height}" preserveAspectRatio="none" style="${SHARP}"`;
   const images = layers.map(({ label, colour, opacity, png }) => `<g opacity="${opacity}"><title>${escaped(label)}, ${colour}</title>`
     + `${image} xlink:href="data:image/png;base64,${base64(png)}"/></g>\n`);
@@ -99,4 +100,11 @@ export async function giveSvg(view, { layers: names, window, pictures }) {
     layers.push({ label: layer.label, colour, opacity: layer.opacity, png });
   }
   download("board.svg", [svgOf(window, view.colours().board.trim(), layers, view.isMirrored)], "image/svg+xml");
+}
+
+// The side of the board that is shown, as SVG.
+/** @param {Page.View} view @param {Machine.Area} window @param {Page.Side} made @param {Uint8Array} png */
+export function giveBoardSvg(view, window, { side, mask, finish }, png) {
+  const layers = [{ label: `the ${side}`, colour: `${mask} mask, ${finish}`, opacity: 1, png }];
+  download("board.svg", [svgOf(window, "none", layers, view.isMirrored, `The ${side} of the board as it will be made,`)], "image/svg+xml");
 }

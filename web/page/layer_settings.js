@@ -39,6 +39,7 @@ function show(machine, state) {
   redraw(byId("layer-settings"), nameField(machine, layer), functionField(machine, layer), element("p", { className: "buttons" },
     button("up", () => raise(machine, 1, name), { id: "layer-up", disabled: at === last, "aria-label": `${label} up in the pile` }),
     button("down", () => raise(machine, -1, name), { id: "layer-down", disabled: at === 0, "aria-label": `${label} down in the pile` }),
+    button("move, turn ..", () => machine.gesture({ kind: "whole", name }), { id: "layer-move", "aria-label": `move, turn or mirror ${label}` }),
     button("close layer", () => machine.gesture({ kind: "close", name }), { id: "layer-close", "aria-label": `close layer ${label}` })));
 }
 

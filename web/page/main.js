@@ -17,6 +17,7 @@ import { ComparingView } from "./comparing_view.js";
 import { Face } from "./face.js";
 import { Going } from "./going.js";
 import { HeldMove } from "./held_move.js";
+import { giveBoard } from "./giving_board.js";
 import { giveSvg, giveView } from "./giving.js";
 import { Link } from "./station.js";
 import { Marks } from "./marks.js";
@@ -65,6 +66,7 @@ const asked = {
   "copy link": () => going.copyLink(),
   "give view": ({ number }) => handed(number, () => giveView(view)),
   "give svg": ({ number, ...given }) => handed(number, () => giveSvg(view, given)),
+  "give board": ({ number, ...given }) => handed(number, () => giveBoard(view, machine.link, given)),
   "give print": ({ number, ...given }) => handed(number, () => printSheet(view, given)),
   view: ({ view: was }) => view.show(was),
   look: ({ look }) => setLook(look, view),
@@ -97,6 +99,7 @@ const boards = new Boards(machine, browserPlatform(), {
   },
   seen: () => view.seen,
   show: (seen) => {
+    marks.forget();
     for (const name of [...view.pictures.keys()]) view.forget(name);
     if (!seen) return;
     view.number = 0;

@@ -34,8 +34,8 @@ export class Marks {
     this.dragged = null;
     /** @type {Board.Point | null} */
     this.shift = null;
-    /** @type {[from: Board.Point, to: Board.Point] | null} */
-    this.measured = null;
+    /** @type {[from: Board.Point, to: Board.Point][]} */
+    this.measures = [];
     /** @type {string | null} */
     this.drawn = null;
     /** @type {Page.Ink} */
@@ -44,6 +44,28 @@ export class Marks {
 
   draw() {
     this.view.paint();
+  }
+
+  // A measure next to those that stand, or the other end of the one that began at this very point.
+  /** @param {Board.Point} from @param {Board.Point} to */
+  measure(from, to) {
+    const last = this.measures.at(-1);
+    if (last?.[0] === from) last[1] = to;
+    else this.measures.push([from, to]);
+  }
+
+  // Forgets the one that began at a point.
+  /** @param {Board.Point} from */
+  unmeasure(from) {
+    this.measures = this.measures.filter(([start]) => start !== from);
+  }
+
+  // Forgets all that was measured; whether there was any.
+  forget() {
+    const isAny = this.measures.length > 0;
+    this.measures = [];
+    if (isAny) this.draw();
+    return isAny;
   }
 
   paint() {
@@ -58,7 +80,7 @@ export class Marks {
     }
     context.setTransform(1, 0, 0, 1, 0, 0);
     if (this.dragged) this.box(...this.dragged);
-    if (this.measured) this.line(...this.measured);
+    for (const measure of this.measures) this.line(...measure);
     this.signs.paint(this);
     rulers(view, this.machine.state, this.pointer, this.colour);
   }

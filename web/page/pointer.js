@@ -112,11 +112,12 @@ export class Pointer {
     const { drag, marks, view } = this, to = this.under(at), { unit } = this.machine.state;
     if (!drag) return;
     drag.hasMoved ||= Math.hypot(at.x - drag.start.x, at.y - drag.start.y) > drag.still * view.density;
-    if (drag.kind === "measure") {
-      marks.measured = [drag.from, this.taken(at)];
-      tell(distanceWords(...marks.measured, unit));
-    }
     if (!drag.hasMoved) return;
+    if (drag.kind === "measure") {
+      const end = this.taken(at);
+      marks.measure(drag.from, end);
+      tell(distanceWords(drag.from, end, unit));
+    }
     if (drag.kind === "pan" || drag.kind === "tap") {
       view.pan(at.x - drag.at.x, at.y - drag.at.y);
       byId("stage").classList.add("dragging");
@@ -219,6 +220,7 @@ export class Pointer {
 
   // Lets go of what is dragged, and nothing of it is done.
   drop() {
+    if (this.drag?.kind === "measure") this.marks.unmeasure(this.drag.from);
     this.drag = this.marks.dragged = this.marks.signs.snap = null;
     byId("stage").classList.remove("dragging");
     this.letGo();
@@ -234,7 +236,6 @@ export class Pointer {
 
   /** @param {string} tool */
   showTool(tool) {
-    if (tool !== "measure") this.marks.measured = null;
     if (!takesPoints(tool)) this.marks.signs.snap = null;
     byId("marks").dataset.tool = tool;
     for (const other of toolButtons()) other.setAttribute("aria-pressed", String(other.dataset.toolButton === tool));

@@ -47,18 +47,30 @@ function inked({ width, height, bits }, colour) {
  * @param {Page.View} view
  * @param {Machine.Pictures} given
  */
-export async function printSheet(view, { layers: names, window: { width, height, pitch }, pictures }) {
+export function printSheet(view, { layers: names, window, pictures }) {
+  return printCanvas(view, window, (context) => {
+    for (const layer of pileSeen(shownLayers(view.state), view.isMirrored)) {
+      const bytes = pictures[names.indexOf(layer.name)];
+      if (!bytes) continue;
+      context.globalAlpha = layer.opacity;
+      context.drawImage(inked(readPbm(bytes), seen(layer.colour, true)), 0, 0);
+    }
+  });
+}
+
+/**
+ * Puts what `paint` draws of a window on the sheet, as it is seen, and asks the browser to print it.
+ * @param {Page.View} view
+ * @param {Machine.Area} window
+ * @param {(context: CanvasRenderingContext2D) => void} paint
+ */
+export function printCanvas(view, { width, height, pitch }, paint) {
   const isTurned = view.quarters % 2 === 1, [across, down] = isTurned ? [height, width] : [width, height];
   const canvas = element("canvas", { width: across, height: down }), context = contextOf(canvas, { alpha: false });
   context.fillStyle = PAPER;
   context.fillRect(0, 0, across, down);
   placeSeen(context, { width, height }, view);
-  for (const layer of pileSeen(shownLayers(view.state), view.isMirrored)) {
-    const bytes = pictures[names.indexOf(layer.name)];
-    if (!bytes) continue;
-    context.globalAlpha = layer.opacity;
-    context.drawImage(inked(readPbm(bytes), seen(layer.colour, true)), 0, 0);
-  }
+  paint(context);
   const wide = across * pitch / 1e6, high = down * pitch / 1e6;
   canvas.style.width = `${wide}mm`;
   canvas.style.height = `${high}mm`;

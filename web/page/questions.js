@@ -8,6 +8,7 @@ import { convertAllQuestion } from "./refused_groups.js";
 import { giveQuestion } from "./giving.js";
 import { goQuestion } from "./going.js";
 import { shownLayers } from "../machine/index.js";
+import { wholeQuestion } from "./layer_move.js";
 
 // Where a picture lies that is of no window the page knows of.
 /** @param {Machine.State} state @param {Machine.QuestionOf<"place">} question @returns {Page.Dialogue} */
@@ -88,7 +89,7 @@ const closeAllQuestion = (state, { unsaved, count }) => ({
 /** @type {{ [K in keyof Machine.Questions]: (state: Machine.State, question: Machine.QuestionOf<K>, allow: Page.Allow) => Page.Dialogue }} */
 const kinds = { place: placeQuestion, history: historyQuestion, plot: plotQuestion, anew: anewQuestion, array: arrayQuestion,
   convert: convertQuestion, convertAll: convertAllQuestion, close: closeQuestion, closeAll: closeAllQuestion, go: goQuestion,
-  give: giveQuestion };
+  give: giveQuestion, whole: wholeQuestion };
 
 // Allows the first answer, or not. It has the focus as soon as it is allowed, unless a person is somewhere else by then.
 /** @param {HTMLElement} choices @param {boolean} isAllowed */

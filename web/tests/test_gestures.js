@@ -211,7 +211,7 @@ suite("steps and changes", () => {
 });
 
 suite("attributes", () => {
-  test("what saving drops is told before, and they are saved where that is asked for", async () => {
+  test("are told before, saved with the layer, and left out where that is asked for", async () => {
     program();
     const browser = await withBoard(), folder = room();
     await idle(browser);
@@ -220,13 +220,15 @@ suite("attributes", () => {
     await run(browser, "undo");
     const canonical = await written(browser, "top");
     await browser.ask("camplot.makeActive('top')");
-    await browser.key("S", CTRL + SHIFT);
+    await browser.ask("document.querySelector('[data-act=save-layer-bare]').click()");
     assert.equal(String((await savedFile(browser)).bytes), canonical);
     await idle(browser);
     assert.match(await text(browser, "told"), /without the attributes of items/);
-    await browser.ask("document.querySelector('[data-act=save-layer-whole]').click()");
+    await browser.key("S", CTRL + SHIFT);
     const { name, bytes } = await savedFile(browser);
     assert.equal(name, "nightlight-F_Cu.gbr");
+    await idle(browser);
+    assert.match(await text(browser, "told"), /with the attributes of items/);
     // The program makes the layer's own text of it, and it says of each item what the file says.
     writeFileSync(join(folder, "whole.gbr"), bytes);
     writeFileSync(join(folder, "script"), "load top gerber whole.gbr\nwrite top again.gbr\n");

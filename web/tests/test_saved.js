@@ -56,12 +56,12 @@ suite("attributes of items", () => {
     assert.match(bytes.toString(), /X0Y0D03\*/);
   });
 
-  test("are saved with the layer, through its edits, where that is chosen", async () => {
+  test("are saved with the layer, through its edits", async () => {
     const tab = await withFiles([TOP]), before = attributesOf(readFileSync(TOP, "latin1"));
     assert.ok(Object.values(before).some((words) => /\.N,/.test(words)));
     // The first pad moves, the second goes, and both come again; then the first moves once more.
     await type(tab, "move top 6 1000000 0", "delete top 7", "reorder top 6 2", "undo", "undo", "undo", "redo", "redo");
-    const bytes = unzipped((await saving(tab, () => press(tab, "[data-act=save-whole]"))).bytes).get("nightlight-F_Cu.gbr");
+    const bytes = unzipped((await saving(tab, () => tab.key("s", CTRL))).bytes).get("nightlight-F_Cu.gbr");
     const after = attributesOf(bytes.toString("latin1"));
     const places = Object.keys(after);
     assert.ok(places.length > 3);

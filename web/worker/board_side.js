@@ -56,22 +56,37 @@ export class BoardSide {
   // Hands the page the side of a view all of whose layers are drawn.
   /** @param {Worker.Wanted} view @param {Worker.MadeSide} made */
   send({ number, window, samples }, made) {
-    const { bitmap, lacks } = this.composed(made);
+    const { canvas, lacks } = this.composed(made), bitmap = canvas && canvas.transferToImageBitmap();
     this.drawing.post({ kind: "picture", number, window, samples, name: NAME, bitmap, isPart: false, lacks, side: made.side }, bitmap ? [bitmap] : []);
   }
 
-  // The bitmap of the side, as it lies from above, and what lacks.
-  /** @param {Worker.MadeSide} made @returns {{ bitmap: ImageBitmap | null, lacks: string[] }} */
+  // The side in another window than the view's, as a PNG file with a pixel for four of the window, and what lacks.
+  /** @param {Worker.MadeSide} made @param {string} line @returns {Promise<{ png: Uint8Array | null, lacks: string[] }>} */
+  async fileIn(made, line) {
+    const { window, pictures } = this, found = new Map();
+    for (const { name } of made.layers) {
+      const picture = this.drawing.pictureIn(name, line);
+      if (picture) found.set(name, picture);
+    }
+    Object.assign(this, { window: line, pictures: found });
+    const { canvas, lacks } = this.composed(made);
+    Object.assign(this, { window, pictures });
+    const file = canvas && await canvas.convertToBlob({ type: "image/png" });
+    return { png: file && new Uint8Array(await file.arrayBuffer()), lacks };
+  }
+
+  // A canvas of the side, as it lies from above, and what lacks.
+  /** @param {Worker.MadeSide} made @returns {{ canvas: OffscreenCanvas | null, lacks: string[] }} */
   composed(made) {
     const layers = made.layers.filter(({ name }) => this.pictures.has(name));
-    if (!layers.length) return { bitmap: null, lacks: [NO_LAYERS] };
+    if (!layers.length) return { canvas: null, lacks: [NO_LAYERS] };
     const plotted = layers.flatMap((layer) => this.plottedOf(layer)), { pitch, width, height } = windowOf(this.window);
     const { board, told } = this.boardIn(layers, plotted), { materials, lacks } = sideFromAbove(plotted, made.side, board, pitch);
     const image = new ImageData(width / 2, height / 2);
     colourSquares(nibbleRows(materials), width, height, coloursOf(made.mask, made.finish), new Uint32Array(image.data.buffer));
     const canvas = new OffscreenCanvas(image.width, image.height);
     canvas.getContext("2d").putImageData(image, 0, 0);
-    return { bitmap: canvas.transferToImageBitmap(), lacks: [...told ? [told] : [], ...lacks] };
+    return { canvas, lacks: [...told ? [told] : [], ...lacks] };
   }
 
   // The pictures of a layer: of holes those with plating and those without.

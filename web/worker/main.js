@@ -1,7 +1,7 @@
 // The worker: the station, and the messages of the page to it. A message is { number, kind, .. }, its answer has the same
 // number; pictures come between them, without one. What the page asks goes before what is still to be drawn.
 
-import { Station, inside, look } from "../station/index.js";
+import { Station, inside, itemsOf, look } from "../station/index.js";
 import { faultWords, unknown } from "./faults.js";
 import { gap, shapes } from "./apart.js";
 import { like, touched } from "./choosing.js";
@@ -145,6 +145,22 @@ function shapesOf(message) {
   return { shapes: found, over: found.flatMap(({ bitmap }) => bitmap ?? []) };
 }
 
+// All items of a layer in their words, its box, and those of layers.
+/** @param {Board.Asked["whole"]} message @returns {Board.Answered["whole"]} */
+function wholeOf({ name, names }) {
+  const { station } = here(), box = (/** @type {string} */ one) => lineOf(station, `box ${one}`);
+  return { items: [...itemsOf(station, name)], own: box(name), boxes: names.map(box) };
+}
+
+// The side of the board as it will be made, in another window than the view's.
+/** @param {Worker.StationAsked["board"]} message @returns {Promise<Worker.Over<Worker.StationAnswered["board"]>>} */
+async function boardOf({ made, line }) {
+  const { drawing } = here(), { png, lacks } = await drawing.side.fileIn(made, line);
+  drawing.refresh();
+  goOn();
+  return { png, lacks, over: png ? [png.buffer] : [] };
+}
+
 /** @param {Board.Asked["pictures"]} message @returns {Worker.Over<Board.Answered["pictures"]>} */
 function picturesOf({ names, line }) {
   const { drawing } = here(), pictures = drawing.filesIn(names, line);
@@ -201,6 +217,8 @@ function answered(message) {
     case "touched": return touched(here().station, message);
     case "like": return like(here().station, message);
     case "boxes": return { boxes: message.names.map((name) => lineOf(here().station, `box ${name}`)) };
+    case "whole": return wholeOf(message);
+    case "board": return boardOf(message);
     case "stop": return stop();
     case "view": return redrawn((drawing) => drawing.show(message.view));
     case "halt": return redrawn((drawing) => drawing.halt());

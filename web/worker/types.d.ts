@@ -27,6 +27,7 @@ declare namespace Worker {
     halt: {};
     near: Board.Point & { names: string[]; unknown: string[]; reach: number };
     shapes: { name: string; side: number; colour: string };
+    board: { made: MadeSide; line: string };
     words: Board.Place & Board.Telling;
     at: Board.Point & { pile: string[] } & Board.Telling;
     find: { query: string; most: number } & Board.Telling;
@@ -48,6 +49,7 @@ declare namespace Worker {
     halt: Board.Nothing;
     near: { items: Board.Listed[]; entries: Record<string, string[]> };
     shapes: { shapes: { number: number; bitmap: ImageBitmap | null }[] };
+    board: { png: Uint8Array | null; lacks: string[] };
     words: Board.Answer<Words>;
     at: Board.Answer<Words>;
     find: Board.Answer<Finds>;
