@@ -37,7 +37,7 @@ function boxAfter({ box, all }, { turn, about, dx, dy }) {
 
 /** @param {Machine.QuestionOf<"whole">} question */
 function limitWords({ count, repeats, isDrill }) {
-  const loses = isDrill ? "" : " A turn deletes each item and inserts it anew, so what the file says of items, as their nets, goes with it; a move keeps it.";
+  const loses = isDrill ? "" : " A turn deletes each item and inserts it again, so what the file says of items, as their nets, goes with it; a move keeps it.";
   return [`${plural(count, "item")}: one group of lines, and one step to undo.${loses}`,
     repeats ? `${plural(repeats, "repeat")}, which no line inserts: the layer can be moved, and not turned.` : ""];
 }
