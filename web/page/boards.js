@@ -209,7 +209,17 @@ export class Boards {
     if (!isOpen || isLost || records.length) return undefined;
     const its = Object.entries(waiting.files).filter(([id]) => ids.includes(id));
     return this.machine.await(kept.write({ from: count, records: [], files: its.map(([id, { bytes }]) => [id, bytes]),
-      waiting: waitingOf(waiting) }));
+      waiting: waitingOf(waiting) }).then(({ isKept, why }) => isKept || this.unkept(board, why)));
+  }
+
+  // What was given to a board could not be kept, as where the browser's room is full: a person is told, and the board knows it.
+  /** @param {Page.Board} board @param {string | undefined} why */
+  unkept(board, why) {
+    /** @type {Machine.Event} */
+    const event = { kind: "kept", number: 0, isKept: false, why };
+    if (board === this.shown) this.machine.send(event);
+    else this.happened((other) => other === board, event);
+    this.say(`What was opened in ${nameOf(board)} is not kept. ${why ?? ""}`, true);
   }
 
   /** @param {Page.Board} board */

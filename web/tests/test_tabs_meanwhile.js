@@ -1,7 +1,7 @@
 // Boards in tabs on a slow machine: what is done while a board, its station or its journal is still under way.
 
 import assert from "node:assert/strict";
-import { gerber } from "./support.js";
+import { gerber, text } from "./support.js";
 import { drop, onDisk, press, toBoard, typeLine } from "./hands.js";
 import { rest, scriptNow, seen } from "./seen.js";
 import { suite, test } from "../../tools/tests/harness.js";
@@ -34,8 +34,8 @@ async function dropped(tab, files, count) {
 }
 
 // Two boards, the first one is shown.
-async function withTwo() {
-  const tab = await open();
+async function withTwo(options = {}) {
+  const tab = await open(options);
   await dropped(tab, { "lamp-F.gtl": pads(3) }, 1);
   await press(tab, "[data-act=new-board]");
   await rest(tab);
@@ -69,6 +69,21 @@ suite("boards while something is under way", () => {
     await tab.reload();
     await rest(tab);
     assert.deepEqual([await titles(tab), await named(tab)], [["board 1", "radio"], []]);
+  });
+
+  test("say at once that what is given to one that is not shown is not kept, where the quota is full", async () => {
+    const tab = await withTwo({ quota: 100000 });
+    // Flashes at places that cannot be packed.
+    await tab.ask(`{
+      const rows = Array.from({ length: 20000 }, (_, at) => "X" + at * 7919 % 100000000 + "Y" + at * 104729 % 100000000 + "D03*\\n");
+      const bytes = new TextEncoder().encode("%FSLAX46Y46*%\\n%MOMM*%\\n%ADD10C,1*%\\nD10*\\n" + rows.join("") + "M02*\\n"), { boards } = camplot;
+      boards.take(boards.list.find((board) => board !== boards.shown), { files: [{ name: "large.gbl", bytes }], areNamed: false, faults: [] });
+    }`);
+    await rest(tab);
+    assert.match(await text(tab, "told"), /What was opened in radio is not kept\. .+/);
+    await press(tab, "#tabs button", 1);
+    await rest(tab);
+    assert.notEqual(await tab.ask("camplot.state.kept.why"), null);
   });
 
   test("take what is done while another one begins, and keep it", async () => {
