@@ -9,6 +9,13 @@ import { adopt, handOver, stolen, takeOver } from "./handing.js";
 import { nameOf, plural, titleOf } from "../board/index.js";
 import { bringOver } from "./older_store.js";
 
+// What an event makes of a board that is not shown. Nothing of what waits there begins, since its messages would go nowhere.
+/** @param {Machine.State} state @param {Machine.Event} event @returns {Machine.State} */
+function stepApart(state, event) {
+  const { station } = state, next = step({ ...state, station: { ...station, isOpen: false } }, event).state;
+  return event.kind === "stopped" ? next : { ...next, station };
+}
+
 export class Boards {
   /** @param {Page.Runner} machine @param {Page.Platform} platform @param {Page.Desk} desk what shows a board (main.js) */
   constructor(machine, platform, desk) {
@@ -197,13 +204,11 @@ export class Boards {
   /** @param {Page.Board | null} board @param {{ files: Machine.File[], areNamed: boolean, faults: string[] }} given */
   take(board, { files, areNamed, faults }) {
     if (board === this.shown) return this.machine.open(files, areNamed, faults);
-    if (!board || !this.list.includes(board)) return this.say("The board that files were dropped on is not open any more, so they were not opened.", true);
-    const { state, kept } = board;
-    if (!state) return undefined;
-    const { station } = state;
-    // (its station waits: nothing of it begins)
-    const waiting = step({ ...state, station: { ...station, isOpen: false } }, { kind: "open", files, areNamed, faults, token: "" }).state;
-    board.state = { ...waiting, station };
+    if (!board?.state || !this.list.includes(board)) {
+      return this.say("The board that files were dropped on is not open any more, so they were not opened.", true);
+    }
+    const { state, kept } = board, waiting = stepApart(state, { kind: "open", files, areNamed, faults, token: "" });
+    board.state = waiting;
     this.say(`${plural(files.length, "file")} for ${nameOf(board)}: opened as soon as it is shown.`);
     const { count, isLost, isOpen, records } = state.kept, ids = waiting.queue.flatMap(({ files: its = [] }) => its);
     if (!isOpen || isLost || records.length) return undefined;
@@ -352,7 +357,7 @@ export class Boards {
   /** @param {(board: Page.Board) => boolean} isOf @param {Machine.Event} event */
   happened(isOf, event) {
     const board = this.list.find((other) => other !== this.shown && other.state && isOf(other));
-    if (board?.state) board.state = step(board.state, event).state;
+    if (board?.state) board.state = stepApart(board.state, event);
   }
 
   // How many changes are not saved in the boards that are not shown.

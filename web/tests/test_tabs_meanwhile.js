@@ -72,7 +72,7 @@ suite("boards while something is under way", () => {
   });
 
   test("say at once that what is given to one that is not shown is not kept, where the quota is full", async () => {
-    const tab = await withTwo({ quota: 100000 });
+    const tab = await withTwo({ quota: 300000 });
     // Flashes at places that cannot be packed.
     await tab.ask(`{
       const rows = Array.from({ length: 20000 }, (_, at) => "X" + at * 7919 % 100000000 + "Y" + at * 104729 % 100000000 + "D03*\\n");
