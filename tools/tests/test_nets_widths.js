@@ -76,6 +76,61 @@ suite("widths", () => {
   });
 });
 
+// Looks for the nearest white at each place, and counts how often.
+class Searching extends Widths {
+  searches = 0;
+
+  toWhite(x, y, radius) {
+    this.searches++;
+    return super.toWhite(x, y, radius);
+  }
+}
+
+class Unstraight extends Searching {
+  straightDisc() {
+    return null;
+  }
+}
+
+// Bars along y, some of which are cut, notched or bridged: black where a bar or a bridge is, and no notch.
+function barsOf(chance, side) {
+  const bars = [], notches = [], bridges = [];
+  for (let left = 2 + 8 * chance(); left < side - 30; left += 4 + 30 * chance()) {
+    const width = 1 + Math.floor(20 * chance()), middle = left + width / 2, from = side * chance() * 0.4, to = from + side * chance();
+    bars.push(bar(middle, from, middle, to, width));
+    if (chance() < 0.5) notches.push(disc(left + width * chance(), from + (to - from) * chance(), 1 + 8 * chance()));
+    if (chance() < 0.3) bridges.push(bar(middle, (from + to) / 2, middle + 20, (from + to) / 2 + 8 * chance(), 1 + 4 * chance()));
+    left += width;
+  }
+  return (column, row) => [...bars, ...bridges].some((isIn) => isIn(column, row)) && !notches.some((isIn) => isIn(column, row));
+}
+
+suite("widths along y", () => {
+  test("the disc of rows that are alike is the one that a search finds", () => {
+    const chance = chances(31), side = 130;
+    for (let number = 0; number < 8; number++) {
+      const runs = runsOfShapes(side, side, [barsOf(chance, side)]), widths = new Searching(runs), plain = new Unstraight(runs);
+      part(`picture ${number}`, () => {
+        // By columns, as parts are measured, and then anywhere.
+        const places = Array.from({ length: side * side }, (_, at) => [Math.floor(at / side), at % side]);
+        const others = Array.from({ length: 2000 }, () => [Math.floor(side * chance()), Math.floor(side * chance())]);
+        for (const [column, row] of [...places, ...others]) {
+          if (!runs.isBlack(column, row)) continue;
+          const most = chance() < 0.5 ? Infinity : 20 * chance();
+          assert.deepEqual(widths.disc(column, row, most), plain.disc(column, row, most), `${column}, ${row}, ${most}`);
+        }
+        assert.ok(widths.searches < plain.searches, `${widths.searches} searches beside ${plain.searches}`);
+      });
+    }
+  });
+
+  test("a long track is searched at its ends alone", () => {
+    const runs = runsOfShapes(60, 2000, [bar(30, 20, 30, 1980, 15)]), widths = new Searching(runs);
+    for (let row = 20; row <= 1980; row++) widths.disc(30, row);
+    assert.ok(widths.searches < 200, `${widths.searches} searches`);
+  });
+});
+
 // The place where two nets touch, with a point of each at a pixel.
 function touchingOf(runs, one, other) {
   const nets = netsOf([runs]), grid = new Grid({ x: 0, y: 0, pitch: 1, width: runs.width, height: runs.height });

@@ -40,6 +40,10 @@ export class Widths {
     this.foundY = 0;
     this.metX = 0;
     this.metY = 0;
+    // The number that the run looked up last has in its row. Lookups are near each other, so the next one mostly has the same.
+    this.order = 0;
+    /** Rows whose runs about a place are the same one, [start, end), from the first row to the last. */
+    this.alike = { start: 0, end: 0, first: 0, last: -1 };
   }
 
   /**
@@ -56,16 +60,48 @@ export class Widths {
       const above = middle - away - y, below = middle + away - y;
       if (above * above >= square && below * below >= square) break;
       for (let side = 0; side < (away ? 2 : 1); side++) {
-        const row = side ? middle - away : middle + away, down = row - y, left = this.whiteTo(row, x, -1), right = this.whiteTo(row, x, 1);
-        const across = Math.min(x - left, right - x), total = across * across + down * down;
+        const row = side ? middle - away : middle + away, down = row - y, white = this.whiteNear(row, x), total = (white - x) ** 2 + down * down;
         if (total >= square) continue;
         square = total;
         isFound = true;
-        this.foundX = x - left <= right - x ? left : right;
+        this.foundX = white;
         this.foundY = row;
       }
     }
     return isFound ? Math.sqrt(square) : Infinity;
+  }
+
+  /**
+   * The run of a band's row that covers a column; -1 where none does.
+   * @param {import("./runs.js").Band} band
+   * @param {number} row
+   * @param {number} column
+   */
+  runAt(band, row, column) {
+    const { offsets, starts, ends } = band, first = offsets[row], end = offsets[row + 1];
+    let at = first + this.order;
+    // (the first run that ends after the column, as a search finds it)
+    const isFirst = at <= end && (at === end || column < ends[at]) && (at === first || ends[at - 1] <= column);
+    if (!isFirst) at = band.firstEndingAfter(row, column);
+    this.order = at - first;
+    return at < end && starts[at] <= column ? at : -1;
+  }
+
+  /**
+   * The white column of a row that is nearest to a place in it, of two the left one.
+   * @param {number} row
+   * @param {number} x
+   */
+  whiteNear(row, x) {
+    const { runs } = this, low = Math.floor(x), high = Math.ceil(x);
+    let left = low, right = high;
+    if (row >= 0 && row < runs.height) {
+      const band = runs.bands[Math.floor(row / BAND)], before = this.runAt(band, row % BAND, low);
+      if (before >= 0) left = band.starts[before] - 1;
+      const after = before >= 0 && high < band.ends[before] ? before : this.runAt(band, row % BAND, high);
+      if (after >= 0) right = band.ends[after];
+    }
+    return x - left <= right - x ? left : right;
   }
 
   /**
@@ -77,7 +113,7 @@ export class Widths {
   whiteTo(row, x, side) {
     const column = side > 0 ? Math.ceil(x) : Math.floor(x), { runs } = this;
     if (row < 0 || row >= runs.height) return column;
-    const band = runs.bands[Math.floor(row / BAND)], at = band.runAt(row % BAND, column);
+    const band = runs.bands[Math.floor(row / BAND)], at = this.runAt(band, row % BAND, column);
     if (at < 0) return column;
     return side > 0 ? band.ends[at] : band.starts[at] - 1;
   }
@@ -112,6 +148,36 @@ export class Widths {
   }
 
   /**
+   * Whether a row has the run of the rows that are alike.
+   * @param {number} row
+   */
+  hasSame(row) {
+    const { runs, alike: { start, end } } = this;
+    if (row < 0 || row >= runs.height) return false;
+    const band = runs.bands[Math.floor(row / BAND)], at = this.runAt(band, row % BAND, start);
+    return at >= 0 && band.starts[at] === start && band.ends[at] === end;
+  }
+
+  /**
+   * The disc that `disc` gives where the rows around are alike, as in a track along y: the ends of the run hold it. Such a track
+   * has a place to be measured in every few rows, and what is known of the one before tells nearly all.
+   * @param {number} column
+   * @param {number} row
+   * @returns {Disc | null} null where the rows differ
+   */
+  straightDisc(column, row) {
+    const { runs, alike } = this, band = runs.bands[Math.floor(row / BAND)], at = this.runAt(band, row % BAND, column);
+    if (at < 0) return null;
+    const start = band.starts[at], end = band.ends[at], reach = Math.ceil((end - start + 1) / 2);
+    if (alike.start !== start || alike.end !== end || row < alike.first || row > alike.last) Object.assign(alike, { start, end, first: row, last: row });
+    while (alike.last < row + reach && this.hasSame(alike.last + 1)) alike.last++;
+    while (alike.first > row - reach && this.hasSame(alike.first - 1)) alike.first--;
+    if (alike.first > row - reach || alike.last < row + reach) return null;
+    const left = start - 1, across = column - left <= end - column ? left - end : end - left;
+    return { x: (left + end) / 2, y: row, radius: (end - left) / 2, across: [across, 0] };
+  }
+
+  /**
    * The disc of copper about a pixel that whites on two sides hold.
    * @param {number} column
    * @param {number} row
@@ -119,6 +185,8 @@ export class Widths {
    * @returns {Disc | null} null where it is not smaller
    */
   disc(column, row, most = Infinity) {
+    const straight = this.straightDisc(column, row);
+    if (straight) return 2 * straight.radius - EDGES < most ? straight : null;
     const reach = Math.min((most + EDGES) / 2, this.runs.width + this.runs.height);
     if (this.toWhite(column, row, reach) === Infinity) return null;
     let x = column, y = row, firstX = this.foundX, firstY = this.foundY, secondX = firstX, secondY = firstY;
