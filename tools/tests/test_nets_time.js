@@ -4,6 +4,7 @@ import assert from "node:assert/strict";
 import { MOST_FULL, compareNets } from "../../web/nets/compare.js";
 import { Grid } from "../../web/nets/grid.js";
 import { netsOf } from "../../web/nets/nets.js";
+import { RuleCheck } from "../../web/nets/rules.js";
 import { runsOf } from "../../web/nets/runs.js";
 import { suite, test } from "./harness.js";
 
@@ -56,5 +57,27 @@ suite("times", () => {
     const { opens } = compareNets(netsOf(layers.map(({ picture }) => runsOf(picture))), grid, points);
     assert.equal(opens.length, 2500);
     assert.deepEqual(opens.map(({ gaps }) => gaps.length).filter((count) => count > 0), Array(MOST_FULL).fill(1));
+  });
+
+  test("the long rules are in steps of a few rows or places, so that a person may stop", () => {
+    // Tracks along y, an opening with two sides that bend in at every few pixels, ink and paste next to them.
+    const side = 1024, [copper, mask, ink, paste] = Array.from({ length: 4 }, () => new Drawn(side)), grid = gridOf(side), bands = side / 64;
+    for (let column = 16; column < side - 16; column += 32) {
+      copper.fill(column, 16, column + 15, side - 16);
+      for (let row = 32; row < side - 32; row += 32) {
+        mask.fill(column - 2, row, column + 18, row + 12);
+        mask.fill(column, row + 12, column + 4, row + 16);
+        ink.fill(column + 2, row + 14, column + 10, row + 16);
+        paste.fill(column, row + 2, column + 14, row + 10);
+      }
+    }
+    const [openings, drawn, pasted] = [mask, ink, paste].map(({ picture }) => runsOf(picture)), nets = netsOf([runsOf(copper.picture)]);
+    const check = new RuleCheck({ nets, grid, holes: [], spans: [], outline: [], points: [],
+      sides: [{ name: "top", layer: 0, openings, ink: drawn, paste: pasted, pads: [] }] });
+    for (const rule of ["gap", "width", "mask-web", "mask-bare", "silk-bare", "paste"]) {
+      const parts = [...check.parts(rule, 180_000)];
+      assert.ok(parts.length >= bands, `${rule}: ${parts.length} parts`);
+      assert.ok(parts.flat().length, `${rule}: nothing is found`);
+    }
   });
 });

@@ -1,6 +1,7 @@
 // Where the copper of two nets lies nearer than a gap, on one layer.
 
 import { BAND } from "./runs.js";
+import { atOnce } from "./steps.js";
 
 /**
  * A place where two nets are near: the white between two pixels, in pixels; the true gap is at most a pixel's diagonal
@@ -99,15 +100,16 @@ function columnsOf(start, end, otherStart, otherEnd) {
 }
 
 /**
- * The places of one layer where two nets lie nearer than a gap.
+ * The places of one layer where two nets lie nearer than a gap, in steps.
  * @param {import("./nets.js").Nets} nets
  * @param {number} gap in pixels
  * @param {number} layer
- * @returns {Near[]}
+ * @returns {import("./steps.js").Steps<Near[]>}
  */
-export function nearPlacesOn(nets, gap, layer) {
+export function* nearSteps(nets, gap, layer) {
   const rows = new Rows(nets, layer), places = new Places(layer, 2 * Math.ceil(gap) + 2), isSame = sameRows(rows);
   for (let row = 0; row < rows.height; row++) {
+    if (row % BAND === 0) yield;
     lookAbove(rows, row, 0, gap, places);
     // What is as near to a row as it is to one that is the same and lies between them is known from that one.
     const last = isSame[row] ? 0 : Math.min(row, Math.ceil(gap));
@@ -123,5 +125,5 @@ export function nearPlacesOn(nets, gap, layer) {
  * @returns {Near[]}
  */
 export function nearPlaces(nets, gap) {
-  return nets.copper.flatMap((_, layer) => nearPlacesOn(nets, gap, layer)).sort((one, other) => one.distance - other.distance);
+  return nets.copper.flatMap((_, layer) => atOnce(nearSteps(nets, gap, layer))).sort((one, other) => one.distance - other.distance);
 }

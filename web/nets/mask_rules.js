@@ -2,10 +2,12 @@
 // on mask.
 
 import { common, difference, flatRows, runsOfFlat } from "./discs.js";
-import { inverse, websOf } from "./mask_webs.js";
+import { inverse, webSteps } from "./mask_webs.js";
 import { between, towards } from "./measures.js";
 import { netsOf } from "./nets.js";
-import { meetings, ownersOf, piecesOf } from "./overlaps.js";
+import { meetingSteps, ownersOf, piecesOf } from "./overlaps.js";
+
+/** @typedef {import("./steps.js").Steps<import("./rules.js").Breach[]>} BreachSteps */
 
 /** No overlap counts as deeper than this, in nm. */
 const DEEPEST = 1_000_000;
@@ -49,22 +51,27 @@ export class MaskCheck {
     return { rule, value: length, within: this.within, layer, ...ends, measure: drawn, nets, sources: [], shown: shown.map((what) => `${name}-${what}`) };
   }
 
-  /** @param {number} limit in nm @returns {import("./rules.js").Breach[]} */
-  web(limit) {
-    const most = limit / this.grid.pitch;
-    return this.masked.flatMap((side) => websOf(side.openings, most)
-      .map(({ width, from, to, measure }) => this.breach("mask-web", side, { value: width, from, to, measure }, ["mask"])));
+  /** @param {number} limit in nm @returns {BreachSteps} */
+  * web(limit) {
+    const most = limit / this.grid.pitch, found = [];
+    for (const side of this.masked) {
+      const webs = yield* webSteps(side.openings, most);
+      found.push(webs.map(({ width, from, to, measure }) => this.breach("mask-web", side, { value: width, from, to, measure }, ["mask"])));
+    }
+    return found.flat();
   }
 
-  /** @param {number} limit in nm @returns {import("./rules.js").Breach[]} */
-  bare(limit) {
-    const { nets, grid: { pitch } } = this;
-    return this.masked.flatMap((side) => {
+  /** @param {number} limit in nm @returns {BreachSteps} */
+  * bare(limit) {
+    const { nets, grid: { pitch } } = this, found = [];
+    for (const side of this.masked) {
       const openings = netsOf([side.openings]), owners = this.ownersOf(side, openings);
-      return meetings(piecesOf(openings), ownersOf(nets, side.layer), { most: limit / pitch, deepIn: side.openings, deepest: DEEPEST / pitch,
-        isWanted: (opening, net) => !owners[opening]?.has(net) })
-        .map((met) => this.breach("mask-bare", side, { ...fromCopper(met), nets: [met.other] }, ["mask"]));
-    });
+      yield;
+      const met = yield* meetingSteps(piecesOf(openings), ownersOf(nets, side.layer), { most: limit / pitch, deepIn: side.openings,
+        deepest: DEEPEST / pitch, isWanted: (opening, net) => !owners[opening]?.has(net) });
+      found.push(met.map((own) => this.breach("mask-bare", side, { ...fromCopper(own), nets: [own.other] }, ["mask"])));
+    }
+    return found.flat();
   }
 
   /**
@@ -114,18 +121,20 @@ export class MaskCheck {
     return areas;
   }
 
-  /** @param {number} limit in nm @returns {import("./rules.js").Breach[]} */
-  ink(limit) {
-    const { nets, grid: { pitch } } = this;
-    return this.masked.flatMap((side) => {
-      if (!side.ink) return [];
-      const bare = this.bareCopper(side);
-      return meetings(piecesOf(netsOf([side.ink])), piecesOf(netsOf([bare])), { most: limit / pitch, deepIn: bare, deepest: DEEPEST / pitch })
-        .map((met) => {
-          const found = fromCopper(met);
-          return this.breach("silk-bare", side, { ...found, nets: [nets.netAt(side.layer, ...found.from)] }, ["silk"]);
-        });
-    });
+  /** @param {number} limit in nm @returns {BreachSteps} */
+  * ink(limit) {
+    const { nets, grid: { pitch } } = this, found = [];
+    for (const side of this.masked) {
+      if (!side.ink) continue;
+      const bare = this.bareCopper(side), ink = netsOf([side.ink]);
+      yield;
+      const met = yield* meetingSteps(piecesOf(ink), piecesOf(netsOf([bare])), { most: limit / pitch, deepIn: bare, deepest: DEEPEST / pitch });
+      found.push(met.map((own) => {
+        const measure = fromCopper(own);
+        return this.breach("silk-bare", side, { ...measure, nets: [nets.netAt(side.layer, ...measure.from)] }, ["silk"]);
+      }));
+    }
+    return found.flat();
   }
 
   /**
@@ -138,16 +147,18 @@ export class MaskCheck {
     return runsOfFlat(drilled.reduce(difference, common(flatRows(openings), flatRows(copper))), copper.width);
   }
 
-  /** @param {number} limit in nm @returns {import("./rules.js").Breach[]} */
-  paste(limit) {
-    const { grid: { pitch } } = this;
-    return this.masked.flatMap((side) => {
-      if (!side.paste) return [];
-      const around = Math.ceil(DEEPEST / pitch) + 2, mask = inverse(side.openings, around), paste = shifted(side.paste, around);
+  /** @param {number} limit in nm @returns {BreachSteps} */
+  * paste(limit) {
+    const { grid: { pitch } } = this, found = [];
+    for (const side of this.masked) {
+      if (!side.paste) continue;
+      const around = Math.ceil(DEEPEST / pitch) + 2, mask = inverse(side.openings, around), paste = netsOf([shifted(side.paste, around)]);
       const back = (/** @type {[number, number]} */ [column, row]) => /** @type {[number, number]} */ ([column - around, row - around]);
-      return meetings(piecesOf(netsOf([paste])), { runs: mask, ownerOf: () => 0 }, { most: limit / pitch, deepIn: mask, deepest: DEEPEST / pitch })
-        .map((met) => this.breach("paste", side, { ...met, from: back(met.from), to: met.to && back(met.to) }, ["paste"]));
-    });
+      yield;
+      const met = yield* meetingSteps(piecesOf(paste), { runs: mask, ownerOf: () => 0 }, { most: limit / pitch, deepIn: mask, deepest: DEEPEST / pitch });
+      found.push(met.map((own) => this.breach("paste", side, { ...own, from: back(own.from), to: own.to && back(own.to) }, ["paste"])));
+    }
+    return found.flat();
   }
 }
 

@@ -1,11 +1,12 @@
 // Where solder mask is narrow: between two openings, between two sides of one, and islands of it in one.
 
 import { RowsMade, flatRows, runsOfFlat } from "./discs.js";
-import { nearPlaces } from "./clearances.js";
+import { nearSteps } from "./clearances.js";
 import { across, throughDisc } from "./measures.js";
 import { netsOf } from "./nets.js";
-import { thinPlaces } from "./necks.js";
+import { thinSteps } from "./necks.js";
 import { Deepest } from "./overlaps.js";
+import { atOnce } from "./steps.js";
 
 /**
  * A narrow place: `from` and, between two openings, `to` are pixels; within one `measure` leads from edge to edge; in pixels.
@@ -132,11 +133,11 @@ function islandsOf(mask, width) {
  * The narrow places of the mask within one opening, about its left and upper corner.
  * @param {Opening} opening
  * @param {number} width
- * @returns {Web[]}
+ * @returns {import("./steps.js").Steps<Web[]>}
  */
-function websIn(opening, width) {
+function* websIn(opening, width) {
   const around = Math.ceil(width) + 4, mask = netsOf([inverse(pictureOf(opening), around)]), islands = islandsOf(mask, width);
-  const thin = thinPlaces(mask, width).filter(({ net }) => !islands.has(net));
+  const thin = (yield* thinSteps(mask, width, 0)).filter(({ net }) => !islands.has(net)).sort((one, other) => one.width - other.width);
   return [...islands.values(), ...thin.map(({ width: own, column, row, disc }) => /** @type {Web} */ ({ width: own, from: [column, row], to: null,
     measure: throughDisc(disc, own) }))].map((web) => moved(web, -around, -around));
 }
@@ -163,22 +164,35 @@ function ofIsland({ depth, at: [x, y], to }) {
 }
 
 /**
- * Where the mask is narrower than a width, the narrowest place first.
+ * Where the mask is narrower than a width, the narrowest place first, in steps.
  * @param {import("./runs.js").Runs} openings
  * @param {number} width in pixels
- * @returns {Web[]}
+ * @returns {import("./steps.js").Steps<Web[]>}
  */
-export function websOf(openings, width) {
-  const nets = netsOf([openings]), between = nearPlaces(nets, width).map(({ from, to, distance }) => ({ width: distance, from, to }));
+export function* webSteps(openings, width) {
+  const nets = netsOf([openings]), between = (yield* nearSteps(nets, width, 0)).map(({ from, to, distance }) => ({ width: distance, from, to }));
+  yield;
   /** @type {Map<string, Web[]>} what is known of openings of the same pixels */
-  const known = new Map();
-  const within = openingsOf(nets).filter((opening) => !isConvex(opening)).flatMap((opening) => {
+  const known = new Map(), within = [];
+  for (const opening of openingsOf(nets)) {
+    yield;
+    if (isConvex(opening)) continue;
     const { left, top, runs } = opening, key = runs.map((value, at) => value - (at % 3 ? left : top)).join(" ");
-    const webs = known.get(key) ?? websIn(opening, width);
+    const webs = known.get(key) ?? (yield* websIn(opening, width));
     known.set(key, webs);
-    return webs.map((web) => moved(web, left, top));
-  });
+    within.push(...webs.map((web) => moved(web, left, top)));
+  }
   // What another opening lies in is no mask there.
   return [...between, ...within.filter(({ from: [column, row] }) => !openings.isBlack(column, row))]
     .sort((one, other) => one.width - other.width);
+}
+
+/**
+ * The same at once.
+ * @param {import("./runs.js").Runs} openings
+ * @param {number} width
+ * @returns {Web[]}
+ */
+export function websOf(openings, width) {
+  return atOnce(webSteps(openings, width));
 }

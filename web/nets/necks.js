@@ -3,6 +3,7 @@
 import { BAND } from "./runs.js";
 import { common, difference, flatRows, grown, runsOfFlat, shrunk } from "./discs.js";
 import { netsOf } from "./nets.js";
+import { atOnce } from "./steps.js";
 import { Widths } from "./widths.js";
 
 /**
@@ -10,8 +11,15 @@ import { Widths } from "./widths.js";
  * @typedef {import("./widths.js").Width & {layer: number, net: number}} Thinness
  */
 
+/**
+ * @template T
+ * @typedef {import("./steps.js").Steps<T>} Steps
+ */
+
 /** Widths that differ by less, in pixels, are as narrow as one another. */
 const SAME = 0.5;
+/** So many places are measured in one step. */
+const SOME_PLACES = 500;
 
 /** A part that no disc covers: its box, and pixels of it in whose middle it is measured, [column, row, column, row ..]. */
 class Part {
@@ -41,24 +49,50 @@ class Thin {
     this.runs = runs;
     this.widths = new Widths(runs);
     this.rows = flatRows(runs);
-    const covering = grown(shrunk(this.rows, radius), radius), thin = difference(this.rows, covering);
-    this.parts = netsOf([runsOfFlat(thin, runs.width)]);
-    // Contacts: the covered copper next to a thin part, grown by a pixel, since corners of a stretch of it touch too.
-    this.contacts = netsOf([runsOfFlat(grown(common(grown(thin, 1), covering), Math.SQRT2), runs.width)]);
     this.radius = radius;
     this.step = Math.ceil(radius / 2);
   }
 
-  find() {
+  /** @returns {Steps<import("./widths.js").Width[]>} */
+  * find() {
+    const inner = shrunk(this.rows, this.radius);
+    yield;
+    const covering = grown(inner, this.radius);
+    yield;
+    const thin = difference(this.rows, covering), { width } = this.runs;
+    yield;
+    this.parts = netsOf([runsOfFlat(thin, width)]);
+    yield;
+    // Contacts: the covered copper next to a thin part, grown by a pixel, since corners of a stretch of it touch too.
+    const near = common(grown(thin, 1), covering);
+    yield;
+    this.contacts = netsOf([runsOfFlat(grown(near, Math.SQRT2), width)]);
+    const found = [], parts = yield* this.partsFound();
+    for (const part of parts) {
+      yield;
+      const own = this.isNeck(part) ? yield* this.widthOf(part) : undefined;
+      if (own) found.push(own);
+    }
+    return found;
+  }
+
+  /** @returns {Steps<Part[]>} */
+  * partsFound() {
     /** @type {Part[]} */
-    const parts = [];
-    this.parts.visit(() => true, (_, row, start, end, number) => {
-      const part = parts[number] ??= new Part(start, row);
-      part.take(row, start, end);
-      this.addPixels(part, row, start, end);
-      for (const away of [-1, 0, 1]) this.addContacts(part.contacts, row + away, start - 1, end + 1);
-    });
-    return parts.flatMap((part) => (this.isNeck(part) ? [this.widthOf(part)] : [])).filter((width) => width);
+    const found = [], { netOf, bases: [bases], copper: [{ bands }] } = this.parts;
+    for (const [number, band] of bands.entries()) {
+      yield;
+      for (let inner = 0; inner < band.rows; inner++) {
+        const row = number * BAND + inner;
+        for (let at = band.offsets[inner]; at < band.offsets[inner + 1]; at++) {
+          const start = band.starts[at], end = band.ends[at], part = found[netOf[bases[number] + band.labels[at]]] ??= new Part(start, row);
+          part.take(row, start, end);
+          this.addPixels(part, row, start, end);
+          for (const away of [-1, 0, 1]) this.addContacts(part.contacts, row + away, start - 1, end + 1);
+        }
+      }
+    }
+    return found;
   }
 
   addContacts(contacts, row, start, end) {
@@ -104,15 +138,12 @@ class Thin {
   /**
    * The least width of a part; of one that ends in nothing, as a sharp tip does, the one in its middle.
    * @param {Part} part
-   * @returns {import("./widths.js").Width | undefined}
+   * @returns {Steps<import("./widths.js").Width | undefined>}
    */
-  widthOf({ pixels, contacts }) {
-    if (contacts.size === 1) {
-      const widths = measured(this.widths, pixels, false).sort((one, other) => one.width - other.width);
-      return widths[widths.length >> 1];
-    }
-    const narrow = measured(this.widths, pixels, true);
-    return narrow[narrow.length >> 1];
+  * widthOf({ pixels, contacts }) {
+    const isLeast = contacts.size !== 1, widths = yield* measured(this.widths, pixels, isLeast);
+    if (!isLeast) widths.sort((one, other) => one.width - other.width);
+    return widths[widths.length >> 1];
   }
 }
 
@@ -121,13 +152,14 @@ class Thin {
  * @param {Widths} widths
  * @param {number[]} pixels
  * @param {boolean} isLeast whether only those are wanted that are as narrow as the narrowest
- * @returns {import("./widths.js").Width[]}
+ * @returns {Steps<import("./widths.js").Width[]>}
  */
-export function measured(widths, pixels, isLeast) {
+function* measured(widths, pixels, isLeast) {
   /** @type {import("./widths.js").Width[]} */
   let found = [];
   let least = Infinity;
   for (let at = 0; at < pixels.length; at += 2) {
+    if (at % (2 * SOME_PLACES) === 0) yield;
     const width = widths.at(pixels[at], pixels[at + 1], least + SAME);
     if (!width) continue;
     found.push(width);
@@ -146,18 +178,19 @@ export function measured(widths, pixels, isLeast) {
  * @returns {Thinness[]}
  */
 export function thinPlaces(nets, width) {
-  return nets.copper.flatMap((_, layer) => thinPlacesOn(nets, width, layer)).sort((one, other) => one.width - other.width);
+  return nets.copper.flatMap((_, layer) => atOnce(thinSteps(nets, width, layer))).sort((one, other) => one.width - other.width);
 }
 
 /**
- * The same of one layer, in no order.
+ * Those of one layer in no order, in steps.
  * @param {import("./nets.js").Nets} nets
  * @param {number} width in pixels
  * @param {number} layer
- * @returns {Thinness[]}
+ * @returns {Steps<Thinness[]>}
  */
-export function thinPlacesOn(nets, width, layer) {
+export function* thinSteps(nets, width, layer) {
   // Where copper has this width, the white pixels' centres on both its sides are farther apart by two pixels at most.
-  return new Thin(nets.copper[layer], width / 2 + 1).find().filter((place) => place.width < width)
+  const found = yield* new Thin(nets.copper[layer], width / 2 + 1).find();
+  return found.filter((place) => place.width < width)
     .map((place) => ({ layer, net: nets.netAt(layer, place.column, place.row), ...place }));
 }

@@ -1,8 +1,8 @@
 // Rules of a house that makes boards: what is less than it asks for, with its place and its value.
 
 import { Around } from "./around.js";
-import { nearPlacesOn } from "./clearances.js";
-import { thinPlacesOn } from "./necks.js";
+import { nearSteps } from "./clearances.js";
+import { thinSteps } from "./necks.js";
 import { HoleCheck } from "./hole_rules.js";
 import { between, betweenRims, fromRim, throughDisc } from "./measures.js";
 import { MaskCheck } from "./mask_rules.js";
@@ -134,10 +134,10 @@ class Check {
       && distanceTo(other, x, y) < radius - this.grid.pitch);
   }
 
-  /** @param {number} limit in nm @param {number} layer @returns {Breach[]} */
-  gap(limit, layer) {
-    const { pitch } = this.grid;
-    return nearPlacesOn(this.nets, limit / pitch, layer).map(({ nets, from, to, distance }) => {
+  /** @param {number} limit in nm @param {number} layer @returns {import("./steps.js").Steps<Breach[]>} */
+  * gap(limit, layer) {
+    const { pitch } = this.grid, found = yield* nearSteps(this.nets, limit / pitch, layer);
+    return found.map(({ nets, from, to, distance }) => {
       const ends = { from: this.place(...from), to: this.place(...to) }, value = distance * pitch;
       return { rule: "gap", value, within: this.within, layer, ...ends, measure: between(ends.from, ends.to, value), nets, sources: [] };
     });
@@ -189,10 +189,10 @@ class Check {
     });
   }
 
-  /** @param {number} limit in nm @param {number} layer @returns {Breach[]} */
-  width(limit, layer) {
-    const { grid } = this, { pitch } = grid;
-    return thinPlacesOn(this.nets, limit / pitch, layer).map(({ net, column, row, width, disc }) => ({ rule: "width", value: width * pitch,
+  /** @param {number} limit in nm @param {number} layer @returns {import("./steps.js").Steps<Breach[]>} */
+  * width(limit, layer) {
+    const { grid } = this, { pitch } = grid, found = yield* thinSteps(this.nets, limit / pitch, layer);
+    return found.map(({ net, column, row, width, disc }) => ({ rule: "width", value: width * pitch,
       within: this.within, layer, from: this.place(column, row), to: null, measure: grid.measureOf(throughDisc(disc, width)), nets: [net], sources: [] }));
   }
 }
@@ -211,6 +211,15 @@ function distanceTo([[x0, y0], [x1, y1]], x, y) {
 /** So many holes are looked at as one part. */
 const SOME_HOLES = 500;
 
+/**
+ * Work that is short enough to be one step.
+ * @param {(limit: number) => Breach[]} find
+ */
+const inOneStep = (find) => function* (/** @type {number} */ limit) {
+  yield;
+  return find(limit);
+};
+
 /** A board whose rules are checked one after another, each in parts, so that a person may stop between two of them. */
 export class RuleCheck {
   /** @param {Checked} checked */
@@ -218,23 +227,31 @@ export class RuleCheck {
     const check = new Check(checked), mask = new MaskCheck(checked), holes = new HoleCheck(checked);
     const layers = checked.nets.copper.map((_, layer) => layer), count = Math.ceil(checked.holes.length / SOME_HOLES);
     const some = Array.from({ length: count }, (_, at) => checked.holes.slice(at * SOME_HOLES, (at + 1) * SOME_HOLES));
-    /** @type {Record<string, ((limit: number) => Breach[])[]>} */
-    this.found = { ring: some.map((own) => (limit) => check.ring(limit, own)), gap: layers.map((layer) => (limit) => check.gap(limit, layer)),
-      "hole-copper": some.map((own) => (limit) => check.holeToCopper(limit, own)), outline: layers.map((layer) => (limit) => check.toOutline(limit, layer)),
-      "hole-hole": [(limit) => check.holeToHole(limit)], width: layers.map((layer) => (limit) => check.width(limit, layer)),
+    /** @type {Record<string, ((limit: number) => import("./steps.js").Steps<Breach[]>)[]>} */
+    this.found = { ring: some.map((own) => inOneStep((limit) => check.ring(limit, own))),
+      gap: layers.map((layer) => (limit) => check.gap(limit, layer)),
+      "hole-copper": some.map((own) => inOneStep((limit) => check.holeToCopper(limit, own))),
+      outline: layers.map((layer) => inOneStep((limit) => check.toOutline(limit, layer))),
+      "hole-hole": [inOneStep((limit) => check.holeToHole(limit))], width: layers.map((layer) => (limit) => check.width(limit, layer)),
       "mask-web": [(limit) => mask.web(limit)], "mask-bare": [(limit) => mask.bare(limit)], "silk-bare": [(limit) => mask.ink(limit)],
-      paste: [(limit) => mask.paste(limit)], "hole-pad": [(limit) => holes.holePad(limit)], "pad-hole": [(limit) => holes.padHole(limit)],
-      doubled: [(limit) => holes.doubled(limit)], overlap: [(limit) => holes.overlap(limit)] };
+      paste: [(limit) => mask.paste(limit)], "hole-pad": [inOneStep((limit) => holes.holePad(limit))],
+      "pad-hole": [inOneStep((limit) => holes.padHole(limit))], doubled: [inOneStep((limit) => holes.doubled(limit))],
+      overlap: [inOneStep((limit) => holes.overlap(limit))] };
   }
 
   /**
-   * What breaks a rule, in parts that are no rule's whole answer.
+   * What breaks a rule, in parts that are no rule's whole answer. A part may have no place at all: it is where a person may stop.
    * @param {string} rule
    * @param {number} limit in nm
    * @returns {Generator<Breach[]>}
    */
   * parts(rule, limit) {
-    for (const part of this.found[rule]) yield part(limit);
+    for (const part of this.found[rule]) {
+      const steps = part(limit);
+      let next = steps.next();
+      for (; !next.done; next = steps.next()) yield [];
+      yield next.value;
+    }
   }
 }
 

@@ -60,7 +60,8 @@ export class Widths {
       const above = middle - away - y, below = middle + away - y;
       if (above * above >= square && below * below >= square) break;
       for (let side = 0; side < (away ? 2 : 1); side++) {
-        const row = side ? middle - away : middle + away, down = row - y, white = this.whiteNear(row, x), total = (white - x) ** 2 + down * down;
+        const row = side ? middle - away : middle + away, down = row - y, white = this.whiteNear(row, x);
+        const total = (white - x) ** 2 + down * down;
         if (total >= square) continue;
         square = total;
         isFound = true;
@@ -169,7 +170,8 @@ export class Widths {
     const { runs, alike } = this, band = runs.bands[Math.floor(row / BAND)], at = this.runAt(band, row % BAND, column);
     if (at < 0) return null;
     const start = band.starts[at], end = band.ends[at], reach = Math.ceil((end - start + 1) / 2);
-    if (alike.start !== start || alike.end !== end || row < alike.first || row > alike.last) Object.assign(alike, { start, end, first: row, last: row });
+    const isKnown = alike.start === start && alike.end === end && row >= alike.first && row <= alike.last;
+    if (!isKnown) Object.assign(alike, { start, end, first: row, last: row });
     while (alike.last < row + reach && this.hasSame(alike.last + 1)) alike.last++;
     while (alike.first > row - reach && this.hasSame(alike.first - 1)) alike.first--;
     if (alike.first > row - reach || alike.last < row + reach) return null;
