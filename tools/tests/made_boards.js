@@ -1,0 +1,231 @@
+// Boards for tests, made from one model: its copper as Gerber files with attributes, its holes as drill files and its points as a
+// netlist. A part of a board is made about a corner of its own, with nets and parts of its own names; in one of them faults are planted.
+
+import { box, drill, netlist } from "./small_boards.js";
+
+/** @typedef {[number, number]} Place in mm */
+/**
+ * What is planted: two nets that touch at a place, with the width there; a track that is cut between two places; a hole that is missing.
+ * @typedef {{kind: "short", nets: string[], place: Place, width: number}} PlantedShort
+ * @typedef {{kind: "open", net: string, ends: Place[]}} PlantedOpen
+ * @typedef {{kind: "hole", net: string, place: Place}} PlantedHole
+ */
+
+/** How wide the ends of a cut track are. */
+const TIP = 0.012;
+
+const micro = (mm) => Math.round(mm * 1000) / 1000;
+const words = ([x, y]) => `X${Math.round(x * 1e6)}Y${Math.round(y * 1e6)}`;
+const contour = (corners) => ["G36*", `${words(corners[0])}D02*`, ...[...corners.slice(1), corners[0]].map((place) => `${words(place)}D01*`), "G37*"];
+/** A place so far from one along a line and to its left. */
+const from = ([x, y], [alongX, alongY], on, aside = 0) => /** @type {Place} */ ([x + alongX * on - alongY * aside, y + alongY * on + alongX * aside]);
+const unit = ([x0, y0], [x1, y1]) => /** @type {Place} */ ([(x1 - x0) / Math.hypot(x1 - x0, y1 - y0), (y1 - y0) / Math.hypot(x1 - x0, y1 - y0)]);
+const middleOf = ([x0, y0], [x1, y1]) => /** @type {Place} */ ([(x0 + x1) / 2, (y0 + y1) / 2]);
+
+/** The file of a copper layer: what lies under, what clears it, what lies over that, and what is outside of a repeat. */
+class MadeLayer {
+  constructor() {
+    /** @type {Map<string, number>} */
+    this.apertures = new Map();
+    this.under = [];
+    this.clears = [];
+    this.over = [];
+    this.outside = [];
+  }
+
+  aperture(shape, use) {
+    const key = `${use} ${shape}`, known = this.apertures.get(key) ?? 10 + this.apertures.size;
+    this.apertures.set(key, known);
+    return known;
+  }
+
+  text(layerFunction, repeat) {
+    const definitions = [...this.apertures].flatMap(([key, number]) => {
+      const [use, shape] = key.split(" ");
+      return [`%TA.AperFunction,${use}*%`, `%ADD${number}${shape}*%`, "%TD*%"];
+    });
+    const body = [...this.under, ...this.clears.length ? ["%LPC*%", ...this.clears, "%LPD*%"] : [], ...this.over];
+    return [`%TF.FileFunction,${layerFunction}*%`, "%FSLAX46Y46*%", "%MOMM*%", "%AMTURNED*4,1,4,$1,$2,$3,$4,-$1,-$2,-$3,-$4,$1,$2,0*1,1,$5,$1,$2*%", ...definitions,
+      "%LPD*%", "G75*", "G01*", ...repeat ? [`%SRX${repeat.count}Y${repeat.count}I${repeat.step}J${repeat.step}*%`, ...body, "%SR*%"] : body,
+      ...this.outside, "M02*", ""].join("\n");
+  }
+}
+
+export class MadeBoard {
+  /**
+   * @param {number} copper how many layers of copper
+   * @param {{count: number, step: number} | null} [repeat] where the board is a panel: its copies and how far they are apart
+   */
+  constructor(copper, repeat = null) {
+    this.layers = Array.from({ length: copper }, () => new MadeLayer());
+    this.repeat = repeat;
+    /** @type {Map<string, Map<number, (Place | Place[])[]>>} hits by their tools, by what their file is */
+    this.holes = new Map();
+    this.records = [];
+    this.outlines = [];
+    /** @type {(PlantedShort | PlantedOpen | PlantedHole)[]} */
+    this.planted = [];
+    this.begin(0, [0, 0], false);
+  }
+
+  /** Begins a part: what follows is about its corner, with its number behind the names. */
+  begin(number, corner, isPlanted) {
+    Object.assign(this, { number, corner, isPlanted });
+  }
+
+  get last() {
+    return this.layers.length - 1;
+  }
+
+  /** @returns {Place} */
+  at([x, y]) {
+    return [micro(this.corner[0] + x), micro(this.corner[1] + y)];
+  }
+
+  net(name) {
+    return name === "N/C" ? name : `${name}.${this.number}`;
+  }
+
+  part(name) {
+    return `${name}.${this.number}`;
+  }
+
+  /** Where copies of a panel lie, the one where faults are planted last. */
+  get copies() {
+    const { count, step } = this.repeat ?? { count: 1, step: 0 };
+    return Array.from({ length: count * count }, (_, at) => [at % count * step, Math.floor(at / count) * step]);
+  }
+
+  put(layer, net, lines, { part = "", pin = "", isUnder = false } = {}) {
+    const named = net === null ? [] : [`%TO.N,${net.split(",").map((name) => this.net(name)).join(",")}*%`];
+    const pinned = part ? [`%TO.P,${this.part(part)},${pin}*%`, `%TO.C,${this.part(part)}*%`] : [];
+    this.layers[layer][isUnder ? "under" : "over"].push(...named, ...pinned, ...lines, ...named.length ? ["%TD*%"] : []);
+  }
+
+  /** A track along places. */
+  track(net, layer, width, first, ...places) {
+    const number = this.layers[layer].aperture(`C,${width}`, "Conductor");
+    this.put(layer, net, [`D${number}*`, `${words(this.at(first))}D02*`, ...places.map((place) => `${words(this.at(place))}D01*`)]);
+  }
+
+  /** An arc about a centre, counter-clockwise. */
+  arc(net, layer, width, start, end, centre) {
+    const number = this.layers[layer].aperture(`C,${width}`, "Conductor"), [x, y] = this.at(start), [middleX, middleY] = this.at(centre);
+    this.put(layer, net, [`D${number}*`, `${words([x, y])}D02*`, "G03*",
+      `${words(this.at(end))}I${Math.round((middleX - x) * 1e6)}J${Math.round((middleY - y) * 1e6)}D01*`, "G01*"]);
+  }
+
+  /** A track that a fault cuts: two sharp tips are left, so far apart. */
+  openTrack(net, layer, width, first, last, gap = 0.1) {
+    if (!this.isPlanted) {
+      this.track(net, layer, width, first, last);
+      return;
+    }
+    const along = unit(first, last), middle = middleOf(first, last), ends = [-1, 1].map((side) => from(middle, along, side * gap / 2));
+    if (this.repeat) this.clear(layer, width, middle, along, gap);
+    if (this.repeat) this.track(net, layer, width, first, last);
+    [first, last].forEach((start, at) => {
+      const side = at ? 1 : -1;
+      if (!this.repeat) this.track(net, layer, width, start, from(middle, along, side * (gap / 2 + width)));
+      this.tip(layer, ends[at], along, side, width);
+    });
+    this.planted.push({ kind: "open", net: this.net(net), ends: ends.map((end) => this.inCopy(this.at(end))) });
+  }
+
+  // Takes the middle of a track away in the last copy.
+  clear(layer, width, middle, along, gap) {
+    const reach = gap / 2 + width, corners = [[-1, -1], [1, -1], [1, 1], [-1, 1]].map(([on, aside]) => from(middle, along, on * reach, aside * width));
+    this.layers[layer].outside.push("%LPC*%", ...contour(corners.map((corner) => this.inCopy(this.at(corner)))), "%LPD*%");
+  }
+
+  // An end of a track that is little wider than a pixel: the nearest places of two such ends are there.
+  tip(layer, end, along, side, width) {
+    const corners = [[0, -TIP], [1.1 * width, -width], [1.1 * width, width], [0, TIP]].map(([on, both]) => from(end, along, side * on, both / 2));
+    this.extra(layer, corners);
+  }
+
+  /** Copper without a net, in the last copy alone. */
+  extra(layer, corners) {
+    const lines = contour(corners.map((corner) => this.inCopy(this.at(corner))));
+    this.layers[layer][this.repeat ? "outside" : "over"].push(...lines);
+  }
+
+  inCopy([x, y]) {
+    const [right, up] = this.copies[this.copies.length - 1];
+    return /** @type {Place} */ ([x + right, y + up]);
+  }
+
+  /** A short, if faults are planted: copper that is narrowest in the middle between two places. */
+  short(layer, nets, first, last, waist = 0.1) {
+    if (!this.isPlanted) return;
+    const along = unit(first, last), middle = middleOf(first, last), half = waist / 2, wide = half + Math.hypot(middle[0] - first[0], middle[1] - first[1]) / 2;
+    this.extra(layer, [from(first, along, 0, wide), from(middle, along, 0, half), from(last, along, 0, wide), from(last, along, 0, -wide),
+      from(middle, along, 0, -half), from(first, along, 0, -wide)]);
+    this.planted.push({ kind: "short", nets: nets.map((net) => this.net(net)), place: this.inCopy(this.at(middle)), width: waist });
+  }
+
+  hole(layerFunction, diameter, places) {
+    const tools = this.holes.get(layerFunction) ?? new Map();
+    this.holes.set(layerFunction, tools);
+    tools.set(diameter, [...tools.get(diameter) ?? [], ...places]);
+  }
+
+  /**
+   * A pad: a flash on each of its layers, its hole, and its record.
+   * @param {string} net
+   * @param {Place} place
+   * @param {object} pad
+   * @param {string} [pad.part] `VIA` of a via
+   * @param {string} [pad.shape]
+   * @param {number} [pad.size] its smaller side
+   * @param {number[]} [pad.span] the first and the last layer
+   * @param {number} [pad.hole] its diameter
+   * @param {number} [pad.length] of a slot, along x, from middle to middle
+   * @param {string} [pad.use] what it is for
+   * @param {boolean} [pad.isPlated]
+   * @param {boolean} [pad.isMissing] whether its hole is the one that is missing where faults are planted
+   */
+  pad(net, place, { part = "VIA", pin = "", size = 0.6, shape = `C,${size}`, span = [0, this.last], hole = 0, length = 0, isPlated = true, isMissing = false,
+    use = part === "VIA" ? "ViaPad" : hole ? "ComponentPad" : "SMDPad,CuDef" }) {
+    const [first, last] = span, isPart = part !== "VIA", [x, y] = this.at(place);
+    for (let layer = first; layer <= last; layer++) {
+      this.put(layer, net, [`D${this.layers[layer].aperture(shape, use)}*`, `${words([x, y])}D03*`], isPart ? { part, pin } : {});
+    }
+    const isThrough = first === 0 && last === this.last;
+    this.records.push({ code: !hole ? 327 : isThrough ? 317 : 307, net: this.net(net), part: isPart ? this.part(part) : part, pin, x, y, width: size, height: 0,
+      ...hole ? { hole, isPlated, access: first ? 0 : isThrough ? 0 : 1, span: isThrough ? null : [first + 1, last + 1] } : { access: first + 1 } });
+    if (!hole) return;
+    const isLeftOut = isMissing && this.isPlanted, copies = isLeftOut ? this.copies.slice(0, -1) : this.copies, kind = isThrough ? "PTH" : first && last < this.last ? "Buried" : "Blind";
+    const moved = (on, [right, up]) => /** @type {Place} */ ([micro(x + on + right), micro(y + up)]);
+    const hits = copies.map((copy) => (length ? [moved(-length / 2, copy), moved(length / 2, copy)] : moved(0, copy)));
+    this.hole(isPlated ? `Plated,${first + 1},${last + 1},${kind}` : `NonPlated,${first + 1},${last + 1},NPTH`, hole, hits);
+    if (isLeftOut) this.planted.push({ kind: "hole", net: this.net(net), place: this.inCopy([x, y]) });
+  }
+
+  /** Copper with corners. */
+  plane(net, layer, corners) {
+    this.put(layer, net, contour(corners.map((corner) => this.at(corner))), { isUnder: true });
+  }
+
+  /** A disc of a plane that is taken away. */
+  antipad(layer, place, diameter) {
+    this.layers[layer].clears.push(`D${this.layers[layer].aperture(`C,${diameter}`, "AntiPad")}*`, `${words(this.at(place))}D03*`);
+  }
+
+  outline(left, low, right, high) {
+    this.outlines.push(box(left, low, right, high).map((corner) => this.at(corner)));
+  }
+
+  /** All files, by their names. */
+  files() {
+    const nameOf = (layer) => (layer === 0 ? "Top" : layer === this.last ? "Bot" : "Inr"), outline = new MadeLayer(), number = outline.aperture("C,0.1", "Profile");
+    for (const corners of this.outlines) {
+      outline.over.push(`D${number}*`, `${words(corners[0])}D02*`, ...[...corners.slice(1), corners[0]].map((corner) => `${words(corner)}D01*`));
+    }
+    return Object.fromEntries([
+      ...this.layers.map((layer, at) => [`copper${at + 1}.gbr`, layer.text(`Copper,L${at + 1},${nameOf(at)}`, this.repeat)]),
+      ...[...this.holes].map(([layerFunction, tools], at) => [`holes${at + 1}.drl`, drill(layerFunction, [...tools].map(([diameter, hits]) => ({ diameter, hits })))]),
+      ["outline.gbr", outline.text("Profile,NP", this.repeat)], ["nets.d356", netlist(this.records)],
+    ]);
+  }
+}
