@@ -68,7 +68,9 @@ const slots = (board) => throughHoles(board, { ...THROUGH, shape: "O,2X1.2", len
 
 function castellated(board) {
   for (const [net, y] of ROWS) {
-    [0, 8].forEach((x, at) => board.pad(net, [x, y], { part: `M${at + 1}`, pin: net, ...THROUGH, use: "CastellatedPad", isMissing: net === "D" && x === 0 }));
+    [0, 8].forEach((x, at) => {
+      board.pad(net, [x, y], { part: `M${at + 1}`, pin: net, ...THROUGH, use: "CastellatedPad", isMissing: net === "D" && x === 0 });
+    });
   }
   board.track("A", TOP, 0.3, [0.4, 1], [7.6, 1]);
   board.track("B", TOP, 0.3, [0.4, 3], [7.6, 3]);
@@ -98,7 +100,8 @@ const BALLS = 6, BALL_PITCH = 0.8;
 function ballGrid(board) {
   for (let row = 0; row < BALLS; row++) {
     for (let column = 0; column < BALLS; column++) {
-      const x = 2 + column * BALL_PITCH, y = 2 + row * BALL_PITCH, net = `N${row}${column}`, via = /** @type {[number, number]} */ ([x + 0.4, y + 0.4]);
+      const x = 2 + column * BALL_PITCH, y = 2 + row * BALL_PITCH, net = `N${row}${column}`;
+      const via = /** @type {[number, number]} */ ([x + 0.4, y + 0.4]);
       board.pad(net, [x, y], { part: "U1", pin: `${"ABCDEF"[row]}${column}`, size: 0.4, span: [TOP, TOP], use: "BGAPad,CuDef" });
       if (row === 2 && column === 2) board.openTrack(net, TOP, 0.1, [x, y], via, 0.05);
       else board.track(net, TOP, 0.1, [x, y], via);
@@ -222,7 +225,8 @@ export function madeBoard(name, chance, count, isPlanted) {
   // No part is on a grid of pixels.
   const left = micro(), low = micro();
   for (let number = 0; number < parts; number++) {
-    board.begin(number, [left + number % count * SIDE + micro() / 5, low + Math.floor(number / count) * SIDE], isPlanted && number === faulty);
+    const corner = [left + number % count * SIDE + micro() / 5, low + Math.floor(number / count) * SIDE];
+    board.begin(number, corner, isPlanted && number === faulty);
     part(board);
   }
   board.begin(0, [left, low], false);

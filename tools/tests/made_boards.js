@@ -9,17 +9,35 @@ import { box, drill, netlist } from "./small_boards.js";
  * @typedef {{kind: "short", nets: string[], place: Place, width: number}} PlantedShort
  * @typedef {{kind: "open", net: string, ends: Place[]}} PlantedOpen
  * @typedef {{kind: "hole", net: string, place: Place}} PlantedHole
+ *
+ * A pad; a part `VIA`, as it is without another one, is a via.
+ * @typedef {object} Pad
+ * @property {string} [part]
+ * @property {string} [pin]
+ * @property {string} [shape]
+ * @property {number} [size] its smaller side
+ * @property {number[]} [span] the first and the last layer
+ * @property {number} [hole] its diameter
+ * @property {number} [length] of a slot, along x, from middle to middle
+ * @property {string} [use] what it is for
+ * @property {boolean} [isPlated]
+ * @property {boolean} [isMissing] whether its hole is the one that is missing where faults are planted
  */
 
+/** A rectangle about its middle by two of its corners, and a disc on the first one. */
+const MACRO = "%AMTURNED*4,1,4,$1,$2,$3,$4,-$1,-$2,-$3,-$4,$1,$2,0*1,1,$5,$1,$2*%";
 /** How wide the ends of a cut track are. */
 const TIP = 0.012;
 
 const micro = (mm) => Math.round(mm * 1000) / 1000;
 const words = ([x, y]) => `X${Math.round(x * 1e6)}Y${Math.round(y * 1e6)}`;
-const contour = (corners) => ["G36*", `${words(corners[0])}D02*`, ...[...corners.slice(1), corners[0]].map((place) => `${words(place)}D01*`), "G37*"];
+const closed = (corners) => [`${words(corners[0])}D02*`, ...[...corners.slice(1), corners[0]].map((place) => `${words(place)}D01*`)];
+const contour = (corners) => ["G36*", ...closed(corners), "G37*"];
 /** A place so far from one along a line and to its left. */
-const from = ([x, y], [alongX, alongY], on, aside = 0) => /** @type {Place} */ ([x + alongX * on - alongY * aside, y + alongY * on + alongX * aside]);
-const unit = ([x0, y0], [x1, y1]) => /** @type {Place} */ ([(x1 - x0) / Math.hypot(x1 - x0, y1 - y0), (y1 - y0) / Math.hypot(x1 - x0, y1 - y0)]);
+const from = ([x, y], [alongX, alongY], on, aside = 0) => /** @type {Place} */ ([x + alongX * on - alongY * aside,
+  y + alongY * on + alongX * aside]);
+const lengthOf = ([x0, y0], [x1, y1]) => Math.hypot(x1 - x0, y1 - y0);
+const unit = (first, last) => /** @type {Place} */ ([0, 1].map((axis) => (last[axis] - first[axis]) / lengthOf(first, last)));
 const middleOf = ([x0, y0], [x1, y1]) => /** @type {Place} */ ([(x0 + x1) / 2, (y0 + y1) / 2]);
 
 /** The file of a copper layer: what lies under, what clears it, what lies over that, and what is outside of a repeat. */
@@ -45,8 +63,8 @@ class MadeLayer {
       return [`%TA.AperFunction,${use}*%`, `%ADD${number}${shape}*%`, "%TD*%"];
     });
     const body = [...this.under, ...this.clears.length ? ["%LPC*%", ...this.clears, "%LPD*%"] : [], ...this.over];
-    return [`%TF.FileFunction,${layerFunction}*%`, "%FSLAX46Y46*%", "%MOMM*%", "%AMTURNED*4,1,4,$1,$2,$3,$4,-$1,-$2,-$3,-$4,$1,$2,0*1,1,$5,$1,$2*%", ...definitions,
-      "%LPD*%", "G75*", "G01*", ...repeat ? [`%SRX${repeat.count}Y${repeat.count}I${repeat.step}J${repeat.step}*%`, ...body, "%SR*%"] : body,
+    const repeated = repeat ? [`%SRX${repeat.count}Y${repeat.count}I${repeat.step}J${repeat.step}*%`, ...body, "%SR*%"] : body;
+    return [`%TF.FileFunction,${layerFunction}*%`, "%FSLAX46Y46*%", "%MOMM*%", MACRO, ...definitions, "%LPD*%", "G75*", "G01*", ...repeated,
       ...this.outside, "M02*", ""].join("\n");
   }
 }
@@ -134,14 +152,14 @@ export class MadeBoard {
 
   // Takes the middle of a track away in the last copy.
   clear(layer, width, middle, along, gap) {
-    const reach = gap / 2 + width, corners = [[-1, -1], [1, -1], [1, 1], [-1, 1]].map(([on, aside]) => from(middle, along, on * reach, aside * width));
-    this.layers[layer].outside.push("%LPC*%", ...contour(corners.map((corner) => this.inCopy(this.at(corner)))), "%LPD*%");
+    const reach = gap / 2 + width, corners = box(-reach, -width, reach, width).map(([on, aside]) => this.inCopy(this.at(from(middle, along, on, aside))));
+    this.layers[layer].outside.push("%LPC*%", ...contour(corners), "%LPD*%");
   }
 
   // An end of a track that is little wider than a pixel: the nearest places of two such ends are there.
   tip(layer, end, along, side, width) {
-    const corners = [[0, -TIP], [1.1 * width, -width], [1.1 * width, width], [0, TIP]].map(([on, both]) => from(end, along, side * on, both / 2));
-    this.extra(layer, corners);
+    const corners = [[0, -TIP], [1.1 * width, -width], [1.1 * width, width], [0, TIP]];
+    this.extra(layer, corners.map(([on, both]) => from(end, along, side * on, both / 2)));
   }
 
   /** Copper without a net, in the last copy alone. */
@@ -158,47 +176,41 @@ export class MadeBoard {
   /** A short, if faults are planted: copper that is narrowest in the middle between two places. */
   short(layer, nets, first, last, waist = 0.1) {
     if (!this.isPlanted) return;
-    const along = unit(first, last), middle = middleOf(first, last), half = waist / 2, wide = half + Math.hypot(middle[0] - first[0], middle[1] - first[1]) / 2;
+    const along = unit(first, last), middle = middleOf(first, last), half = waist / 2, wide = half + lengthOf(first, last) / 4;
     this.extra(layer, [from(first, along, 0, wide), from(middle, along, 0, half), from(last, along, 0, wide), from(last, along, 0, -wide),
       from(middle, along, 0, -half), from(first, along, 0, -wide)]);
     this.planted.push({ kind: "short", nets: nets.map((net) => this.net(net)), place: this.inCopy(this.at(middle)), width: waist });
-  }
-
-  hole(layerFunction, diameter, places) {
-    const tools = this.holes.get(layerFunction) ?? new Map();
-    this.holes.set(layerFunction, tools);
-    tools.set(diameter, [...tools.get(diameter) ?? [], ...places]);
   }
 
   /**
    * A pad: a flash on each of its layers, its hole, and its record.
    * @param {string} net
    * @param {Place} place
-   * @param {object} pad
-   * @param {string} [pad.part] `VIA` of a via
-   * @param {string} [pad.shape]
-   * @param {number} [pad.size] its smaller side
-   * @param {number[]} [pad.span] the first and the last layer
-   * @param {number} [pad.hole] its diameter
-   * @param {number} [pad.length] of a slot, along x, from middle to middle
-   * @param {string} [pad.use] what it is for
-   * @param {boolean} [pad.isPlated]
-   * @param {boolean} [pad.isMissing] whether its hole is the one that is missing where faults are planted
+   * @param {Pad} pad
    */
-  pad(net, place, { part = "VIA", pin = "", size = 0.6, shape = `C,${size}`, span = [0, this.last], hole = 0, length = 0, isPlated = true, isMissing = false,
-    use = part === "VIA" ? "ViaPad" : hole ? "ComponentPad" : "SMDPad,CuDef" }) {
-    const [first, last] = span, isPart = part !== "VIA", [x, y] = this.at(place);
+  pad(net, place, pad) {
+    const { part = "VIA", pin = "", size = 0.6, shape = `C,${size}`, span: [first, last] = [0, this.last], hole = 0 } = pad;
+    const { use = part === "VIA" ? "ViaPad" : hole ? "ComponentPad" : "SMDPad,CuDef", isPlated = true } = pad, isPart = part !== "VIA", [x, y] = this.at(place);
     for (let layer = first; layer <= last; layer++) {
       this.put(layer, net, [`D${this.layers[layer].aperture(shape, use)}*`, `${words([x, y])}D03*`], isPart ? { part, pin } : {});
     }
-    const isThrough = first === 0 && last === this.last;
-    this.records.push({ code: !hole ? 327 : isThrough ? 317 : 307, net: this.net(net), part: isPart ? this.part(part) : part, pin, x, y, width: size, height: 0,
-      ...hole ? { hole, isPlated, access: first ? 0 : isThrough ? 0 : 1, span: isThrough ? null : [first + 1, last + 1] } : { access: first + 1 } });
-    if (!hole) return;
-    const isLeftOut = isMissing && this.isPlanted, copies = isLeftOut ? this.copies.slice(0, -1) : this.copies, kind = isThrough ? "PTH" : first && last < this.last ? "Buried" : "Blind";
+    const isThrough = first === 0 && last === this.last, named = { net: this.net(net), part: isPart ? this.part(part) : part, pin, x, y, width: size, height: 0 };
+    if (!hole) {
+      this.records.push({ code: 327, ...named, access: first + 1 });
+      return;
+    }
+    this.records.push({ code: isThrough ? 317 : 307, ...named, hole, isPlated, access: isThrough || first ? 0 : 1, span: isThrough ? null : [first + 1, last + 1] });
+    const kind = isThrough ? "PTH" : first && last < this.last ? "Buried" : "Blind";
+    this.drill(isPlated ? `Plated,${first + 1},${last + 1},${kind}` : `NonPlated,${first + 1},${last + 1},NPTH`, net, [x, y], pad);
+  }
+
+  // The hits of a pad's hole, one in each copy, and none where it is missing.
+  drill(layerFunction, net, [x, y], { hole, length = 0, isMissing = false }) {
+    const isLeftOut = isMissing && this.isPlanted, copies = isLeftOut ? this.copies.slice(0, -1) : this.copies;
     const moved = (on, [right, up]) => /** @type {Place} */ ([micro(x + on + right), micro(y + up)]);
     const hits = copies.map((copy) => (length ? [moved(-length / 2, copy), moved(length / 2, copy)] : moved(0, copy)));
-    this.hole(isPlated ? `Plated,${first + 1},${last + 1},${kind}` : `NonPlated,${first + 1},${last + 1},NPTH`, hole, hits);
+    const tools = this.holes.get(layerFunction) ?? new Map();
+    this.holes.set(layerFunction, tools.set(hole, [...tools.get(hole) ?? [], ...hits]));
     if (isLeftOut) this.planted.push({ kind: "hole", net: this.net(net), place: this.inCopy([x, y]) });
   }
 
@@ -218,13 +230,16 @@ export class MadeBoard {
 
   /** All files, by their names. */
   files() {
-    const nameOf = (layer) => (layer === 0 ? "Top" : layer === this.last ? "Bot" : "Inr"), outline = new MadeLayer(), number = outline.aperture("C,0.1", "Profile");
+    const nameOf = (layer) => (layer === 0 ? "Top" : layer === this.last ? "Bot" : "Inr");
+    const outline = new MadeLayer(), number = outline.aperture("C,0.1", "Profile");
     for (const corners of this.outlines) {
-      outline.over.push(`D${number}*`, `${words(corners[0])}D02*`, ...[...corners.slice(1), corners[0]].map((corner) => `${words(corner)}D01*`));
+      outline.over.push(`D${number}*`, ...closed(corners));
     }
+    const drills = [...this.holes].map(([layerFunction, tools], at) => [`holes${at + 1}.drl`,
+      drill(layerFunction, [...tools].map(([diameter, hits]) => ({ diameter, hits })))]);
     return Object.fromEntries([
       ...this.layers.map((layer, at) => [`copper${at + 1}.gbr`, layer.text(`Copper,L${at + 1},${nameOf(at)}`, this.repeat)]),
-      ...[...this.holes].map(([layerFunction, tools], at) => [`holes${at + 1}.drl`, drill(layerFunction, [...tools].map(([diameter, hits]) => ({ diameter, hits })))]),
+      ...drills,
       ["outline.gbr", outline.text("Profile,NP", this.repeat)], ["nets.d356", netlist(this.records)],
     ]);
   }

@@ -30,7 +30,7 @@ function randomItems(chance, copper) {
   /** @type {Item[]} */
   const items = [];
   for (let tries = 0; tries < TRIES; tries++) {
-    const layer = Math.floor(chance() * copper), isDisc = chance() < 0.55, x = micro(0.8 + (SIDE - 1.6) * chance()), y = micro(0.8 + (SIDE - 1.6) * chance());
+    const layer = Math.floor(chance() * copper), isDisc = chance() < 0.55, [x, y] = [chance(), chance()].map((part) => micro(0.8 + (SIDE - 1.6) * part));
     const length = 0.3 + 2.5 * chance(), angle = 7 * chance(), radius = micro(isDisc ? 0.12 + 0.4 * chance() : 0.05 + 0.15 * chance());
     const end = /** @type {Place} */ ([micro(x + length * Math.cos(angle)), micro(y + length * Math.sin(angle))]);
     const item = { layer, line: [[x, y], isDisc ? [x, y] : end], radius, isDisc };
@@ -47,7 +47,7 @@ function randomHoles(chance, copper, items) {
   for (let tries = 0; tries < 12; tries++) {
     const [from, to] = [Math.floor(chance() * copper), Math.floor(chance() * copper)].sort((one, other) => one - other);
     const { line: [[x, y]], radius } = items[Math.floor(chance() * items.length)], off = 0.3 * radius * chance(), way = 7 * chance();
-    const hole = { place: /** @type {Place} */ ([micro(x + off * Math.cos(way)), micro(y + off * Math.sin(way))]), radius: micro(0.1 + 0.15 * chance()), from, to };
+    const place = /** @type {Place} */ ([micro(x + off * Math.cos(way)), micro(y + off * Math.sin(way))]), hole = { place, radius: micro(0.1 + 0.15 * chance()), from, to };
     const isNear = items.some((item) => passes(hole, item.layer) && isDoubtful(toHole(item, hole)));
     if (!isNear && !holes.some((other) => ofHoles(hole, other) < CLEAR)) holes.push(hole);
   }
@@ -73,7 +73,12 @@ function netsOf(items, holes) {
   return nets;
 }
 
-/** The points: a disc has the name of its net, but some have another one's. @param {() => number} chance @param {Item[]} items @param {number[]} nets */
+/**
+ * The points: a disc has the name of its net, but some have another one's.
+ * @param {() => number} chance
+ * @param {Item[]} items
+ * @param {number[]} nets
+ */
 function randomPoints(chance, items, nets) {
   const discs = items.flatMap(({ isDisc }, at) => (isDisc ? [at] : []));
   return discs.map((item, number) => {
@@ -87,24 +92,29 @@ function randomPoints(chance, items, nets) {
  * @param {() => number} chance
  */
 export function randomBoard(chance) {
-  const copper = 1 + Math.floor(4 * chance()), items = randomItems(chance, copper), holes = randomHoles(chance, copper, items), nets = netsOf(items, holes);
+  const copper = 1 + Math.floor(4 * chance()), items = randomItems(chance, copper), holes = randomHoles(chance, copper, items);
+  const nets = netsOf(items, holes);
   return { copper, items, holes, nets, points: randomPoints(chance, items, nets) };
 }
 
 /** Its files: copper with attributes, holes by what they pass, and a netlist. @param {ReturnType<typeof randomBoard>} board */
 export function filesOf({ copper, items, holes, points }) {
-  const nameOf = (/** @type {number} */ layer) => (layer === 0 ? "Top" : layer === copper - 1 ? "Bot" : "Inr"), pointOf = new Map(points.map((point) => [point.item, point]));
+  const nameOf = (/** @type {number} */ layer) => (layer === 0 ? "Top" : layer === copper - 1 ? "Bot" : "Inr");
+  const pointOf = new Map(points.map((point) => [point.item, point]));
   const texts = Array.from({ length: copper }, (_, layer) => {
-    const own = items.flatMap((item, at) => (item.layer === layer ? [{ item, point: pointOf.get(at) }] : [])), shapes = own.map(({ item }) => `C,${micro(2 * item.radius)}`);
+    const own = items.flatMap((item, at) => (item.layer === layer ? [{ item, point: pointOf.get(at) }] : []));
+    const shapes = own.map(({ item }) => `C,${micro(2 * item.radius)}`);
     const lines = own.flatMap(({ item, point }, at) => {
       const words = item.isDisc ? flash(10 + at, item.line[0]) : draw(10 + at, ...item.line);
       return point ? [`%TO.N,${point.net}*%`, `%TO.P,${point.name.replace("-", ",")}*%`, words, "%TD*%"] : [words];
     });
     return [`copper${layer + 1}.gbr`, gerber(`Copper,L${layer + 1},${nameOf(layer)}`, shapes, ...lines)];
   });
-  const spans = [...new Set(holes.map(({ from, to }) => `${from + 1},${to + 1}`))];
-  const drills = spans.map((span, at) => [`holes${at + 1}.drl`, drill(`Plated,${span},${span === `1,${copper}` ? "PTH" : "Blind"}`,
-    holes.filter(({ from, to }) => `${from + 1},${to + 1}` === span).map(({ place, radius }) => ({ diameter: 2 * radius, hits: [place] })))]);
+  const spanOf = (/** @type {Hole} */ { from, to }) => `${from + 1},${to + 1}`;
+  const drills = [...new Set(holes.map(spanOf))].map((span, at) => {
+    const tools = holes.filter((hole) => spanOf(hole) === span).map(({ place, radius }) => ({ diameter: 2 * radius, hits: [place] }));
+    return [`holes${at + 1}.drl`, drill(`Plated,${span},${span === `1,${copper}` ? "PTH" : "Blind"}`, tools)];
+  });
   const records = points.map(({ item, net, name }) => {
     const { layer, line: [[x, y]], radius } = items[item], [part, pin] = name.split("-");
     return { code: 327, net, part, pin, access: layer + 1, x, y, width: 2 * radius, height: 0 };
@@ -124,10 +134,13 @@ function grouped(list) {
  * @param {ReturnType<typeof randomBoard>} board
  */
 export function differencesOf({ nets, points }) {
-  const parts = (/** @type {Point[]} */ own) => [...grouped(own.map(({ item, name }) => ({ key: nets[item], name }))).values()].map((names) => names.join(" ")).sort();
-  const named = [...new Set(points.map(({ net }) => net))].sort(), byNet = named.map((net) => ({ net, parts: parts(points.filter((point) => point.net === net)) }));
-  const shared = [...grouped(points.map(({ item, net }) => ({ key: nets[item], name: net }))).values()].map((own) => [...new Set(own)]);
-  return { opens: byNet.filter((net) => net.parts.length > 1), shorts: shared.filter((own) => own.length > 1).map((own) => own.join(" ")).sort() };
+  const groupsOf = (/** @type {{key: *, name: string}[]} */ list) => [...grouped(list).values()];
+  const opens = [...new Set(points.map(({ net }) => net))].sort().flatMap((net) => {
+    const own = points.filter((point) => point.net === net), parts = groupsOf(own.map(({ item, name }) => ({ key: nets[item], name })));
+    return parts.length > 1 ? [{ net, parts: parts.map((names) => names.join(" ")).sort() }] : [];
+  });
+  const shared = groupsOf(points.map(({ item, net }) => ({ key: nets[item], name: net }))).map((own) => [...new Set(own)]);
+  return { opens, shorts: shared.filter((own) => own.length > 1).map((own) => own.join(" ")).sort() };
 }
 
 /** The least distance of each pair by its key. @param {Map<string, number>} found @param {string} key @param {number} value */
@@ -148,7 +161,9 @@ export function gapsOf({ items, nets }) {
 
 /** Hole to hole, by the numbers of both. @param {ReturnType<typeof randomBoard>} board */
 export function holeGapsOf({ holes }) {
-  return new Map(holes.flatMap((hole, at) => holes.slice(0, at).map((other, before) => /** @type {[string, number]} */ ([`${before} ${at}`, ofHoles(hole, other)]))));
+  const found = new Map();
+  holes.forEach((hole, at) => holes.slice(0, at).forEach((other, before) => found.set(`${before} ${at}`, ofHoles(hole, other))));
+  return found;
 }
 
 /** A hole to copper of another net on a layer, by `layer hole`. @param {ReturnType<typeof randomBoard>} board */
@@ -172,12 +187,14 @@ function stretchOf({ line: [first, last], radius }, [x, y], [right, up]) {
     to = Math.max(to, high);
   };
   for (const [middleX, middleY] of [first, last]) {
-    const on = (middleX - x) * right + (middleY - y) * up, aside = (middleX - x) * up - (middleY - y) * right, square = radius * radius - aside * aside;
+    const on = (middleX - x) * right + (middleY - y) * up, aside = (middleX - x) * up - (middleY - y) * right;
+    const square = radius * radius - aside * aside;
     if (square >= 0) take(on - Math.sqrt(square), on + Math.sqrt(square));
   }
   const length = Math.hypot(last[0] - first[0], last[1] - first[1]);
   if (length) {
-    const [alongX, alongY] = [(last[0] - first[0]) / length, (last[1] - first[1]) / length], slabs = [[alongX, alongY, 0, length], [-alongY, alongX, -radius, radius]];
+    const alongX = (last[0] - first[0]) / length, alongY = (last[1] - first[1]) / length;
+    const slabs = [[alongX, alongY, 0, length], [-alongY, alongX, -radius, radius]];
     let [low, high] = [-Infinity, Infinity];
     for (const [normalX, normalY, least, most] of slabs) {
       const start = (x - first[0]) * normalX + (y - first[1]) * normalY, speed = right * normalX + up * normalY;

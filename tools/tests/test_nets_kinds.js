@@ -31,7 +31,9 @@ function checkOpen({ net, parts, gaps }, { net: wanted, ends }) {
   assert.ok(isOf(net, wanted), net);
   assert.deepEqual([parts.length, gaps.map(({ kind }) => kind)], [2, ["copper"]]);
   const [{ from, to }] = gaps, isTurned = away(from, ends[0]) > away(from, ends[1]);
-  [from, to].forEach((place, at) => assert.ok(away(place, ends[isTurned ? 1 - at : at]) <= DIAGONAL, `${JSON.stringify(place)} in place of ${ends.join(" ")}`));
+  [from, to].forEach((place, at) => {
+    assert.ok(away(place, ends[isTurned ? 1 - at : at]) <= DIAGONAL, `${JSON.stringify(place)} in place of ${ends.join(" ")}`);
+  });
 }
 
 function checkHole({ net, gaps }, { net: wanted, place }, most) {

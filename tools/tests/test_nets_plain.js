@@ -59,7 +59,8 @@ function checkRules(board, rules) {
   // White pixels do not reach into the sharp corner between two items.
   const isAlone = (key) => {
     const [layer, number] = key.split(" ").map(Number), { place, radius } = board.holes[number];
-    return board.items.filter((item) => item.layer === layer && toSegment(place, item.line) - item.radius - radius < LIMITS.ring + 2 * DIAGONAL).length === 1;
+    const isNear = (item) => item.layer === layer && toSegment(place, item.line) - item.radius - radius < LIMITS.ring + 2 * DIAGONAL;
+    return board.items.filter(isNear).length === 1;
   };
   compareValues("ring", told.get("ring"), ringsOf(board), { more: DIAGONAL, less: DIAGONAL + BETWEEN_RAYS, isSure: isAlone });
   const pairs = rules.filter(({ rule }) => rule === "hole-hole").map(({ value }) => Number(value)).sort((one, other) => one - other);
