@@ -13,7 +13,13 @@ function pins(board, net, y, pad = THROUGH) {
   [LEFT, RIGHT].forEach((x, at) => board.pad(net, [x, y], { part: `J${at + 1}`, pin: net, ...pad, isMissing: net === "D" && x === LEFT }));
 }
 
-/** Two pads of a row on the top, each with a track to a via. */
+/**
+ * Two pads of a row on the top, each with a track to a via.
+ * @param {MadeBoard} board
+ * @param {string} net
+ * @param {number} y
+ * @param {import("./made_boards.js").Pad} [pad] size and shape of the pads, and what else there is of the vias
+ */
 function escapes(board, net, y, { size = 0.8, shape = undefined, ...via } = {}) {
   [[LEFT, 2], [RIGHT, 6]].forEach(([x, to], at) => {
     board.pad(net, [x, y], { part: `R${at + 1}`, pin: net, size, shape, span: [TOP, TOP] });
@@ -192,7 +198,8 @@ function oneSided(board) {
 
 /**
  * The kinds by their names: how many layers of copper, and what makes a part.
- * @type {Map<string, {copper: number, part: (board: MadeBoard) => void, isPanel?: boolean, hasOutlines?: boolean, isFlat?: boolean}>}
+ * @typedef {{copper: number, part: (board: MadeBoard) => void, isPanel?: boolean, hasOutlines?: boolean, isFlat?: boolean}} Kind
+ * @type {Map<string, Kind>}
  */
 export const KINDS = new Map(Object.entries({
   "two layers, through holes": { copper: 2, part: throughHoles },
@@ -219,13 +226,13 @@ export const KINDS = new Map(Object.entries({
  * @param {boolean} isPlanted whether one of them has faults
  */
 export function madeBoard(name, chance, count, isPlanted) {
-  const { copper, part, isPanel, hasOutlines } = /** @type {*} */ (KINDS.get(name));
+  const { copper, part, isPanel, hasOutlines } = /** @type {Kind} */ (KINDS.get(name));
   const micro = () => Math.floor(chance() * 1000) / 1000, board = new MadeBoard(copper, isPanel ? { count, step: SIDE } : null);
   const parts = isPanel ? 1 : count * count, faulty = Math.floor(chance() * parts);
   // No part is on a grid of pixels.
   const left = micro(), low = micro();
   for (let number = 0; number < parts; number++) {
-    const corner = [left + number % count * SIDE + micro() / 5, low + Math.floor(number / count) * SIDE];
+    const corner = /** @type {[number, number]} */ ([left + number % count * SIDE + micro() / 5, low + Math.floor(number / count) * SIDE]);
     board.begin(number, corner, isPlanted && number === faulty);
     part(board);
   }

@@ -30,8 +30,11 @@ const MACRO = "%AMTURNED*4,1,4,$1,$2,$3,$4,-$1,-$2,-$3,-$4,$1,$2,0*1,1,$5,$1,$2*
 const TIP = 0.012;
 
 const micro = (mm) => Math.round(mm * 1000) / 1000;
+/** @param {number[]} place */
 const words = ([x, y]) => `X${Math.round(x * 1e6)}Y${Math.round(y * 1e6)}`;
+/** @param {number[][]} corners */
 const closed = (corners) => [`${words(corners[0])}D02*`, ...[...corners.slice(1), corners[0]].map((place) => `${words(place)}D01*`)];
+/** @param {number[][]} corners */
 const contour = (corners) => ["G36*", ...closed(corners), "G37*"];
 /** A place so far from one along a line and to its left. */
 const from = ([x, y], [alongX, alongY], on, aside = 0) => /** @type {Place} */ ([x + alongX * on - alongY * aside,
@@ -83,19 +86,29 @@ export class MadeBoard {
     this.outlines = [];
     /** @type {(PlantedShort | PlantedOpen | PlantedHole)[]} */
     this.planted = [];
-    this.begin(0, [0, 0], false);
+    this.number = 0;
+    /** @type {Place} */
+    this.corner = [0, 0];
+    this.isPlanted = false;
   }
 
-  /** Begins a part: what follows is about its corner, with its number behind the names. */
+  /**
+   * Begins a part: what follows is about its corner, with its number behind the names.
+   * @param {number} number
+   * @param {Place} corner
+   * @param {boolean} isPlanted
+   */
   begin(number, corner, isPlanted) {
-    Object.assign(this, { number, corner, isPlanted });
+    this.number = number;
+    this.corner = corner;
+    this.isPlanted = isPlanted;
   }
 
   get last() {
     return this.layers.length - 1;
   }
 
-  /** @returns {Place} */
+  /** @param {number[]} place @returns {Place} */
   at([x, y]) {
     return [micro(this.corner[0] + x), micro(this.corner[1] + y)];
   }
@@ -108,10 +121,10 @@ export class MadeBoard {
     return `${name}.${this.number}`;
   }
 
-  /** Where copies of a panel lie, the one where faults are planted last. */
+  /** Where copies of a panel lie, the one where faults are planted last. @returns {Place[]} */
   get copies() {
     const { count, step } = this.repeat ?? { count: 1, step: 0 };
-    return Array.from({ length: count * count }, (_, at) => [at % count * step, Math.floor(at / count) * step]);
+    return Array.from({ length: count * count }, (_, at) => /** @type {Place} */ ([at % count * step, Math.floor(at / count) * step]));
   }
 
   put(layer, net, lines, { part = "", pin = "", isUnder = false } = {}) {
@@ -168,6 +181,7 @@ export class MadeBoard {
     this.layers[layer][this.repeat ? "outside" : "over"].push(...lines);
   }
 
+  /** @param {Place} place */
   inCopy([x, y]) {
     const [right, up] = this.copies[this.copies.length - 1];
     return /** @type {Place} */ ([x + right, y + up]);
@@ -204,7 +218,13 @@ export class MadeBoard {
     this.drill(isPlated ? `Plated,${first + 1},${last + 1},${kind}` : `NonPlated,${first + 1},${last + 1},NPTH`, net, [x, y], pad);
   }
 
-  // The hits of a pad's hole, one in each copy, and none where it is missing.
+  /**
+   * The hits of a pad's hole, one in each copy, and none where it is missing.
+   * @param {string} layerFunction
+   * @param {string} net
+   * @param {Place} place
+   * @param {Pad} pad
+   */
   drill(layerFunction, net, [x, y], { hole, length = 0, isMissing = false }) {
     const isLeftOut = isMissing && this.isPlanted, copies = isLeftOut ? this.copies.slice(0, -1) : this.copies;
     const moved = (on, [right, up]) => /** @type {Place} */ ([micro(x + on + right), micro(y + up)]);

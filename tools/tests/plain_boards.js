@@ -33,9 +33,9 @@ function randomItems(chance, copper) {
     const layer = Math.floor(chance() * copper), isDisc = chance() < 0.55, [x, y] = [chance(), chance()].map((part) => micro(0.8 + (SIDE - 1.6) * part));
     const length = 0.3 + 2.5 * chance(), angle = 7 * chance(), radius = micro(isDisc ? 0.12 + 0.4 * chance() : 0.05 + 0.15 * chance());
     const end = /** @type {Place} */ ([micro(x + length * Math.cos(angle)), micro(y + length * Math.sin(angle))]);
-    const item = { layer, line: [[x, y], isDisc ? [x, y] : end], radius, isDisc };
+    const item = { layer, line: /** @type {Place[]} */ ([[x, y], isDisc ? [x, y] : end]), radius, isDisc };
     if (end.some((value) => value < 0.6 || value > SIDE - 0.6)) continue;
-    if (!items.some((other) => other.layer === layer && isDoubtful(between(item, other)))) items.push(/** @type {Item} */ (item));
+    if (!items.some((other) => other.layer === layer && isDoubtful(between(item, other)))) items.push(item);
   }
   return items;
 }

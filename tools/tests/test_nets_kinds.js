@@ -45,6 +45,7 @@ function checkHole({ net, gaps }, { net: wanted, place }, most) {
   }
 }
 
+/** @param {*} found @param {*[]} planted @param {import("./kinds_of_boards.js").Kind} kind */
 function checkPlanted({ opens, shorts, withoutCopper, rules }, planted, { isFlat, hasOutlines }) {
   const [short, open, hole] = ["short", "open", "hole"].map((kind) => planted.find((fault) => fault.kind === kind));
   assert.equal(shorts.length, 1);

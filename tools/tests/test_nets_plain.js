@@ -39,6 +39,14 @@ function keyOf(board, { rule, layer, x, y, to, holes }) {
   return null;
 }
 
+/**
+ * Fails where what is told of a rule differs from what is wanted.
+ * @param {string} rule
+ * @param {Map<string, number>} found
+ * @param {Map<string, number>} wanted
+ * @param {{more: number, less?: number, isSure?: (key: string) => boolean}} within by how much it may be more, and less; of a key that
+ *   is not sure it may be more by any length
+ */
 function compareValues(rule, found, wanted, { more, less = more, isSure = () => true }) {
   for (const [key, value] of wanted) {
     const told = found.get(key);
