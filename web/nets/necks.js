@@ -53,8 +53,11 @@ class Thin {
     this.step = Math.ceil(radius / 2);
   }
 
-  /** @returns {Steps<import("./widths.js").Width[]>} */
-  * find() {
+  /**
+   * Finds what no disc covers, as `parts`, and where it touches copper that one covers.
+   * @returns {Steps<void>}
+   */
+  * split() {
     const inner = shrunk(this.rows, this.radius);
     yield;
     const covering = grown(inner, this.radius);
@@ -67,8 +70,13 @@ class Thin {
     const near = common(grown(thin, 1), covering);
     yield;
     this.contacts = netsOf([runsOfFlat(grown(near, Math.SQRT2), width)]);
-    const found = [], parts = yield* this.partsFound();
-    for (const part of parts) {
+  }
+
+  /** @returns {Steps<import("./widths.js").Width[]>} */
+  * find() {
+    yield* this.split();
+    const found = [];
+    for (const part of yield* this.partsFound()) {
       yield;
       const own = this.isNeck(part) ? yield* this.widthOf(part) : undefined;
       if (own) found.push(own);
