@@ -54,7 +54,7 @@ declare namespace Board {
   /** A layer or picture that is compared. */
   interface Compared { name: string; label: string; isOpened: boolean }
   /** A line for the station, with the bytes of its file where it is a load. */
-  interface Sent { line: string; bytes?: Uint8Array }
+  interface Sent { line: string; bytes?: Uint8Array | undefined }
   /** What the worker is told of the layers, so that it can speak of them. */
   interface Telling {
     unit: string; layers: { name: string; label: string; shows: string; kind: LayerKind; fileName: string }[];
@@ -76,7 +76,7 @@ declare namespace Board {
     withAttributes: { depth: number; entries: Sent[]; layers: { name: string; canonical: Uint8Array }[] };
     compare: { steps: number; colours: string[] };
     compareView: { steps: number; colours: string[] };
-    compareTwo: { pair: Compared[]; names: string[] };
+    compareTwo: { pair: [Compared, Compared]; names: string[] };
     compareTwoView: { names: string[]; colours: string[] };
     pictures: { names: string[]; line: string };
     picture: { name: string; picture: import("../bytes/index.js").Picture | null; line?: string };
@@ -102,9 +102,18 @@ declare namespace Board {
   /** A picture of a comparison in the colours of its parts. */
   interface Sheet { bitmaps: ImageBitmap[]; count: number }
   /** The pixels of the view that are in both, in the first alone and in the second alone. */
-  interface Sheets { sheets: Sheet[] | null; window?: string; samples?: number; isWhole: boolean }
-  interface Differing extends Sheets { differing: { name: string; box: Box | null }[] | null; count?: number; box?: Box | null }
-  interface Counts { counts: number[] | null; box?: Box | null; window?: string; isWhole?: boolean; isSameText?: boolean | null }
+  interface Sighted { sheets: Sheet[]; window: string; samples: number }
+  /** The same, or that there is no view. */
+  type Seeable = Sighted | { sheets: null };
+  /** `isWhole` where what was undone for it was made again. */
+  type Sheets = { isWhole: boolean } & Seeable;
+  /** What the layers differ in from some steps before: of so many in all. */
+  type Different = { differing: { name: string; box: Box | null }[]; count: number; box: Box | null } & Seeable;
+  /** Null where so many steps cannot be undone. */
+  type Differing = { isWhole: false } | { isWhole: boolean; differing: null } | { isWhole: boolean } & Different;
+  /** How many pixels two have in both and alone; null where these cannot be compared. */
+  interface Counted { counts: number[]; box: Box | null; window: string; isWhole: boolean; isSameText: boolean | null }
+  type Counts = Counted | { counts: null };
   interface Answered {
     lines: Lines; boxes: Boxes; look: Looked; under: { found: Place | null }; pile: { items: Listed[]; isMore: boolean };
     inside: Places; touched: Places; like: Places; gap: { gap: Gap | null }; tally: Tallies;

@@ -76,7 +76,7 @@ export function compare(drawing, { steps, colours }) {
     return !one || !other || !isSame(one, other);
   });
   const before = differing.map((name) => ({ name, items: itemsOf(drawing, name) }));
-  if (times(drawing, "redo", taken) !== taken) return { isWhole: false, differing: null, sheets: null };
+  if (times(drawing, "redo", taken) !== taken) return { isWhole: false };
   const found = before.map(({ name, items }) => {
     /** @type {(Board.Box | null)[]} */
     const boxes = [];
@@ -87,7 +87,7 @@ export function compare(drawing, { steps, colours }) {
   for (const { name, range, boxes } of found) boxes.push(...boxesIn(drawing, name, range.first, range.then));
   const isWhole = times(drawing, "redo", taken) === taken;
   drawing.refresh();
-  if (taken !== steps) return { isWhole, differing: null, sheets: null };
+  if (taken !== steps) return { isWhole, differing: null };
   // Where no item differs, the layer's tools, apertures or attributes do.
   const led = found.map(({ name, boxes }) => ({ name, box: joined(boxes) ?? boxOf(drawing.station, `box ${name}`) }));
   return { isWhole, differing: led, count: names.length, box: joined(led.map(({ box }) => box)),
@@ -95,7 +95,7 @@ export function compare(drawing, { steps, colours }) {
 }
 
 // The pixels of the view as pictures to be shown.
-/** @param {Drawing} drawing @param {(Picture | null)[]} then @param {(Picture | null)[]} now @param {string[]} colours */
+/** @param {Drawing} drawing @param {(Picture | null)[]} then @param {(Picture | null)[]} now @param {string[]} colours @returns {Board.Seeable} */
 function sheetsOf(drawing, then, now, colours) {
   const { view } = drawing;
   if (!view) return { sheets: null };

@@ -133,10 +133,10 @@ function told(ask) {
 }
 
 // A comparison whose pictures go over to the page.
-/** @template {Board.Sheets} T @param {T} found @returns {Worker.Over<T>} */
+/** @template {Board.Sheets | Board.Differing} T @param {T} found @returns {Worker.Over<T>} */
 function withSheets(found) {
   goOn();
-  return { ...found, over: (found.sheets ?? []).flatMap((sheet) => sheet.bitmaps) };
+  return { ...found, over: ("sheets" in found && found.sheets || []).flatMap((sheet) => sheet.bitmaps) };
 }
 
 /** @param {Worker.StationAsked["shapes"]} message @returns {Worker.Over<Worker.StationAnswered["shapes"]>} */

@@ -59,7 +59,7 @@ declare namespace Worker {
   type ToStation = Question<StationAsked, Numbered>;
   /** What the page is told without a question, while the view is drawn. */
   type News = { kind: "picture" } & Came | { kind: "drawn"; number: number } | { kind: "drawing"; number: number } & Progress
-    | { kind: "undrawn"; why: string } | { kind: "undrawn"; name: string; code: number };
+    | { kind: "undrawn"; why: string; name?: undefined; code?: undefined } | { kind: "undrawn"; name: string; code: number; why?: undefined };
   /** A picture that came: of the window, or where `place` says; of a side of the board with what lacks. */
   interface Came {
     number: number; name: string; bitmap: ImageBitmap | null; window?: string; samples?: number; isPart?: boolean;
