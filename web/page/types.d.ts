@@ -75,22 +75,18 @@ declare namespace Page {
   // ---- Between the page and its worker, but for what the machine asks (view.js, main.js) ----
 
   /** The view that the worker draws: a line of a script, and its layers, the topmost first. */
-  interface Wanted { number: number; window: string; samples: number; layers: { name: string; colour: string; isOpened?: boolean }[]; made: Side | null }
+  type Wanted = Worker.Wanted;
   /** A side of the board as it will be made, of layers with what they show, what their files say of that, and which tools these call not plated. */
-  interface Side {
-    side: "top" | "bottom"; mask: string; finish: string; layers: { name: string; shows: string; said: string | null; bare: number[] }[];
-  }
+  type Side = Worker.MadeSide;
   /** A side that came: what lacks. */
   interface MadeSide { side: "top" | "bottom"; lacks: string[] }
   /** A picture that came: of the window, or where `place` says. */
-  interface Came { name: string; bitmap: ImageBitmap | null; window?: string; samples?: number; place?: { left: number; top: number; pitch: number };
-    side?: "top" | "bottom"; lacks?: string[] }
-  type News = { kind: "picture" } & Came | { kind: "drawn"; number: number } | { kind: "drawing" } & Progress
-    | { kind: "undrawn"; why?: string; name?: string; code?: number } | Machine.Events["answer"];
+  type Came = Worker.Came;
+  type News = Worker.News | Machine.Events["answer"];
   /** How far a check of the nets' worker is. */
-  interface NetsNews { kind: "checking"; checking: { what: string; done: number } }
+  type NetsNews = Extract<Worker.FromNets, { kind: "checking" }>;
   /** How far a drawing is: so many layers, and a part of the next one. */
-  interface Progress { drawn: number; count: number; part: number }
+  type Progress = Worker.Progress;
   /** What the worker of the nets says of lines: what they joined and cut, in so many ms. */
   interface NetsHeard extends Machine.About { changes: NetChanges | null; ms: number }
   interface NetChanges { joins: Joined[]; cuts: Joined[]; before: number; after: number }
