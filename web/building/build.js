@@ -50,8 +50,9 @@ function pageOf(module) {
   const worker = within(inlined(join(web, "worker/main.js")), "script");
   const netsWorker = within(inlined(join(web, "worker/nets_worker.js")), "script");
   // (what is seldom needed is unpacked when it is)
-  const [convertingWorker, comparingWorker] = ["converting", "comparing"].map((name) =>
-    gzipSync(inlined(join(web, `worker/${name}_worker.js`)), { level: 9 }).toString("base64"));
+  /** @param {string} name */
+  const packed = (name) => gzipSync(inlined(join(web, `worker/${name}_worker.js`)), { level: 9 }).toString("base64");
+  const convertingWorker = packed("converting"), comparingWorker = packed("comparing");
   const policy = ["default-src 'none'", `script-src ${sum(script)} 'wasm-unsafe-eval'`, `style-src ${sum(style)}`,
     "worker-src blob:", "base-uri 'none'", "form-action 'none'"].join("; ");
   /** @type {Record<string, string>} */
@@ -64,6 +65,7 @@ function pageOf(module) {
 }
 
 const [module, out] = process.argv.slice(2);
+if (!module || !out) throw new Error("the call has no module, or no path of the page");
 const page = pageOf(readFileSync(module));
 writeFileSync(out, page);
 console.log(`${out}: ${page.length} bytes`);

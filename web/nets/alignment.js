@@ -2,6 +2,7 @@
 // then mirrored and turned by quarters too, and in the other unit.
 
 import { INCHES, MILLIMETRES } from "./ipc.js";
+import { elementAt } from "./lists.js";
 
 /** @typedef {{x: number, y: number}} Point lengths are in nm */
 
@@ -98,7 +99,7 @@ export class Centres {
  */
 function some(points, count) {
   const step = Math.max(1, points.length / count);
-  return Array.from({ length: Math.min(count, points.length) }, (_, at) => points[Math.floor(at * step)]);
+  return Array.from({ length: Math.min(count, points.length) }, (_, at) => elementAt(points, Math.floor(at * step)));
 }
 
 /**
@@ -144,7 +145,7 @@ function settled(centres, points, { x, y }) {
     return centre ? [{ x: centre.x - point.x - x, y: centre.y - point.y - y }] : [];
   });
   if (!off.length) return { x, y };
-  const middle = (/** @type {"x" | "y"} */ axis) => off.map((one) => one[axis]).sort((one, other) => one - other)[off.length >> 1];
+  const middle = (/** @type {"x" | "y"} */ axis) => elementAt(off.map((one) => one[axis]).sort((one, other) => one - other), off.length >> 1);
   return { x: Math.round(x + middle("x")), y: Math.round(y + middle("y")) };
 }
 

@@ -1,6 +1,7 @@
 // What lies nearest to a hole: white, or the copper of some nets. A hole is a stroke: all places no farther than its radius from
 // a line; that of a drilled one is a point.
 
+import { elementAt } from "./lists.js";
 import { BAND } from "./runs.js";
 import { Widths } from "./widths.js";
 
@@ -68,7 +69,7 @@ export class Around {
   constructor(nets, layer) {
     this.nets = nets;
     this.layer = layer;
-    this.runs = nets.copper[layer];
+    this.runs = elementAt(nets.copper, layer);
     this.widths = new Widths(this.runs);
   }
 
@@ -106,7 +107,7 @@ export class Around {
    * @returns {(Found & {net: number}) | null}
    */
   nearestCopper(stroke, most, isWanted) {
-    const { nets, layer, runs } = this, { x0, y0, x1, y1, radius } = stroke, netOf = /** @type {Int32Array} */ (nets.netOf);
+    const { runs } = this, { netOf } = this.nets, bases = elementAt(this.nets.bases, this.layer), { x0, y0, x1, y1, radius } = stroke;
     let least = radius + most + HALF;
     const left = Math.min(x0, x1) - least, right = Math.max(x0, x1) + least, low = Math.min(y0, y1), high = Math.max(y0, y1);
     /** @type {(Found & {net: number}) | null} */
@@ -114,12 +115,15 @@ export class Around {
     const last = Math.min(runs.height - 1, Math.ceil(high + least));
     for (let row = Math.max(0, Math.floor(low - least)); row <= last; row++) {
       if (Math.max(low - row, row - high) >= least) continue;
-      const number = Math.floor(row / BAND), band = runs.bands[number], base = nets.bases[layer][number], end = band.offsets[row % BAND + 1];
+      const number = Math.floor(row / BAND), band = elementAt(runs.bands, number), base = /** @type {number} */ (bases[number]);
+      const end = /** @type {number} */ (band.offsets[row % BAND + 1]);
       const middle = nearestColumn(stroke, row);
-      for (let at = band.firstEndingAfter(row % BAND, Math.floor(left)); at < end && band.starts[at] <= right; at++) {
-        const net = netOf[base + band.labels[at]];
+      for (let at = band.firstEndingAfter(row % BAND, Math.floor(left)); at < end; at++) {
+        const ownStart = /** @type {number} */ (band.starts[at]), ownEnd = /** @type {number} */ (band.ends[at]);
+        if (ownStart > right) break;
+        const net = /** @type {number} */ (netOf[base + /** @type {number} */ (band.labels[at])]);
         if (!isWanted(net)) continue;
-        const column = Math.min(Math.max(Math.round(middle), band.starts[at]), band.ends[at] - 1), away = toLine(stroke, column, row);
+        const column = Math.min(Math.max(Math.round(middle), ownStart), ownEnd - 1), away = toLine(stroke, column, row);
         if (away >= least) continue;
         least = away;
         found = { column, row, net, distance: away - radius - HALF };

@@ -23,17 +23,34 @@ const WITH_HOLE = /^(?:ViaPad|ComponentPad)$/;
  * @property {import("../attributes/index.js").Reading | null} reading
  */
 
-// The net of an item: `name`, null for a pad without a net; undefined where the file says nothing of one, or of several.
+/**
+ * @typedef {import("./flat_items.js").FlatItem} FlatItem
+ * @typedef {import("./flat_items.js").Pair} Pair
+ * @typedef {import("./points.js").NetPoint} NetPoint
+ * @typedef {NetPoint & {spots: {layer: number, x: number, y: number}[]}} FlashPoint a flash's point, which has places of its own
+ *
+ * What is known of an item's aperture and of the layer: the aperture's function, whether anything of the layer is cleared, and
+ * which places are.
+ * @typedef {{functionOf: string | undefined, hasClear: boolean, isCleared: (spot: Pair) => boolean}} Around
+ */
+
+/**
+ * The net of an item.
+ * @param {FlatItem["attributes"]} attributes
+ * @param {boolean} isFlash
+ * @returns {string | null | undefined} null for a pad without a net; undefined where the file says nothing of one, or of several
+ */
 function netOf(attributes, isFlash) {
-  const fields = named(attributes, ".N")?.fields;
-  if (!fields || fields.length !== 1 || fields[0] === "") return undefined;
-  if (fields[0] !== "N/C") return plainText(fields[0]);
+  const [name, ...more] = named(attributes, ".N")?.fields ?? [];
+  if (!name || more.length) return undefined;
+  if (name !== "N/C") return plainText(name);
   return isFlash ? null : undefined;
 }
 
+/** @param {FlatItem["attributes"]} attributes */
 function pinOf(attributes) {
-  const fields = named(attributes, ".P")?.fields;
-  return fields && fields.length > 1 ? `${plainText(fields[0])}-${plainText(fields[1])}` : null;
+  const [part, pin] = named(attributes, ".P")?.fields ?? [];
+  return part === undefined || pin === undefined ? null : `${plainText(part)}-${plainText(pin)}`;
 }
 
 /**
@@ -44,34 +61,44 @@ class Collection {
   /** @param {Centres} unplated the centres of holes without plating */
   constructor(unplated) {
     this.unplated = unplated;
-    /** @type {import("./points.js").NetPoint[]} */
+    /** @type {NetPoint[]} */
     this.points = [];
-    /** @type {Map<string, import("./points.js").NetPoint>} */
+    /** @type {Map<string, FlashPoint>} */
     this.flashes = new Map();
   }
 
   /**
    * The points of an item: one of a flash, one from each end of a draw or an arc, and a few of a region; each tries the item's
    * own places in its order, until one is black.
+   * @param {number} layer
+   * @param {string} label
+   * @param {FlatItem} flat
+   * @param {Around} around
    */
   add(layer, label, { item, attributes, place, copy, move }, { functionOf, isCleared, hasClear }) {
-    const { kind } = headOf(item.words), isFlash = kind === "flash", net = netOf(attributes, isFlash);
-    if (net === undefined) return;
-    const own = (isDense) => placesOf(item, isDense).map(move).filter((spot) => !isCleared(spot));
+    const { kind } = headOf(item.words), isFlash = kind === "flash", net = netOf(attributes, isFlash), begin = itemOf(item.words)?.points[0];
+    if (net === undefined || !begin) return;
+    const own = (/** @type {boolean} */ isDense) => placesOf(item, isDense).map(move).filter((spot) => !isCleared(spot));
     let spots = own(false);
     if (!spots.length && hasClear) spots = own(true);
-    const pin = pinOf(attributes), source = `${label} ${place}`, middle = move(placesOf(item)[0] ?? itemOf(item.words).points[0]);
-    const pointOf = (list) => {
-      const [x, y] = isFlash ? move(itemOf(item.words).points[0]) : list[0] ?? middle;
+    const pin = pinOf(attributes), source = `${label} ${place}`, middle = move(placesOf(item)[0] ?? begin);
+    const pointOf = (/** @type {Pair[]} */ list) => {
+      const [x, y] = isFlash ? move(begin) : list[0] ?? middle;
       return { net, name: pin ?? source, isPin: pin !== null, source, x, y, layers: [layer], isThrough: false, copy,
         spots: list.map(([across, up]) => ({ layer, x: across, y: up })), reach: hasClear ? 0 : item.reach };
     };
-    if (isFlash) this.addFlash(pointOf(spots), functionOf, pin);
+    if (isFlash) this.addFlash(pointOf(spots), layer, functionOf, pin);
     else if (kind === "region") this.points.push(...startsOf(spots).map((at) => pointOf([...spots.slice(at), ...spots.slice(0, at)])));
     else this.points.push(pointOf(spots), pointOf([...spots].reverse()));
   }
 
-  addFlash(point, functionOf, pin) {
+  /**
+   * @param {FlashPoint} point
+   * @param {number} layer
+   * @param {string | undefined} functionOf
+   * @param {string | null} pin
+   */
+  addFlash(point, layer, functionOf, pin) {
     const isUnplated = this.unplated.near(point.x, point.y) !== null;
     if (isUnplated || WITHOUT_HOLE.test(functionOf ?? "")) {
       this.points.push({ ...point, isBareAllowed: isUnplated && point.net === null });
@@ -79,7 +106,6 @@ class Collection {
     }
     point.isDrilled = WITH_HOLE.test(functionOf ?? "");
     const key = `${point.x} ${point.y} ${point.net ?? `N/C ${pin}`}`, known = this.flashes.get(key);
-    const [layer] = point.layers;
     if (!known) {
       this.flashes.set(key, point);
       this.points.push(point);
@@ -95,19 +121,26 @@ class Collection {
 /** So many points a region has. */
 const OF_REGION = 3;
 
-// Which of a region's places each of its points tries first: some far from one another.
+/**
+ * Which of a region's places each of its points tries first: some far from one another.
+ * @param {Pair[]} spots
+ */
 function startsOf({ length }) {
   const starts = Array.from({ length: OF_REGION }, (_, at) => Math.floor(at * length / OF_REGION));
   return [...new Set(starts)];
 }
 
-// Points of several copies have nets of their own.
+/**
+ * Points of several copies have nets of their own.
+ * @param {NetPoint[]} points
+ * @returns {NetPoint[]}
+ */
 function ofCopies(points) {
   const copies = new Set(points.map(({ copy }) => copy));
   if (copies.size < 2) return points;
   return points.map((point) => {
-    if (point.copy === null || point.net === null) return point;
-    const [x, y] = point.copy.split(" ").map(Number);
+    if (!point.copy || point.net === null) return point;
+    const [x = 0, y = 0] = point.copy.split(" ").map(Number);
     return { ...point, net: copyName(point.net, x, y) };
   });
 }

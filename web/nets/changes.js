@@ -1,6 +1,7 @@
 // What an edit joined and cut: the nets before it beside those after it.
 
 import { BAND } from "./runs.js";
+import { elementAt } from "./lists.js";
 import { netsOf } from "./nets.js";
 import { rowsOf, runsOfRows, without } from "./rows.js";
 
@@ -17,73 +18,110 @@ import { rowsOf, runsOfRows, without } from "./rows.js";
  * @property {Change[]} vanished nets without a pixel now
  * @property {number} before how many nets there were
  * @property {number} after
+ *
+ * @typedef {import("./nets.js").Nets} Nets
+ * @typedef {import("./runs.js").Band} Band
+ *
+ * A part of a net, and its runs: row, start and end of each.
+ * @typedef {{layer: number, runs: [row: number, start: number, end: number][]}} Part
  */
 
 /** The nets of the state on one side that share pixels with each net on the other. */
 class Shared {
+  /** @param {Nets} before @param {Nets} after */
   constructor(before, after) {
     this.before = before;
     this.after = after;
-    this.afters = Array.from({ length: before.count }, () => []);
-    this.befores = Array.from({ length: after.count }, () => []);
+    this.afters = listsOf(before.count);
+    this.befores = listsOf(after.count);
+    /** @type {Set<number>} */
     this.seen = new Set();
     before.layers.forEach((_, layer) => this.addLayer(layer));
   }
 
+  /** @param {number} layer */
   addLayer(layer) {
-    const { before, after } = this, old = before.layers[layer].bands, now = after.layers[layer].bands;
+    const { before, after } = this, old = elementAt(before.layers, layer).bands, now = elementAt(after.layers, layer).bands;
     for (let at = 0; at < old.length; at++) {
-      const oldBase = before.bases[layer][at], nowBase = after.bases[layer][at];
-      if (old[at] === now[at]) {
-        for (let label = 0; label < old[at].count; label++) {
-          this.add(before.netOf[oldBase + label], after.netOf[nowBase + label]);
+      const oldBase = /** @type {number} */ (elementAt(before.bases, layer)[at]), nowBase = /** @type {number} */ (elementAt(after.bases, layer)[at]);
+      const was = elementAt(old, at), is = elementAt(now, at);
+      if (was === is) {
+        for (let label = 0; label < was.count; label++) {
+          this.add(/** @type {number} */ (before.netOf[oldBase + label]), /** @type {number} */ (after.netOf[nowBase + label]));
         }
       } else {
-        this.addRows(old[at], oldBase, now[at], nowBase);
+        this.addRows(was, oldBase, is, nowBase);
       }
     }
   }
 
+  /** @param {Band} old @param {number} oldBase @param {Band} now @param {number} nowBase */
   addRows(old, oldBase, now, nowBase) {
     for (let row = 0; row < old.rows; row++) {
-      let to = now.offsets[row];
-      const end = now.offsets[row + 1];
-      for (let at = old.offsets[row]; at < old.offsets[row + 1]; at++) {
-        while (to < end && now.ends[to] <= old.starts[at]) to++;
-        for (let shared = to; shared < end && now.starts[shared] < old.ends[at]; shared++) {
-          this.add(this.before.netOf[oldBase + old.labels[at]], this.after.netOf[nowBase + now.labels[shared]]);
+      let to = /** @type {number} */ (now.offsets[row]);
+      const end = /** @type {number} */ (now.offsets[row + 1]);
+      for (let at = /** @type {number} */ (old.offsets[row]); at < /** @type {number} */ (old.offsets[row + 1]); at++) {
+        const oldStart = /** @type {number} */ (old.starts[at]), oldEnd = /** @type {number} */ (old.ends[at]);
+        while (to < end && /** @type {number} */ (now.ends[to]) <= oldStart) to++;
+        for (let shared = to; shared < end && /** @type {number} */ (now.starts[shared]) < oldEnd; shared++) {
+          const one = oldBase + /** @type {number} */ (old.labels[at]), other = nowBase + /** @type {number} */ (now.labels[shared]);
+          this.add(/** @type {number} */ (this.before.netOf[one]), /** @type {number} */ (this.after.netOf[other]));
         }
       }
     }
   }
 
+  /** @param {number} one @param {number} other */
   add(one, other) {
-    if (one >= this.before.count || other >= this.after.count) return;
+    const known = this.afters[one], back = this.befores[other];
+    // A hole through no copper is no net: its number follows those of the nets.
+    if (!known || !back) return;
     // Neighbours mostly repeat what was seen last.
-    const known = this.afters[one];
     if (known.length && known[known.length - 1] === other) return;
     const key = one * this.after.count + other;
     if (this.seen.has(key)) return;
     this.seen.add(key);
-    this.afters[one].push(other);
-    this.befores[other].push(one);
+    known.push(other);
+    back.push(one);
   }
 }
 
-// Rows of one net in a band.
+/**
+ * So many empty lists of nets.
+ * @param {number} length
+ * @returns {number[][]}
+ */
+function listsOf(length) {
+  return Array.from({ length }, () => []);
+}
+
+/**
+ * Rows of one net in a band.
+ * @param {Nets} nets
+ * @param {number} layer
+ * @param {number} number of the band
+ * @param {number} net
+ */
 function rowsOfNet(nets, layer, number, net) {
-  const band = nets.layers[layer].bands[number], base = nets.bases[layer][number];
+  const band = elementAt(elementAt(nets.layers, layer).bands, number), base = /** @type {number} */ (elementAt(nets.bases, layer)[number]);
   return Array.from({ length: band.rows }, (_, row) => {
+    /** @type {import("./rows.js").Row} */
     const found = [];
-    for (let at = band.offsets[row]; at < band.offsets[row + 1]; at++) {
-      if (nets.netOf[base + band.labels[at]] === net) found.push(band.starts[at], band.ends[at]);
+    for (let at = /** @type {number} */ (band.offsets[row]); at < /** @type {number} */ (band.offsets[row + 1]); at++) {
+      const own = nets.netOf[base + /** @type {number} */ (band.labels[at])];
+      if (own === net) found.push(/** @type {number} */ (band.starts[at]), /** @type {number} */ (band.ends[at]));
     }
     return found;
   });
 }
 
-// The stretches of bands that differ, as the numbers of their first and last band.
+/**
+ * The stretches of bands that differ, as the numbers of their first and last band.
+ * @param {Band[]} one
+ * @param {Band[]} other
+ */
 function stretchesOf(one, other) {
+  /** @type {[first: number, last: number][]} */
   const stretches = [];
   one.forEach((band, at) => {
     if (band === other[at]) return;
@@ -94,13 +132,20 @@ function stretchesOf(one, other) {
   return stretches;
 }
 
-// The parts that a net has now and had not before, each with its runs.
+/**
+ * The parts that a net has now and had not before.
+ * @param {Nets} now
+ * @param {Nets} old
+ * @param {number} net
+ */
 function newParts(now, old, net) {
-  return now.layers.flatMap(({ bands, width }, layer) => stretchesOf(bands, old.layers[layer].bands).flatMap(([first, last]) => {
+  return now.layers.flatMap(({ bands, width }, layer) => stretchesOf(bands, elementAt(old.layers, layer).bands).flatMap(([first, last]) => {
     const numbers = Array.from({ length: last - first + 1 }, (_, at) => first + at);
     const own = numbers.flatMap((number) => rowsOfNet(now, layer, number, net));
-    const was = rowsOf(old.layers[layer].bands.slice(first, last + 1));
-    const parts = [], runs = runsOfRows(own.map((row, at) => without(row, was[at])), width);
+    const was = rowsOf(elementAt(old.layers, layer).bands.slice(first, last + 1));
+    /** @type {Part[]} */
+    const parts = [];
+    const runs = runsOfRows(own.map((row, at) => without(row, elementAt(was, at))), width);
     netsOf([runs]).visit(() => true, (_, row, start, end, part) => {
       (parts[part] ??= { layer, runs: [] }).runs.push([first * BAND + row, start, end]);
     });
@@ -108,14 +153,22 @@ function newParts(now, old, net) {
   }));
 }
 
-// Which of some nets a part touches in the state in which it is white: by an edge, or through a hole.
+/**
+ * Which of some nets a part touches in the state in which it is white: by an edge, or through a hole.
+ * @param {Part} part
+ * @param {Nets} nets
+ * @param {Set<number>} wanted
+ */
 function touchedBy({ layer, runs }, nets, wanted) {
-  const found = new Set(), isHole = layer >= nets.copper.length;
-  const look = (at, column, row) => {
+  /** @type {Set<number>} */
+  const found = new Set();
+
+  const look = (/** @type {number} */ at, /** @type {number} */ column, /** @type {number} */ row) => {
     const net = nets.netAt(at, column, row);
     if (wanted.has(net)) found.add(net);
   };
-  const passing = isHole ? [nets.holes[layer - nets.copper.length]].flatMap(({ from, to }) => span(from, to))
+  const hole = nets.holes[layer - nets.copper.length];
+  const passing = hole ? span(hole.from, hole.to)
     : nets.holes.flatMap(({ from, to }, at) => (from <= layer && layer <= to ? [nets.copper.length + at] : []));
   for (const [row, start, end] of runs) {
     look(layer, start - 1, row);
@@ -129,13 +182,21 @@ function touchedBy({ layer, runs }, nets, wanted) {
   return found;
 }
 
+/** @param {number} from @param {number} to */
 function span(from, to) {
   return Array.from({ length: to - from + 1 }, (_, at) => from + at);
 }
 
-// Where a net became one of several: in the part of it that is new, and touches the most of these.
+/**
+ * Where a net became one of several: in the part of it that is new, and touches the most of these.
+ * @param {Nets} now
+ * @param {Nets} old
+ * @param {number} net
+ * @param {number[]} others
+ */
 function placeOf(now, old, net, others) {
   const wanted = new Set(others);
+  /** @type {{touched: number, part: Part} | null} */
   let best = null;
   for (const part of newParts(now, old, net)) {
     const touched = touchedBy(part, old, wanted).size;
@@ -144,12 +205,18 @@ function placeOf(now, old, net, others) {
   return best && middleOf(best.part);
 }
 
+/** @param {Part} part */
 function middleOf({ layer, runs }) {
-  const [row, start, end] = runs[runs.length >> 1];
+  const [row, start, end] = elementAt(runs, runs.length >> 1);
   return { layer, row, column: (start + end - 1) >> 1 };
 }
 
-// A pixel of a net in a band that changed.
+/**
+ * A pixel of a net in a band that changed.
+ * @param {Nets} nets
+ * @param {Nets} others
+ * @param {number} net
+ */
 function someOf(nets, others, net) {
   const [part] = newParts(nets, others, net);
   return part ? middleOf(part) : null;
@@ -166,8 +233,10 @@ const MOST_PLACES = 12;
  */
 export function changesOf(before, after) {
   const { afters, befores } = new Shared(before, after);
-  const joins = [], cuts = [], appeared = [], vanished = [];
-  const add = (list, nets, find) => list.push({ nets, place: list.length < MOST_PLACES ? find() : null });
+  /** @type {Pick<Changes, "joins" | "cuts" | "appeared" | "vanished">} */
+  const { joins, cuts, appeared, vanished } = { joins: [], cuts: [], appeared: [], vanished: [] };
+  const add = (/** @type {Change[]} */ list, /** @type {number[]} */ nets, /** @type {() => Change["place"]} */ find) => (
+    list.push({ nets, place: list.length < MOST_PLACES ? find() : null }));
   befores.forEach((nets, net) => {
     if (nets.length > 1) add(joins, nets, () => placeOf(after, before, net, nets));
     if (!nets.length) add(appeared, [net], () => someOf(after, before, net));

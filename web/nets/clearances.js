@@ -1,5 +1,6 @@
 // Where the copper of two nets lies nearer than a gap, on one layer.
 
+import { elementAt } from "./lists.js";
 import { BAND } from "./runs.js";
 import { atOnce } from "./steps.js";
 
@@ -7,77 +8,122 @@ import { atOnce } from "./steps.js";
  * A place where two nets are near: the white between two pixels, in pixels; the true gap is at most a pixel's diagonal
  * wider or narrower.
  * @typedef {{layer: number, nets: [number, number], from: [number, number], to: [number, number], distance: number}} Near
+ *
+ * A place while rows are looked at: its box, and the nearest of it.
+ * @typedef {{left: number, right: number, bottom: number, best: Near}} Open
+ *
+ * A row of a layer: its band, the number of the band's first piece, and its runs from `first` to before `end`.
+ * @typedef {{band: import("./runs.js").Band, base: number, first: number, end: number}} RowOf
  */
 
 /** The places of one layer, those of a pair of nets that follow one another as one, with the nearest of each. */
 class Places {
+  /** @param {number} layer @param {number} reach */
   constructor(layer, reach) {
     this.layer = layer;
     this.reach = reach;
+    /** @type {Map<string, Open[]>} */
     this.open = new Map();
+    /** @type {Open[]} */
     this.closed = [];
   }
 
+  /**
+   * @param {number} one
+   * @param {number} other
+   * @param {[number, number]} from
+   * @param {[number, number]} to
+   * @param {number} distance
+   */
   add(one, other, from, to, distance) {
     const key = one < other ? `${one} ${other}` : `${other} ${one}`;
     let list = this.open.get(key);
     if (!list) this.open.set(key, list = []);
     const [column, row] = to, { reach } = this;
-    let place = list.find(({ left, right, bottom }) => column >= left - reach && column <= right + reach && row <= bottom + reach);
-    if (!place) {
-      place = { left: column, right: column, bottom: row, best: null };
+    const known = list.find(({ left, right, bottom }) => column >= left - reach && column <= right + reach && row <= bottom + reach);
+    const place = known ?? { left: column, right: column, bottom: row, best: this.near(one, other, from, to, distance) };
+    if (!known) {
       list.push(place);
       this.closed.push(place);
     }
     place.left = Math.min(place.left, column);
     place.right = Math.max(place.right, column);
     place.bottom = Math.max(place.bottom, row);
-    if (place.best && place.best.distance <= distance) return;
-    place.best = { layer: this.layer, nets: one < other ? [one, other] : [other, one], from, to, distance };
+    if (place.best.distance > distance) place.best = this.near(one, other, from, to, distance);
+  }
+
+  /**
+   * @param {number} one
+   * @param {number} other
+   * @param {[number, number]} from
+   * @param {[number, number]} to
+   * @param {number} distance
+   * @returns {Near}
+   */
+  near(one, other, from, to, distance) {
+    return { layer: this.layer, nets: one < other ? [one, other] : [other, one], from, to, distance };
   }
 }
 
 /** The rows of a layer with the nets of their runs. */
 class Rows {
+  /** @param {import("./nets.js").Nets} nets @param {number} layer */
   constructor(nets, layer) {
-    this.bands = nets.copper[layer].bands;
-    this.height = nets.copper[layer].height;
-    this.bases = nets.bases[layer];
+    const { bands, height } = elementAt(nets.copper, layer);
+    this.bands = bands;
+    this.height = height;
+    this.bases = elementAt(nets.bases, layer);
     this.netOf = nets.netOf;
   }
 
+  /** @param {number} row @returns {RowOf} */
   at(row) {
-    const number = Math.floor(row / BAND), band = this.bands[number], inner = row % BAND;
-    return { band, base: this.bases[number], first: band.offsets[inner], end: band.offsets[inner + 1] };
+    const number = Math.floor(row / BAND), band = elementAt(this.bands, number), inner = row % BAND;
+    return { band, base: /** @type {number} */ (this.bases[number]), first: /** @type {number} */ (band.offsets[inner]),
+      end: /** @type {number} */ (band.offsets[inner + 1]) };
   }
 
+  /** @param {RowOf} row @param {number} run @returns {number} */
   net({ band, base }, run) {
-    return this.netOf[base + band.labels[run]];
+    return /** @type {number} */ (this.netOf[base + /** @type {number} */ (band.labels[run])]);
   }
 }
 
-// The pairs of runs of a row and of one so far above it that are nearer than `gap`, all in pixels.
+/**
+ * The pairs of runs of a row and of one so far above it that are nearer than `gap`, all in pixels.
+ * @param {Rows} rows
+ * @param {number} row
+ * @param {number} away
+ * @param {number} gap
+ * @param {Places} places
+ */
 function lookAbove(rows, row, away, gap, places) {
   const own = rows.at(row), other = away ? rows.at(row - away) : own, down = Math.max(0, away - 1);
   const across = Math.ceil(Math.sqrt(Math.max(0, gap * gap - down * down)));
   const { starts, ends } = own.band, above = other.band;
   let low = other.first;
   for (let at = own.first; at < own.end; at++) {
-    while (low < other.end && above.ends[low] + across < starts[at]) low++;
+    const start = /** @type {number} */ (starts[at]), end = /** @type {number} */ (ends[at]);
+    while (low < other.end && /** @type {number} */ (above.ends[low]) + across < start) low++;
     const net = rows.net(own, at);
-    for (let run = away ? low : at + 1; run < other.end && above.starts[run] <= ends[at] + across; run++) {
+    for (let run = away ? low : at + 1; run < other.end; run++) {
+      const otherStart = /** @type {number} */ (above.starts[run]);
+      if (otherStart > end + across) break;
       const otherNet = rows.net(other, run);
       if (otherNet === net) continue;
-      const aside = Math.max(0, above.starts[run] - ends[at], starts[at] - above.ends[run]);
+      const otherEnd = /** @type {number} */ (above.ends[run]), aside = Math.max(0, otherStart - end, start - otherEnd);
       const distance = Math.hypot(aside, down);
       if (distance >= gap) continue;
-      const [here, there] = columnsOf(starts[at], ends[at], above.starts[run], above.ends[run]);
+      const [here, there] = columnsOf(start, end, otherStart, otherEnd);
       places.add(net, otherNet, [there, row - away], [here, row], distance);
     }
   }
 }
 
-// Whether each row has the runs of the one above it.
+/**
+ * Whether each row has the runs of the one above it.
+ * @param {Rows} rows
+ */
 function sameRows(rows) {
   const found = new Uint8Array(rows.height);
   for (let row = 1; row < rows.height; row++) {
@@ -91,7 +137,14 @@ function sameRows(rows) {
   return found;
 }
 
-// The columns of two runs that are nearest to each other.
+/**
+ * The columns of two runs that are nearest to each other.
+ * @param {number} start
+ * @param {number} end
+ * @param {number} otherStart
+ * @param {number} otherEnd
+ * @returns {[number, number]}
+ */
 function columnsOf(start, end, otherStart, otherEnd) {
   if (otherStart >= end) return [end - 1, otherStart];
   if (otherEnd <= start) return [start, otherEnd - 1];

@@ -1,6 +1,7 @@
 // Which places of a layer are cleared after an item: what clear items cover. A place near the rim of one may count as covered.
 
 import { itemOf } from "../board/index.js";
+import { elementAt } from "./lists.js";
 import { linesOfItem } from "./outline.js";
 
 /**
@@ -22,7 +23,7 @@ const CELL = 1_000_000, MOST_CELLS = 400;
 function distance(line, x, y) {
   let least = Infinity;
   for (let at = 1; at < line.length; at++) {
-    const [x0, y0] = line[at - 1], dx = line[at][0] - x0, dy = line[at][1] - y0, square = dx * dx + dy * dy;
+    const [x0, y0] = elementAt(line, at - 1), [x1, y1] = elementAt(line, at), dx = x1 - x0, dy = y1 - y0, square = dx * dx + dy * dy;
     const part = square ? Math.min(1, Math.max(0, ((x - x0) * dx + (y - y0) * dy) / square)) : 0;
     least = Math.min(least, Math.hypot(x - x0 - part * dx, y - y0 - part * dy));
   }
@@ -39,7 +40,7 @@ function isInside(lines, x, y) {
   let isIn = false;
   for (const line of lines) {
     for (let at = 1; at < line.length; at++) {
-      const [x0, y0] = line[at - 1], [x1, y1] = line[at];
+      const [x0, y0] = elementAt(line, at - 1), [x1, y1] = elementAt(line, at);
       if ((y0 <= y) !== (y1 <= y) && x < x0 + (x1 - x0) * (y - y0) / (y1 - y0)) isIn = !isIn;
     }
   }
@@ -53,10 +54,11 @@ function isInside(lines, x, y) {
  */
 function clearOf({ item, move }, order) {
   const read = itemOf(item.words);
-  if (!read) return null;
+  const [start] = read?.points ?? [];
+  if (!read || !start) return null;
   if (read.kind === "flash") {
     // A long pad may be turned: the circle around it counts.
-    const [x, y] = move(read.points[0]), [width, height] = item.sides, reach = width === height ? width : Math.hypot(width, height);
+    const [x, y] = move(start), [width, height] = item.sides, reach = width === height ? width : Math.hypot(width, height);
     return { order, left: x - reach, low: y - reach, right: x + reach, high: y + reach, covers: () => true };
   }
   const lines = linesOfItem(item.words).map((line) => line.map(move)), pen = read.kind === "region" ? 0 : Math.hypot(...item.sides);
@@ -88,7 +90,8 @@ export class Clears {
 
   /** @param {Clear} clear */
   add(clear) {
-    const [left, low, right, high] = [clear.left, clear.low, clear.right, clear.high].map((side) => Math.floor(side / CELL));
+    const cellOf = (/** @type {number} */ side) => Math.floor(side / CELL);
+    const left = cellOf(clear.left), low = cellOf(clear.low), right = cellOf(clear.right), high = cellOf(clear.high);
     this.count++;
     if ((right - left + 1) * (high - low + 1) > MOST_CELLS) {
       this.large.push(clear);

@@ -1,6 +1,7 @@
 // What differs between the copper of a board and the points of its nets: opens, shorts, points without copper, copper
 // without a point.
 
+import { elementAt } from "./lists.js";
 import { throughDisc } from "./measures.js";
 import { nearestParts, overlapOf } from "./nearest.js";
 import { placed } from "./points.js";
@@ -35,14 +36,22 @@ export const MOST_FULL = 20;
  * @typedef {{kind: "loose", copper: number, place: Place, area: number}} Loose copper without a point, and its mm²
  */
 
+/** @typedef {import("./points.js").NetPoint} NetPoint */
+/** @typedef {import("./ways.js").Stretch} Stretch */
+
 /** What is compared: nets of copper, their grid, and points. */
 class Comparison {
+  /** @param {import("./nets.js").Nets} nets @param {import("./grid.js").Grid} grid @param {NetPoint[]} points */
   constructor(nets, grid, points) {
     this.nets = nets;
     this.grid = grid;
     this.placed = points.filter(({ layers }) => layers.length).map((point) => placed(nets, grid, point));
-    // Points by their net's name, each with the copper that it is on; a point without a net has a name of its own.
+    /**
+     * Points by their net's name, each with the copper that it is on; a point without a net has a name of its own.
+     * @type {Map<string, Map<number, NetPoint[]>>}
+     */
     this.byName = new Map();
+    /** @type {Map<number, Map<string, NetPoint[]>>} */
     this.byCopper = new Map();
     for (const { point, on } of this.placed) {
       if (!on.length) continue;
@@ -52,9 +61,18 @@ class Comparison {
         add(this.byCopper, copper, name, point);
       }
     }
-    this.stand = new Map(this.placed.map((found) => [found.point, found]));
+    this.stand = new Map(this.placed.map(({ point, on }) => [point, on]));
   }
 
+  /**
+   * The copper that a point lies on.
+   * @param {NetPoint} point
+   */
+  onOf(point) {
+    return this.stand.get(point) ?? [];
+  }
+
+  /** @param {import("./ways.js").Pixel} pixel @returns {Place} */
   place({ layer, column, row }) {
     return { layer, ...this.grid.placeOf(column, row) };
   }
@@ -92,11 +110,10 @@ class Comparison {
    * @returns {Gap | null}
    */
   holeGap(parts, part) {
-    const { copper, points } = parts[part];
+    const { copper, points } = elementAt(parts, part);
     for (const point of points.filter(({ isThrough }) => isThrough)) {
-      const { on } = this.stand.get(point);
-      const here = on.find(({ net }) => net === copper), there = on.find(({ net }) => net !== copper);
-      if (!there) continue;
+      const on = this.onOf(point), here = on.find(({ net }) => net === copper), there = on.find(({ net }) => net !== copper);
+      if (!here || !there) continue;
       const other = parts.findIndex((found) => found.copper === there.net);
       return { part, other, kind: "hole", from: this.place(here), to: this.place(there), distance: 0, over: null };
     }
@@ -110,26 +127,22 @@ class Comparison {
    * @returns {Gap | null}
    */
   copperGap(parts, part, nearest) {
-    const { copper } = parts[part];
-    const near = nearest && parts.findIndex((found) => found.copper === nearest.net);
-    const others = parts.map((_, at) => at).filter((at) => at !== part);
-    let over = null, other = near ?? null;
-    for (const at of nearest ? [near] : others) {
-      const found = overlapOf(this.nets, copper, parts[at].copper);
-      if (!found || (over && over.side >= found.side)) continue;
-      over = found;
-      other = at;
+    const { copper } = elementAt(parts, part);
+    const isOther = (/** @type {Part} */ found, /** @type {number} */ at) => (nearest ? found.copper === nearest.net : at !== part);
+    /** @type {{other: number, overlap: import("./nearest.js").Overlap} | null} */
+    let best = null;
+    for (const [other, found] of parts.entries()) {
+      const overlap = isOther(found, other) ? overlapOf(this.nets, copper, found.copper) : null;
+      if (overlap && !(best && best.overlap.side >= overlap.side)) best = { other, overlap };
     }
-    const [column, row] = over?.at ?? [];
-    const overPlace = over && this.place({ layer: over.layers[0], column, row });
+    const over = best && this.place({ layer: best.overlap.layers[0], column: best.overlap.at[0], row: best.overlap.at[1] });
     if (nearest) {
-      const { layer, from, to, distance } = nearest;
+      const { layer, from, to, distance } = nearest, other = parts.findIndex((found) => found.copper === nearest.net);
       return { part, other, kind: "copper", from: this.place({ layer, column: from[0], row: from[1] }),
-        to: this.place({ layer, column: to[0], row: to[1] }), distance: distance * this.grid.pitch, over: overPlace };
+        to: this.place({ layer, column: to[0], row: to[1] }), distance: distance * this.grid.pitch, over };
     }
-    if (!over) return null;
-    return { part, other, kind: "layers", from: overPlace, to: { ...overPlace, layer: over.layers[1] }, distance: 0,
-      over: overPlace };
+    if (!best || !over) return null;
+    return { part, other: best.other, kind: "layers", from: over, to: { ...over, layer: best.overlap.layers[1] }, distance: 0, over };
   }
 
   shorts() {
@@ -137,7 +150,7 @@ class Comparison {
     const shorts = [];
     for (const [copper, names] of this.byCopper) {
       // Two pads without a net on one piece are none.
-      const own = [...names].filter(([, points]) => points[0].net !== null);
+      const own = [...names].filter(([, points]) => points.some(({ net }) => net !== null));
       const isShort = own.length > 1 || (own.length === 1 && names.size > 1);
       if (!isShort) continue;
       const nets = [...names].map(([net, points]) => ({ net, points }));
@@ -155,17 +168,17 @@ class Comparison {
     const ways = new Ways(this.nets, copper);
     /** @type {Short["touching"]} */
     const found = [];
-    /** @type {Map<number, import("./ways.js").Stretch> | null} */
+    /** @type {Map<number, Stretch> | null} */
     let covered = null;
     /** @type {string[]} */
     let before = [];
     for (const { net, points } of nets.slice(0, MOST_WAYS)) {
-      const stretches = points.flatMap((point) => this.stand.get(point).on.filter((on) => on.net === copper))
+      const stretches = points.flatMap((point) => this.onOf(point).filter((on) => on.net === copper))
         .map(({ layer, column, row }) => ways.stretchAt(layer, column, row));
       const tree = ways.tree(stretches);
       const place = covered && ways.narrowest(covered, tree);
       if (place) {
-        found.push({ nets: [nearestName(before), net], place: this.place(place), width: place.width * this.grid.pitch,
+        found.push({ nets: [before.join(", "), net], place: this.place(place), width: place.width * this.grid.pitch,
           measure: place.disc ? this.grid.measureOf(throughDisc(place.disc, place.width)) : null });
       }
       covered = merged(covered, tree);
@@ -181,30 +194,37 @@ class Comparison {
 
   /** @returns {Loose[]} */
   loose() {
-    const { areas } = this.nets.tallies(), firsts = new Map(), size = (this.grid.pitch / 1e6) ** 2;
+    const { areas } = this.nets.tallies(), size = (this.grid.pitch / 1e6) ** 2;
+    /** @type {Map<number, import("./ways.js").Pixel>} */
+    const firsts = new Map();
     this.nets.visit((net) => !this.byCopper.has(net), (layer, row, start, end, net) => {
       if (!firsts.has(net)) firsts.set(net, { layer, row, column: (start + end - 1) >> 1 });
     }, 0, this.nets.copper.length - 1);
     return [...firsts].map(([copper, first]) => ({ kind: "loose", copper, place: this.place(first),
-      area: areas.reduce((sum, ofLayer) => sum + ofLayer[copper], 0) * size }));
+      area: areas.reduce((sum, ofLayer) => sum + /** @type {number} */ (ofLayer[copper]), 0) * size }));
   }
 }
 
-function nearestName(names) {
-  return names.length === 1 ? names[0] : names.join(", ");
-}
-
+/** @param {NetPoint} point */
 function nameOf({ net, name, source }) {
   return net ?? `N/C ${name} (${source})`;
 }
 
+/**
+ * @template K, L
+ * @param {Map<K, Map<L, NetPoint[]>>} map
+ * @param {K} key
+ * @param {L} inner
+ * @param {NetPoint} point
+ */
 function add(map, key, inner, point) {
-  if (!map.has(key)) map.set(key, new Map());
-  const lists = map.get(key);
-  if (!lists.has(inner)) lists.set(inner, []);
-  lists.get(inner).push(point);
+  const lists = map.get(key), list = lists?.get(inner);
+  if (list) list.push(point);
+  else if (lists) lists.set(inner, [point]);
+  else map.set(key, new Map([[inner, [point]]]));
 }
 
+/** @param {Map<number, Stretch> | null} one @param {Map<number, Stretch>} other */
 function merged(one, other) {
   if (!one) return other;
   for (const [run, { low, high }] of other) {
@@ -223,6 +243,7 @@ function merged(one, other) {
  * @returns {Map<number, string[]>}
  */
 export function namesOf(nets, grid, points, wanted) {
+  /** @type {Map<number, Set<string>>} */
   const names = new Map([...wanted].map((net) => [net, new Set()]));
   for (const point of points) {
     if (point.net === null || !point.layers.length) continue;
@@ -237,15 +258,13 @@ export function namesOf(nets, grid, points, wanted) {
  * @param {[string, string][]} mayTouch pairs of nets; capital and small letters are the same
  */
 function isAllowed({ nets }, mayTouch) {
-  if (nets.some(({ points }) => points[0].net === null)) return false;
-  const names = nets.map(({ net }) => net.toUpperCase()), reached = new Set(names.slice(0, 1)), waiting = [...reached];
-  while (waiting.length) {
-    const name = waiting.pop();
-    for (const pair of mayTouch) {
-      const at = pair.findIndex((one) => one.toUpperCase() === name), other = at < 0 ? null : pair[1 - at].toUpperCase();
-      if (other === null || reached.has(other) || !names.includes(other)) continue;
-      reached.add(other);
-      waiting.push(other);
+  if (nets.some(({ points }) => points.some(({ net }) => net === null))) return false;
+  const names = nets.map(({ net }) => net.toUpperCase()), reached = new Set(names.slice(0, 1));
+  // (a set is gone through to its end, also where that comes to be while it is)
+  for (const name of reached) {
+    for (const [first, second] of mayTouch) {
+      const one = first.toUpperCase(), other = second.toUpperCase(), found = one === name ? other : other === name ? one : null;
+      if (found !== null && names.includes(found)) reached.add(found);
     }
   }
   return reached.size === names.length;

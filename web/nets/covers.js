@@ -6,14 +6,16 @@ import { flatItems } from "./flat_items.js";
 import { flatRows, runsOfFlat, union } from "./discs.js";
 import { placesOf } from "./item_places.js";
 
+
 /** @typedef {import("../board/index.js").Layer} Layer */
 
-/** The outer sides, and the functions of the layers on them, each with the rules that need it. */
+/** The outer sides, and the functions of the layers on them, each with what people call it and the rules that need it. */
 const SIDES = ["top", "bottom"];
-/** @type {Record<string, string[]>} */
-const WHAT = { mask: ["mask-web", "mask-bare", "silk-bare", "paste"], silk: ["silk-bare"], paste: ["paste"] };
-/** @type {Record<string, string>} */
-const NAMES = { mask: "solder mask", silk: "ink", paste: "paste" };
+const COVERS = [
+  { what: "mask", called: "solder mask", rules: ["mask-web", "mask-bare", "silk-bare", "paste"] },
+  { what: "silk", called: "ink", rules: ["silk-bare"] },
+  { what: "paste", called: "paste", rules: ["paste"] },
+];
 /** Those that the window reaches around; ink may lie anywhere. */
 const DRAWN = ["mask", "paste"];
 
@@ -29,7 +31,7 @@ const DRAWN = ["mask", "paste"];
  * @param {Map<string, number>} limits
  */
 export function neededBy(limits) {
-  return Object.keys(WHAT).filter((what) => WHAT[what].some((rule) => limits.has(rule)));
+  return COVERS.filter(({ rules }) => rules.some((rule) => limits.has(rule))).map(({ what }) => what);
 }
 
 /**
@@ -46,7 +48,7 @@ export function coversOf(layers, needed) {
  * Which of its covers a window reaches around.
  * @param {Layer[]} covers
  */
-export const coversInWindow = (covers) => covers.filter(({ layerFunction: { name } }) => DRAWN.includes(name.split("-")[1]));
+export const coversInWindow = (covers) => covers.filter(({ layerFunction: { name } }) => DRAWN.includes(name.split("-")[1] ?? ""));
 
 /**
  * The outer copper that is there.
@@ -55,7 +57,8 @@ export const coversInWindow = (covers) => covers.filter(({ layerFunction: { name
 function outerOf({ stack }) {
   return SIDES.flatMap((name) => {
     const layer = stack.copper.findIndex(({ layer: { layerFunction } }) => layerFunction.name === name);
-    return layer < 0 ? [] : [{ name, layer, copper: stack.copper[layer].layer }];
+    const copper = stack.copper[layer];
+    return copper ? [{ name, layer, copper: copper.layer }] : [];
   });
 }
 
@@ -83,13 +86,13 @@ function padPlaces(said) {
 export function sidesOf(board, { runsOf, saidOf, holes, points }) {
   return outerOf(board).map(({ name, layer, copper }) => {
     const shown = (/** @type {string} */ what) => {
-      const pictures = board.covers.filter(({ layerFunction }) => layerFunction.name === `${name}-${what}`).map(runsOf);
-      if (pictures.length < 2) return pictures[0] ?? null;
-      return runsOfFlat(pictures.map(flatRows).reduce(union), pictures[0].width);
+      const pictures = board.covers.filter(({ layerFunction }) => layerFunction.name === `${name}-${what}`).map(runsOf), [first] = pictures;
+      if (!first || pictures.length < 2) return first ?? null;
+      return runsOfFlat(pictures.map(flatRows).reduce(union), first.width);
     };
     const openings = shown("mask"), told = points.filter(({ isPin, layers }) => isPin && layers.includes(layer))
       .map(({ x, y, spots }) => /** @type {[number, number][]} */ ([[x, y], ...(spots ?? []).filter((spot) => spot.layer === layer).map((spot) => [spot.x, spot.y])]));
-    const drilled = holes.filter(({ isPlated }) => isPlated).map(({ line: [place] }) => [place]);
+    const drilled = holes.filter(({ isPlated }) => isPlated).map(({ line }) => line.slice(0, 1));
     return { name, layer, openings, ink: shown("silk"), paste: shown("paste"), pads: openings ? [...padPlaces(saidOf(copper)), ...told, ...drilled] : [] };
   });
 }
@@ -108,10 +111,10 @@ export function sidesOf(board, { runsOf, saidOf, holes, points }) {
  */
 export function uncheckedOf(board, limits, points) {
   const names = board.covers.map(({ layerFunction: { name } }) => name);
-  const ofSides = Object.keys(WHAT).flatMap((what) => WHAT[what]).filter((rule, at, all) => limits.has(rule) && all.indexOf(rule) === at)
+  const ofSides = [...new Set(COVERS.flatMap(({ rules }) => rules))].filter((rule) => limits.has(rule))
     .flatMap((rule) => outerOf(board).flatMap(({ name }) => {
-      const lacking = Object.keys(WHAT).find((what) => WHAT[what].includes(rule) && !names.includes(`${name}-${what}`));
-      return lacking ? [{ rule, side: name, why: `no file shows its ${NAMES[lacking]}` }] : [];
+      const lacking = COVERS.find(({ what, rules }) => rules.includes(rule) && !names.includes(`${name}-${what}`));
+      return lacking ? [{ rule, side: name, why: `no file shows its ${lacking.called}` }] : [];
     }));
   const isTold = points.some(({ isDrilled }) => isDrilled) || !limits.has("pad-hole");
   return isTold ? ofSides : [...ofSides, { rule: "pad-hole", side: null, why: "no netlist and no attribute names a pad with a plated hole" }];

@@ -4,12 +4,17 @@ import { changesOf } from "./changes.js";
 import { namesOf } from "./compare.js";
 import { Grid } from "./grid.js";
 import { nearPlaces } from "./clearances.js";
+import { elementAt } from "./lists.js";
 import { netsOf } from "./nets.js";
 import { BAND, bandOf, runsOf } from "./runs.js";
 
 /**
  * A layer of the stack: `passes` of holes is the first and the last copper layer that they join.
  * @typedef {{name: string, passes: [number, number] | null}} DeskLayer
+ *
+ * What an edit joined or cut, with the names of its nets, as far as points tell them, and its place in nm.
+ * @typedef {{nets: number[], names: string[], place: import("./compare.js").Place | null}} ChangeInWords
+ * @typedef {Record<"joins" | "cuts" | "appeared" | "vanished", ChangeInWords[]> & {before: number, after: number}} ChangesInWords
  */
 
 /** Pictures of copper and of holes in one window, and their nets. */
@@ -24,8 +29,10 @@ export class Desk {
     const { width, height } = window, stride = (width + 7) >> 3;
     this.pictures = layers.map(() => ({ width, height, stride, bits: new Uint8Array(stride * height) }));
     this.runs = this.pictures.map(runsOf);
+    /** @type {import("./points.js").NetPoint[]} */
     this.points = [];
-    this.nets = null;
+    this.nets = this.found();
+    this.isSettled = false;
   }
 
   get copperCount() {
@@ -39,11 +46,11 @@ export class Desk {
    * @param {number} last the last one
    */
   changed(layer, first, last) {
-    const { stride, bits, width, height } = this.pictures[layer], bands = [], from = Math.floor(first / BAND);
+    const { stride, bits, width, height } = elementAt(this.pictures, layer), bands = [], from = Math.floor(first / BAND);
     for (let number = from; number <= Math.floor(last / BAND); number++) {
       bands.push(bandOf(bits, stride, width, number * BAND, Math.min(BAND, height - number * BAND)));
     }
-    this.runs[layer] = this.runs[layer].withBands(from, bands);
+    this.runs[layer] = elementAt(this.runs, layer).withBands(from, bands);
   }
 
   /**
@@ -51,10 +58,17 @@ export class Desk {
    * @returns {import("./changes.js").Changes | null} what is other than before; null at first
    */
   settle() {
-    const before = this.nets, count = this.copperCount;
-    this.nets = netsOf(this.runs.slice(0, count), this.layers.slice(count).map(({ passes: [from, to] }, at) => ({
-      runs: this.runs[count + at], from, to })));
+    const before = this.isSettled ? this.nets : null;
+    this.nets = this.found();
+    this.isSettled = true;
     return before && changesOf(before, this.nets);
+  }
+
+  // The nets as the pictures are now.
+  found() {
+    const count = this.copperCount;
+    return netsOf(this.runs.slice(0, count), this.layers.slice(count).flatMap(({ passes }, at) => (
+      passes ? [{ runs: elementAt(this.runs, count + at), from: passes[0], to: passes[1] }] : [])));
   }
 
   /**
@@ -65,7 +79,12 @@ export class Desk {
     this.points = points;
   }
 
-  /** The net at a place, on the first of some layers that is copper there; -1 where none is. */
+  /**
+   * The net at a place, on the first of some layers that is copper there; -1 where none is.
+   * @param {number} x
+   * @param {number} y
+   * @param {number[]} [layers]
+   */
   netAt(x, y, layers = this.layers.map((_, at) => at)) {
     const column = this.grid.columnOf(x), row = this.grid.rowOf(y);
     for (const layer of layers) {
@@ -82,20 +101,27 @@ export class Desk {
    *   each layer as [row, start, end, row, ..]; areas in mm² of each copper layer
    */
   about(net) {
-    const runs = this.layers.map(() => []), { areas, holes } = this.nets.tallies(), size = (this.grid.pitch / 1e6) ** 2;
-    this.nets.visit((found) => found === net, (layer, row, start, end) => runs[layer].push(row, start, end));
+    const runs = this.layers.map(() => /** @type {number[]} */ ([])), { areas, holes } = this.nets.tallies();
+    const size = (this.grid.pitch / 1e6) ** 2;
+    this.nets.visit((found) => found === net, (layer, row, start, end) => elementAt(runs, layer).push(row, start, end));
     const names = this.namesOn([net]).get(net) ?? [];
-    return { net, runs: runs.map((ofLayer) => Int32Array.from(ofLayer)), areas: areas.map((ofLayer) => ofLayer[net] * size),
-      holes: holes[net], names, pins: this.pinsOn(net) };
+    return { net, runs: runs.map((ofLayer) => Int32Array.from(ofLayer)), areas: areas.map((ofLayer) => /** @type {number} */ (ofLayer[net]) * size),
+      holes: /** @type {number} */ (holes[net]), names, pins: this.pinsOn(net) };
   }
 
+  /** @param {number} net */
   pinsOn(net) {
     const pins = this.points.filter(({ isPin, x, y, layers }) => isPin && this.netAt(x, y, layers) === net).map(({ name }) => name);
     return [...new Set(pins)];
   }
 
-  /** The nets nearer to one than a gap in nm, nearest first. */
+  /**
+   * The nets nearer to one than a gap in nm, nearest first.
+   * @param {number} net
+   * @param {number} gap
+   */
   nextTo(net, gap) {
+    /** @type {Map<number, import("./clearances.js").Near>} */
     const nearest = new Map();
     for (const near of nearPlaces(this.nets, gap / this.grid.pitch)) {
       if (!near.nets.includes(net)) continue;
@@ -107,19 +133,25 @@ export class Desk {
       names: names.get(other) ?? [], place: this.placeOf(layer, from) }));
   }
 
+  /**
+   * @param {number} layer
+   * @param {[column: number, row: number]} pixel
+   * @returns {import("./compare.js").Place}
+   */
   placeOf(layer, [column, row]) {
     return { layer, ...this.grid.placeOf(column, row) };
   }
 
   /**
    * Finds the nets anew, and what changed, with the places in nm and the names of nets, as far as points tell them.
-   * @returns {object | null} null at first
+   * @returns {ChangesInWords | null} null at first
    */
   settleInWords() {
     const { nets: old } = this, changes = this.settle();
     if (!changes) return null;
-    const told = (list, nets) => {
+    const told = (/** @type {import("./changes.js").Change[]} */ list, /** @type {import("./nets.js").Nets} */ nets) => {
       const wanted = new Set(list.flatMap(({ nets: numbers }) => numbers));
+      /** @type {Map<number, string[]>} */
       const names = wanted.size && this.points.length ? namesOf(nets, this.grid, this.points, wanted) : new Map();
       return list.map(({ nets: numbers, place }) => ({ nets: numbers,
         names: [...new Set(numbers.flatMap((net) => names.get(net) ?? []))],
@@ -129,7 +161,11 @@ export class Desk {
       vanished: told(changes.vanished, old), before: changes.before, after: changes.after };
   }
 
-  // The names of the points on nets.
+  /**
+   * The names of the points on nets.
+   * @param {Iterable<number>} nets
+   * @returns {Map<number, string[]>}
+   */
   namesOn(nets) {
     return this.points.length ? namesOf(this.nets, this.grid, this.points, new Set(nets)) : new Map();
   }

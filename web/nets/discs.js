@@ -18,7 +18,7 @@ export function flatRows({ bands, height, size }) {
   for (const band of bands) {
     starts.set(band.starts, at);
     ends.set(band.ends, at);
-    for (let inner = 1; inner <= band.rows; inner++) offsets[++row] = at + band.offsets[inner];
+    for (let inner = 1; inner <= band.rows; inner++) offsets[++row] = at + /** @type {number} */ (band.offsets[inner]);
     at += band.starts.length;
   }
   return { offsets, starts, ends };
@@ -33,12 +33,12 @@ export function flatRows({ bands, height, size }) {
 export function runsOfFlat({ offsets, starts, ends }, width) {
   const bands = [], height = offsets.length - 1;
   for (let first = 0; first < height; first += BAND) {
-    const rows = Math.min(BAND, height - first), from = offsets[first], to = offsets[first + rows];
-    const own = Int32Array.from({ length: rows + 1 }, (_, row) => offsets[first + row] - from);
+    const rows = Math.min(BAND, height - first), from = /** @type {number} */ (offsets[first]), to = /** @type {number} */ (offsets[first + rows]);
+    const own = Int32Array.from({ length: rows + 1 }, (_, row) => /** @type {number} */ (offsets[first + row]) - from);
     const clipped = new Uint16Array(to - from), until = new Uint16Array(to - from);
     for (let at = from; at < to; at++) {
-      clipped[at - from] = Math.max(0, starts[at]);
-      until[at - from] = Math.min(width, ends[at]);
+      clipped[at - from] = Math.max(0, /** @type {number} */ (starts[at]));
+      until[at - from] = Math.min(width, /** @type {number} */ (ends[at]));
     }
     bands.push(new Band(rows, own, clipped, until));
   }
@@ -111,17 +111,18 @@ class Scratch {
    * @param {number} by
    */
   keep({ offsets, starts, ends }, row, by) {
-    const first = offsets[row], last = offsets[row + 1];
+    const first = /** @type {number} */ (offsets[row]), last = /** @type {number} */ (offsets[row + 1]);
     this.room(this.size + 2 * (last - first) + 2);
     const { now, next, size } = this;
     let made = 0;
     for (let at = 0, other = first; at < size && other < last;) {
-      const start = Math.max(now[at], starts[other] + by), end = Math.min(now[at + 1], ends[other] - by);
+      const ownEnd = /** @type {number} */ (now[at + 1]), otherEnd = /** @type {number} */ (ends[other]) - by;
+      const start = Math.max(/** @type {number} */ (now[at]), /** @type {number} */ (starts[other]) + by), end = Math.min(ownEnd, otherEnd);
       if (start < end) {
         next[made++] = start;
         next[made++] = end;
       }
-      if (now[at + 1] < ends[other] - by) at += 2;
+      if (ownEnd < otherEnd) at += 2;
       else other++;
     }
     this.turn(made);
@@ -134,17 +135,18 @@ class Scratch {
    * @param {number} by
    */
   add({ offsets, starts, ends }, row, by) {
-    const first = offsets[row], last = offsets[row + 1];
+    const first = /** @type {number} */ (offsets[row]), last = /** @type {number} */ (offsets[row + 1]);
     if (first === last) return;
     this.room(this.size + 2 * (last - first) + 2);
     const { now, next, size } = this;
     let made = 0;
     for (let at = 0, other = first; at < size || other < last;) {
-      const isOther = at >= size || (other < last && starts[other] - by < now[at]);
-      const start = isOther ? starts[other] - by : now[at], end = isOther ? ends[other++] + by : now[at + 1];
+      const isOther = at >= size || (other < last && /** @type {number} */ (starts[other]) - by < /** @type {number} */ (now[at]));
+      const start = isOther ? /** @type {number} */ (starts[other]) - by : /** @type {number} */ (now[at]);
+      const end = isOther ? /** @type {number} */ (ends[other++]) + by : /** @type {number} */ (now[at + 1]);
       if (!isOther) at += 2;
-      if (made && start <= next[made - 1]) {
-        if (end > next[made - 1]) next[made - 1] = end;
+      if (made && start <= /** @type {number} */ (next[made - 1])) {
+        if (end > /** @type {number} */ (next[made - 1])) next[made - 1] = end;
       } else {
         next[made++] = start;
         next[made++] = end;
@@ -169,10 +171,11 @@ function reaches(radius) {
 function sameCounts({ offsets, starts, ends }) {
   const height = offsets.length - 1, counts = new Int32Array(height + 1);
   for (let row = 0; row < height; row++) {
-    const first = offsets[row], size = offsets[row + 1] - first, before = row ? offsets[row - 1] : 0;
+    const first = /** @type {number} */ (offsets[row]), size = /** @type {number} */ (offsets[row + 1]) - first;
+    const before = row ? /** @type {number} */ (offsets[row - 1]) : 0;
     let isSame = row > 0 && size === first - before;
     for (let at = 0; at < size && isSame; at++) isSame = starts[first + at] === starts[before + at] && ends[first + at] === ends[before + at];
-    counts[row + 1] = counts[row] + (isSame ? 1 : 0);
+    counts[row + 1] = /** @type {number} */ (counts[row]) + (isSame ? 1 : 0);
   }
   return counts;
 }
@@ -187,12 +190,13 @@ function sameCounts({ offsets, starts, ends }) {
 function madeOfNear(rows, away, make) {
   const height = rows.offsets.length - 1, made = new RowsMade(height, rows.starts.length), scratch = new Scratch(), same = sameCounts(rows);
   for (let row = 0; row < height; row++) {
-    const isSame = row > away && row + away < height && same[row + away + 1] - same[row - away] === 2 * away + 1;
+    const isSame = row > away && row + away < height
+      && /** @type {number} */ (same[row + away + 1]) - /** @type {number} */ (same[row - away]) === 2 * away + 1;
     if (!isSame) {
       scratch.size = 0;
       make(scratch, row);
     }
-    for (let at = 0; at < scratch.size; at += 2) made.add(scratch.now[at], scratch.now[at + 1]);
+    for (let at = 0; at < scratch.size; at += 2) made.add(/** @type {number} */ (scratch.now[at]), /** @type {number} */ (scratch.now[at + 1]));
     made.endRow();
   }
   return made.made();
@@ -208,11 +212,11 @@ export function shrunk(rows, radius) {
   const reach = reaches(radius), height = rows.offsets.length - 1, last = reach.length - 1;
   return madeOfNear(rows, last, (scratch, row) => {
     if (row < last || row + last >= height) return;
-    scratch.add(rows, row, -reach[0]);
+    scratch.add(rows, row, -/** @type {number} */ (reach[0]));
     dropEmpty(scratch);
     for (let away = 1; away <= last && scratch.size; away++) {
-      scratch.keep(rows, row - away, reach[away]);
-      if (scratch.size) scratch.keep(rows, row + away, reach[away]);
+      scratch.keep(rows, row - away, /** @type {number} */ (reach[away]));
+      if (scratch.size) scratch.keep(rows, row + away, /** @type {number} */ (reach[away]));
     }
   });
 }
@@ -225,9 +229,9 @@ function dropEmpty(scratch) {
   const { now, size } = scratch;
   let kept = 0;
   for (let at = 0; at < size; at += 2) {
-    if (now[at] >= now[at + 1]) continue;
-    now[kept++] = now[at];
-    now[kept++] = now[at + 1];
+    if (/** @type {number} */ (now[at]) >= /** @type {number} */ (now[at + 1])) continue;
+    now[kept++] = /** @type {number} */ (now[at]);
+    now[kept++] = /** @type {number} */ (now[at + 1]);
   }
   scratch.size = kept;
 }
@@ -241,10 +245,10 @@ function dropEmpty(scratch) {
 export function grown(rows, radius) {
   const reach = reaches(radius), height = rows.offsets.length - 1;
   return madeOfNear(rows, reach.length - 1, (scratch, row) => {
-    scratch.add(rows, row, reach[0]);
+    scratch.add(rows, row, /** @type {number} */ (reach[0]));
     for (let away = 1; away < reach.length; away++) {
-      if (row >= away) scratch.add(rows, row - away, reach[away]);
-      if (row + away < height) scratch.add(rows, row + away, reach[away]);
+      if (row >= away) scratch.add(rows, row - away, /** @type {number} */ (reach[away]));
+      if (row + away < height) scratch.add(rows, row + away, /** @type {number} */ (reach[away]));
     }
   });
 }
@@ -258,15 +262,15 @@ export function grown(rows, radius) {
 export function difference(one, other) {
   const height = one.offsets.length - 1, made = new RowsMade(height, one.starts.length);
   for (let row = 0; row < height; row++) {
-    let to = other.offsets[row];
-    const last = other.offsets[row + 1];
-    for (let at = one.offsets[row]; at < one.offsets[row + 1]; at++) {
-      let start = one.starts[at];
-      const end = one.ends[at];
-      while (to < last && other.ends[to] <= start) to++;
-      for (let next = to; next < last && other.starts[next] < end; next++) {
-        if (other.starts[next] > start) made.add(start, other.starts[next]);
-        start = Math.max(start, other.ends[next]);
+    let to = /** @type {number} */ (other.offsets[row]);
+    const last = /** @type {number} */ (other.offsets[row + 1]);
+    for (let at = /** @type {number} */ (one.offsets[row]); at < /** @type {number} */ (one.offsets[row + 1]); at++) {
+      let start = /** @type {number} */ (one.starts[at]);
+      const end = /** @type {number} */ (one.ends[at]);
+      while (to < last && /** @type {number} */ (other.ends[to]) <= start) to++;
+      for (let next = to; next < last && /** @type {number} */ (other.starts[next]) < end; next++) {
+        if (/** @type {number} */ (other.starts[next]) > start) made.add(start, /** @type {number} */ (other.starts[next]));
+        start = Math.max(start, /** @type {number} */ (other.ends[next]));
       }
       if (start < end) made.add(start, end);
     }
@@ -284,10 +288,12 @@ export function difference(one, other) {
 export function common(one, other) {
   const height = one.offsets.length - 1, made = new RowsMade(height, Math.min(one.starts.length, other.starts.length));
   for (let row = 0; row < height; row++) {
-    for (let at = one.offsets[row], to = other.offsets[row]; at < one.offsets[row + 1] && to < other.offsets[row + 1];) {
-      const start = Math.max(one.starts[at], other.starts[to]), end = Math.min(one.ends[at], other.ends[to]);
+    const last = /** @type {number} */ (one.offsets[row + 1]), otherLast = /** @type {number} */ (other.offsets[row + 1]);
+    for (let at = /** @type {number} */ (one.offsets[row]), to = /** @type {number} */ (other.offsets[row]); at < last && to < otherLast;) {
+      const ownEnd = /** @type {number} */ (one.ends[at]), otherEnd = /** @type {number} */ (other.ends[to]);
+      const start = Math.max(/** @type {number} */ (one.starts[at]), /** @type {number} */ (other.starts[to])), end = Math.min(ownEnd, otherEnd);
       if (start < end) made.add(start, end);
-      if (one.ends[at] < other.ends[to]) at++;
+      if (ownEnd < otherEnd) at++;
       else to++;
     }
     made.endRow();
@@ -307,7 +313,7 @@ export function union(one, other) {
     scratch.size = 0;
     scratch.add(one, row, 0);
     scratch.add(other, row, 0);
-    for (let at = 0; at < scratch.size; at += 2) made.add(scratch.now[at], scratch.now[at + 1]);
+    for (let at = 0; at < scratch.size; at += 2) made.add(/** @type {number} */ (scratch.now[at]), /** @type {number} */ (scratch.now[at + 1]));
     made.endRow();
   }
   return made.made();

@@ -1,6 +1,7 @@
 // All findings of a board as one list: what differs from its nets, and where rules are broken, by kind, the worst first. Each has
 // its words, its measure, and what it is kept by if somebody accepts it.
 
+import { elementAt } from "./lists.js";
 import { RULES } from "./rule_table.js";
 import { Report } from "./report.js";
 import { mm, placeWords } from "./words.js";
@@ -61,7 +62,7 @@ export class Keeping {
    * @returns {import("./accepted.js").Kept}
    */
   at(kind, nets, { layer, x, y }) {
-    return { kind, nets, layer: layer === null ? "holes" : this.labels[layer], x: x / 1e6, y: y / 1e6 };
+    return { kind, nets, layer: layer === null ? "holes" : elementAt(this.labels, layer), x: x / 1e6, y: y / 1e6 };
   }
 
   /**
@@ -69,19 +70,17 @@ export class Keeping {
    * @param {import("./compare.js").Open} open
    */
   open({ net, parts }) {
-    const [point] = parts[parts.length - 1].points;
-    return this.at("open", [net], { ...point, layer: point.layers[0] });
+    return this.at("open", [net], spotOf(leastOf(parts)));
   }
 
   /** @param {import("./compare.js").Short} short */
   short({ nets, touching }) {
-    const [point] = nets[nets.length - 1].points;
-    return this.at("short", nets.map(({ net }) => net), touching[0]?.place ?? { ...point, layer: point.layers[0] });
+    return this.at("short", nets.map(({ net }) => net), touching[0]?.place ?? spotOf(leastOf(nets)));
   }
 
   /** @param {import("./compare.js").Bare} bare */
   bare({ point }) {
-    return this.at("no copper", [point.net ?? "N/C", point.name], { ...point, layer: point.layers[0] });
+    return this.at("no copper", [point.net ?? "N/C", point.name], spotOf(point));
   }
 
   /** @param {import("./rules.js").Breach} breach */
@@ -126,7 +125,7 @@ export function findingsOf({ opens, shorts, bare, names, breaches }, { labels, c
     ...[...shorts].sort((one, other) => widthOf(one) - widthOf(other)).map((short) => ({ kind: "short", kept: keeping.short(short), ...shortAt(short),
       lines: report.short(short), short: short.nets.map(({ net }) => net).join(" and "), shown: [] })),
     ...opens.map((open) => ({ kind: "open", kept: keeping.open(open), ...openAt(open), lines: report.open(open), short: open.net, shown: [] })),
-    ...bare.map((found) => ({ kind: "no copper", kept: keeping.bare(found), value: null, measure: null, place: { ...spotOf(found.point), layer: found.point.layers[0] },
+    ...bare.map((found) => ({ kind: "no copper", kept: keeping.bare(found), value: null, measure: null, place: spotOf(found.point),
       lines: report.bare(found), short: `${found.point.name} of ${found.point.net ?? "no net"}`, shown: [] })),
   ];
   return [...ofNets, ...breaches.map((breach) => {
@@ -137,7 +136,19 @@ export function findingsOf({ opens, shorts, bare, names, breaches }, { labels, c
 }
 
 /** @param {{x: number, y: number}} place */
-const spotOf = ({ x, y }) => ({ x, y });
+const placeOf = ({ x, y }) => ({ x, y });
+
+/**
+ * Where a point is told: on the first of its layers; one without a layer is not compared.
+ * @param {import("./points.js").NetPoint} point
+ */
+const spotOf = ({ x, y, layers }) => ({ layer: elementAt(layers, 0), x, y });
+
+/**
+ * The first point of the last of some parts or nets.
+ * @param {{points: import("./points.js").NetPoint[]}[]} list
+ */
+const leastOf = (list) => elementAt(elementAt(list, list.length - 1).points, 0);
 
 /** @param {import("./compare.js").Short} short */
 const widthOf = ({ touching }) => touching[0]?.width ?? Infinity;
@@ -147,8 +158,8 @@ const widthOf = ({ touching }) => touching[0]?.width ?? Infinity;
  * @returns {Pick<Finding, "value" | "measure" | "place">}
  */
 function shortAt({ nets, touching }) {
-  const [point] = nets[nets.length - 1].points, [first] = touching;
-  if (!first) return { value: null, measure: null, place: { ...spotOf(point), layer: point.layers[0] } };
+  const [first] = touching;
+  if (!first) return { value: null, measure: null, place: spotOf(leastOf(nets)) };
   const { place, width, measure } = first;
   return { value: width, measure, place: { layer: place.layer, ...middleOf(measure, place) } };
 }
@@ -158,11 +169,11 @@ function shortAt({ nets, touching }) {
  * @returns {Pick<Finding, "value" | "measure" | "place">}
  */
 function openAt({ parts, gaps }) {
-  const [point] = parts[parts.length - 1].points, [first] = gaps;
-  if (!first) return { value: null, measure: null, place: { ...spotOf(point), layer: point.layers[0] } };
+  const [first] = gaps;
+  if (!first) return { value: null, measure: null, place: spotOf(leastOf(parts)) };
   const isAcross = first.kind === "copper";
   /** @type {import("./measures.js").Measure | null} */
-  const measure = isAcross ? [spotOf(first.from), spotOf(first.to)] : null;
+  const measure = isAcross ? [placeOf(first.from), placeOf(first.to)] : null;
   return { value: isAcross ? first.distance : null, measure, place: { layer: first.from.layer, ...middleOf(measure, first.from) } };
 }
 

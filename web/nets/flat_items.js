@@ -37,8 +37,9 @@ const stay = (pair) => pair;
  * @returns {(pair: Pair) => Pair}
  */
 function moveOf(words) {
-  const [, , left, low, turn] = words.split(" "), x = Number(left), y = Number(low), quarters = Number(turn.slice(1)) / 90;
+  const [, , left, low, turn = ""] = words.split(" "), x = Number(left), y = Number(low), quarters = Number(turn.slice(1)) / 90;
   return ([across, up]) => {
+    /** @type {Pair} */
     let found = [turn[0] === "m" ? -across : across, up];
     for (let at = 0; at < quarters; at++) found = [-found[1], found[0]];
     return [found[0] + x, found[1] + y];
@@ -83,7 +84,7 @@ class Flattening {
    * @param {Omit<FlatItem, "item" | "attributes">} at
    */
   repeat({ words, objects }, said, at) {
-    const [columns, rows, stepX, stepY] = words.split(" ").slice(1).map(Number);
+    const [columns = 0, rows = 0, stepX = 0, stepY = 0] = words.split(" ").slice(1).map(Number);
     for (let column = 0; column < columns; column++) {
       for (let row = 0; row < rows; row++) {
         const x = column * stepX, y = row * stepY;

@@ -1,6 +1,7 @@
 // Rules of holes and pads: holes without a pad, pads without a hole, doubled hits, and holes that overlap.
 
 import { Around } from "./around.js";
+import { elementAt } from "./lists.js";
 import { between, betweenRims, fromRim } from "./measures.js";
 import { nearHoles, segmentsOf } from "./strokes.js";
 
@@ -51,14 +52,16 @@ class Squares {
  * @param {Hole} hole
  * @param {number} x
  * @param {number} y
+ * @returns {{distance: number, x: number, y: number} | null} null where its line has no place
  */
 function nearestOf({ line }, x, y) {
-  let best = { distance: Infinity, x: line[0][0], y: line[0][1] };
+  /** @type {{distance: number, x: number, y: number} | null} */
+  let best = null;
   for (const [[x0, y0], [x1, y1]] of segmentsOf(line)) {
     const dx = x1 - x0, dy = y1 - y0, square = dx * dx + dy * dy;
     const part = square ? Math.min(1, Math.max(0, ((x - x0) * dx + (y - y0) * dy) / square)) : 0;
     const distance = Math.hypot(x - x0 - part * dx, y - y0 - part * dy);
-    if (distance < best.distance) best = { distance, x: x0 + part * dx, y: y0 + part * dy };
+    if (!best || distance < best.distance) best = { distance, x: x0 + part * dx, y: y0 + part * dy };
   }
   return best;
 }
@@ -81,7 +84,7 @@ export class HoleCheck {
    * @param {Hole} hole
    */
   spanOf({ layer }) {
-    return layer < this.spans.length ? this.spans[layer] : { from: 0, to: this.nets.copper.length - 1 };
+    return this.spans[layer] ?? { from: 0, to: this.nets.copper.length - 1 };
   }
 
   /**
@@ -107,11 +110,11 @@ export class HoleCheck {
    * @returns {Breach[]}
    */
   padOn(hole, layer, limit) {
-    const { grid } = this, near = this.nearestCopper(hole, layer, limit);
-    if (near && near.distance * grid.pitch <= limit) return [];
-    const found = this.nearestCopper(hole, layer, FARTHEST), [[x, y]] = hole.line, to = found && grid.placeOf(found.column, found.row);
+    const { grid } = this, near = this.nearestCopper(hole, layer, limit), [place] = hole.line;
+    if (!place || (near && near.distance * grid.pitch <= limit)) return [];
+    const found = this.nearestCopper(hole, layer, FARTHEST), to = found && grid.placeOf(found.column, found.row);
     const value = found ? Math.min(FARTHEST, found.distance * grid.pitch) : FARTHEST;
-    return [{ rule: "hole-pad", value, within: this.within, layer, from: { x, y }, to, measure: to && fromRim(hole.line, hole.radius, to, value),
+    return [{ rule: "hole-pad", value, within: this.within, layer, from: { x: place[0], y: place[1] }, to, measure: to && fromRim(hole.line, hole.radius, to, value),
       nets: [], sources: [hole.source] }];
   }
 
@@ -128,7 +131,7 @@ export class HoleCheck {
     for (const [[x0, y0], [x1, y1]] of segmentsOf(line)) {
       const stroke = { x0: column(x0), y0: row(y0), x1: column(x1), y1: row(y1), radius: radius / pitch };
       // A pixel more, so that copper at the limit is found.
-      const one = this.arounds[layer].nearestCopper(stroke, Math.min(most / pitch + 1, found ? found.distance : Infinity), () => true);
+      const one = elementAt(this.arounds, layer).nearestCopper(stroke, Math.min(most / pitch + 1, found ? found.distance : Infinity), () => true);
       if (one && (!found || one.distance < found.distance)) found = one;
     }
     return found;
@@ -137,17 +140,19 @@ export class HoleCheck {
   /** @param {number} limit in nm @returns {Breach[]} */
   padHole(limit) {
     const squares = new Squares(this.plated);
-    return this.points.filter(({ isDrilled, layers }) => isDrilled && layers.length).flatMap(({ x, y, layers, name, net }) => {
+    return this.points.filter(({ isDrilled }) => isDrilled).flatMap(({ x, y, layers, name, net }) => {
+      const [first] = layers;
+      if (first === undefined) return [];
       /** @type {{distance: number, x: number, y: number} | null} */
       let nearest = null;
       for (const hole of squares.near(x, y)) {
         const { from, to } = this.spanOf(hole), one = nearestOf(hole, x, y);
-        if (!layers.every((layer) => from <= layer && layer <= to) || one.distance > FARTHEST) continue;
+        if (!one || !layers.every((layer) => from <= layer && layer <= to) || one.distance > FARTHEST) continue;
         if (!nearest || one.distance < nearest.distance) nearest = one;
       }
       if (nearest && nearest.distance <= limit) return [];
       const told = net === null ? name : `${name} of ${net}`, from = { x, y }, to = nearest && { x: nearest.x, y: nearest.y };
-      return [{ rule: "pad-hole", value: nearest ? nearest.distance : FARTHEST, within: EXACT, layer: layers[0], from, to,
+      return [{ rule: "pad-hole", value: nearest ? nearest.distance : FARTHEST, within: EXACT, layer: first, from, to,
         measure: to && nearest && between(from, to, nearest.distance), nets: [], sources: [], shown: [told] }];
     });
   }
@@ -165,8 +170,8 @@ export class HoleCheck {
   /** @param {number} limit in nm @returns {Breach[]} */
   doubled(limit) {
     return this.nearPairs(limit).flatMap(({ holes: [one, other] }) => {
-      const value = apartOf(one, other);
-      return value >= limit ? [] : [this.pair("doubled", value, one, other, one.line[0], other.line[0])];
+      const value = apartOf(one, other), [from] = one.line, [to] = other.line;
+      return value >= limit || !from || !to ? [] : [this.pair("doubled", value, one, other, from, to)];
     });
   }
 
@@ -207,6 +212,9 @@ export class HoleCheck {
  */
 function apartOf({ line }, { line: own }) {
   if (line.length !== own.length) return Infinity;
-  const most = (/** @type {[number, number][]} */ places) => places.reduce((found, [x, y], at) => Math.max(found, Math.hypot(x - line[at][0], y - line[at][1])), 0);
+  const most = (/** @type {[number, number][]} */ places) => places.reduce((found, [x, y], at) => {
+    const [ownX, ownY] = elementAt(line, at);
+    return Math.max(found, Math.hypot(x - ownX, y - ownY));
+  }, 0);
   return Math.min(most(own), most([...own].reverse()));
 }

@@ -35,6 +35,7 @@ export function isNetlist(bytes) {
     && lines.some((line) => /^P +UNITS +/.test(line) || /^3(?:07|17|27|67).{35}A\d\dX/.test(line));
 }
 
+/** @param {Uint8Array} bytes */
 function textOf(bytes) {
   let end = bytes.length;
   // Some programs end a file as CP/M did.
@@ -44,7 +45,11 @@ function textOf(bytes) {
 
 const LF = 10, CR = 13;
 
-// Each line, one after another: a list of a million would cost more than what is read of them.
+/**
+ * Each line, one after another: a list of a million would cost more than what is read of them.
+ * @param {string} text
+ * @param {(line: string, number: number) => void} take
+ */
 function eachLine(text, take) {
   let from = 0, number = 0;
   for (let at = 0; at <= text.length; at++) {
@@ -58,18 +63,23 @@ function eachLine(text, take) {
 
 class Reader {
   constructor() {
+    /** @type {typeof INCHES | null} */
     this.unit = null;
+    /** @type {Map<string, string>} */
     this.aliases = new Map();
+    /** @type {Netlist["points"]} */
     this.points = [];
+    /** @type {Netlist["leftOut"]} */
     this.leftOut = new Map();
     this.isEnded = false;
-    // The record of the point that was read last.
+    /** @type {string | null} that of the point that was read last */
     this.record = null;
   }
 
+  /** @param {string} line @param {number} number */
   take(line, number) {
     const foreign = /[^\x20-\x7e\t\x80-\xff]/.exec(line);
-    if (foreign) throw new Unread(`the character ${foreign[0].charCodeAt(0)} is no text`);
+    if (foreign) throw new Unread(`the character ${line.charCodeAt(foreign.index)} is no text`);
     const text = line.trimEnd();
     if (text === "") return;
     if (this.isEnded) throw new Unread("a line stands after 999, the end");
@@ -79,12 +89,14 @@ class Reader {
     else if (!text.startsWith("C")) throw new Unread("the line begins with none of P, C, a record's number and 999");
   }
 
+  /** @param {string} text */
   takeParameter(text) {
-    const [, key, value] = /^(\S+) *(.*)$/.exec(text) ?? [null, "", ""];
+    const [, key = "", value = ""] = /^(\S+) *(.*)$/.exec(text) ?? [];
     if (key === "UNITS") this.takeUnit(value);
     else if (/^NNAME/.test(key)) this.takeAlias(key, value);
   }
 
+  /** @param {string} value */
   takeUnit(value) {
     const unit = UNITS.get(value.replace(/ +/g, " "));
     if (!unit) throw new Unread(`UNITS ${value.slice(0, 20).trim()} is none of ${[...UNITS.keys()].join(", ")}`);
@@ -93,12 +105,14 @@ class Reader {
     this.unit = unit;
   }
 
+  /** @param {string} key @param {string} name */
   takeAlias(key, name) {
     if (name === "") throw new Unread(`${key} has no name`);
     if ((this.aliases.get(key) ?? name) !== name) throw new Unread(`${key} stands twice, with two names`);
     this.aliases.set(key, name);
   }
 
+  /** @param {string} text @param {number} number */
   takeRecord(text, number) {
     const code = text.slice(0, 3);
     if (LEFT_OUT.includes(code)) {
@@ -114,6 +128,7 @@ class Reader {
     this.record = record;
   }
 
+  /** @param {string} code */
   leaveOut(code) {
     this.leftOut.set(code, (this.leftOut.get(code) ?? 0) + 1);
   }
@@ -125,7 +140,9 @@ class Reader {
  * @returns {{netlist: Netlist | null, refusals: import("../convert/index.js").Refusal[]}} null where a line is refused
  */
 export function readNetlist(bytes) {
-  const reader = new Reader(), refusals = [];
+  const reader = new Reader();
+  /** @type {import("../convert/index.js").Refusal[]} */
+  const refusals = [];
   let last = 1;
   eachLine(textOf(bytes), (line, number) => {
     if (line.trim() !== "") last = number;

@@ -49,14 +49,17 @@ function fail(why) {
   throw new Unread(why);
 }
 
+/** @param {string} digits */
 function whole(digits) {
   return Number(digits.trim());
 }
 
+/** @param {string} sign @param {string} digits */
 function signed(sign, digits) {
   return sign === "-" ? 0 - whole(digits) : whole(digits);
 }
 
+/** @param {string} field @param {Map<string, string>} aliases */
 function nameOf(field, aliases) {
   const name = field.trim();
   if (name === "" || NO_NET.test(name)) return null;
@@ -64,6 +67,7 @@ function nameOf(field, aliases) {
   return aliases.get(name) ?? fail(`${name} is an alias that no line P NNAME.. defines before`);
 }
 
+/** @param {string} record */
 function pinOf(record) {
   const dash = record[26], pin = record.slice(27, 31).trim();
   if (dash !== "-" && dash !== " ") fail(`column 27 has ${dash} in place of - or a blank`);
@@ -72,19 +76,26 @@ function pinOf(record) {
   return pin;
 }
 
-// Columns 33 to 38: D, four digits, P or U; or blanks.
+/**
+ * Columns 33 to 38: D, four digits, P or U; or blanks.
+ * @param {string} record
+ * @param {Point["kind"]} kind
+ * @param {number} unit nm for each count
+ * @returns {Pick<Point, "hole" | "isPlated">}
+ */
 function holeOf(record, kind, unit) {
   const field = record.slice(32, 38);
   if (field.trim() === "") {
     return kind === "surface" ? { hole: null, isPlated: false } : fail("the hole of columns 33 to 38 is missing");
   }
-  const found = /^D( *\d{1,4})([PU])$/.exec(field);
-  if (!found) fail(`columns 33 to 38 have ${field} in place of a hole, as D0394P`);
+  const [, digits, plating] = /^D( *\d{1,4})([PU])$/.exec(field) ?? [];
+  if (digits === undefined) fail(`columns 33 to 38 have ${field} in place of a hole, as D0394P`);
   if (kind === "surface") fail("a surface point has a hole in columns 33 to 38");
-  if (whole(found[1]) === 0) fail("the hole has no diameter");
-  return { hole: whole(found[1]) * unit, isPlated: found[2] === "P" };
+  if (whole(digits) === 0) fail("the hole has no diameter");
+  return { hole: whole(digits) * unit, isPlated: plating === "P" };
 }
 
+/** @param {string} record @param {Point["kind"]} kind */
 function accessOf(record, kind) {
   const field = record.slice(38, 41);
   if (field.trim() === "" && kind === "tooling") return 0;
@@ -94,7 +105,7 @@ function accessOf(record, kind) {
   return access;
 }
 
-/** @param {string | undefined} first @param {string} last @returns {[number, number] | null} */
+/** @param {string | undefined} first @param {string | undefined} last @returns {[number, number] | null} */
 function spanOf(first, last) {
   if (first === undefined) return null;
   /** @type {[number, number]} */
@@ -130,8 +141,10 @@ export function pointOf(line, number, unit, aliases) {
   const kind = KINDS.get(line.slice(0, 3)) ?? fail(`there is no record ${line.slice(0, 3)}`);
   if (line.length < 57) fail(`the line has ${line.length} characters, and the place ends in column 57`);
   if (line.slice(17, 20).trim() !== "") fail(`columns 18 to 20 are not blank; a name has at most 14 characters`);
-  const place = PLACE.exec(line.slice(41, 57));
-  if (!place) fail(`columns 42 to 57 have ${line.slice(41, 57)} in place of X and Y with a sign and six digits each`);
+  const [, signX, digitsX, signY, digitsY] = PLACE.exec(line.slice(41, 57)) ?? [];
+  if (signX === undefined || digitsX === undefined || signY === undefined || digitsY === undefined) {
+    fail(`columns 42 to 57 have ${line.slice(41, 57)} in place of X and Y with a sign and six digits each`);
+  }
   const tail = line.slice(57).replace(/ {2,}/g, " "), rest = tail.length > MOST_REST ? null : REST.exec(tail);
   if (!rest) fail(`${tail.trim().slice(0, MOST_REST)} is not a size, a rotation, a solder mask and layers, as X0787Y0787R270S0`);
   const [, width, height, turn, , first, last] = rest;
@@ -139,7 +152,7 @@ export function pointOf(line, number, unit, aliases) {
   return {
     line: number, kind, net: nameOf(line.slice(3, 17), aliases), part: line.slice(20, 26).trim(), pin: pinOf(line),
     isMid: line[31] === "M", ...holeOf(line, kind, unit), access: accessOf(line, kind), span: spanOf(first, last),
-    x: signed(place[1], place[2]) * unit, y: signed(place[3], place[4]) * unit,
+    x: signed(signX, digitsX) * unit, y: signed(signY, digitsY) * unit,
     width: whole(width ?? "0") * unit, height: whole(height ?? "0") * unit,
   };
 }

@@ -1,6 +1,7 @@
 // Where an item of a layer lies, by its words: places that are copper where it is dark.
 
 import { itemOf } from "../board/index.js";
+import { elementAt } from "./lists.js";
 import { linesOfItem } from "./outline.js";
 
 /** @typedef {import("./flat_items.js").Pair} Pair */
@@ -14,7 +15,7 @@ function crossings(corners, y) {
   /** @type {number[]} */
   const found = [];
   for (let at = 0; at < corners.length; at++) {
-    const [ax, ay] = corners[at], [bx, by] = corners[(at + 1) % corners.length];
+    const [ax, ay] = elementAt(corners, at), [bx, by] = elementAt(corners, (at + 1) % corners.length);
     if ((ay <= y) !== (by <= y)) found.push(ax + (bx - ax) * (y - ay) / (by - ay));
   }
   return found.sort((one, other) => one - other);
@@ -39,7 +40,10 @@ function insideOf(corners, lines) {
   const found = [];
   for (let line = 1; line < lines; line++) {
     const y = low + (high - low) * line / lines + 0.5, across = crossings(corners, y);
-    for (let at = 0; at + 1 < across.length; at += 2) found.push({ width: across[at + 1] - across[at], left: across[at], y });
+    for (let at = 0; at + 1 < across.length; at += 2) {
+      const left = elementAt(across, at);
+      found.push({ width: elementAt(across, at + 1) - left, left, y });
+    }
   }
   found.sort((one, other) => other.width - one.width);
   return PARTS.flatMap((part) => found.map(({ width, left, y }) => /** @type {Pair} */ ([left + width * part, y])));
@@ -57,7 +61,7 @@ const FEW = 8, MANY = 64;
 function along(line, parts) {
   return Array.from({ length: parts + 1 }, (_, at) => {
     const way = at / parts * (line.length - 1), first = Math.min(Math.floor(way), line.length - 2), part = way - first;
-    const [x0, y0] = line[first], [x1, y1] = line[first + 1];
+    const [x0, y0] = elementAt(line, first), [x1, y1] = elementAt(line, first + 1);
     return [x0 + (x1 - x0) * part, y0 + (y1 - y0) * part];
   });
 }
@@ -70,12 +74,13 @@ function along(line, parts) {
  * @returns {Pair[]}
  */
 export function placesOf({ words, offsets }, isDense = false) {
-  const item = itemOf(words), parts = isDense ? MANY : FEW;
-  if (!item) return [];
-  const { kind, points } = item;
-  if (kind === "flash") return offsets.map(([x, y]) => [points[0][0] + x, points[0][1] + y]);
-  if (kind === "region") return insideOf([points[0], ...linesOfItem(words).flatMap((line) => line.slice(1))], parts);
-  return kind === "draw" || kind === "arc" ? along(linesOfItem(words)[0], isDense ? MANY : 4) : [];
+  const item = itemOf(words), parts = isDense ? MANY : FEW, [start] = item?.points ?? [];
+  if (!item || !start) return [];
+  const { kind } = item;
+  if (kind === "flash") return offsets.map(([x, y]) => [start[0] + x, start[1] + y]);
+  const lines = linesOfItem(words), [line] = lines;
+  if (kind === "region") return insideOf([start, ...lines.flatMap((own) => own.slice(1))], parts);
+  return line ? along(line, isDense ? MANY : 4) : [];
 }
 
 /**
@@ -85,12 +90,12 @@ export function placesOf({ words, offsets }, isDense = false) {
  * @returns {Pair[]} one, or none
  */
 export function centresOf(words) {
-  const item = itemOf(words);
-  if (!item) return [];
+  const item = itemOf(words), [start] = item?.points ?? [];
+  if (!item || !start) return [];
   const { kind, points } = item;
-  if (kind === "flash" || kind === "hit") return [points[0]];
+  if (kind === "flash" || kind === "hit") return [start];
   if (kind === "rout" && points.length === 2) return [middle(points)];
-  return kind === "region" ? [middle([points[0], ...item.segments.map((/** @type {{to: Pair}} */ { to }) => to)])] : [];
+  return kind === "region" ? [middle([start, ...item.segments.map(({ to }) => to)])] : [];
 }
 
 /**

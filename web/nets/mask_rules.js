@@ -2,6 +2,7 @@
 // on mask.
 
 import { common, difference, flatRows, runsOfFlat } from "./discs.js";
+import { elementAt } from "./lists.js";
 import { inverse, webSteps } from "./mask_webs.js";
 import { between, towards } from "./measures.js";
 import { netsOf } from "./nets.js";
@@ -41,7 +42,8 @@ export class MaskCheck {
   /**
    * @param {string} rule
    * @param {Side} side
-   * @param {{value: number, from: [number, number], to: [number, number] | null, nets?: number[], measure?: import("./measures.js").Measure}} found in pixels
+   * @param {{value: number, from: [number, number], to: [number, number] | null, nets?: number[],
+   *   measure?: import("./measures.js").Measure | undefined}} found in pixels
    * @param {string[]} shown of which layers, without the side's name
    * @returns {import("./rules.js").Breach}
    */
@@ -94,8 +96,8 @@ export class MaskCheck {
       }
     }
     for (const [opening, areas] of this.bareAreas(side, openings, (piece) => owners[piece] === undefined)) {
-      const [[net]] = [...areas].sort(([, one], [, other]) => other - one);
-      owners[opening] = new Set([net]);
+      const [most] = [...areas].sort(([, one], [, other]) => other - one);
+      if (most) owners[opening] = new Set([most[0]]);
     }
     return owners;
   }
@@ -112,10 +114,12 @@ export class MaskCheck {
     /** @type {Map<number, Map<number, number>>} */
     const areas = new Map();
     openings.visit(isWanted, (_, row, start, end, opening) => {
-      const number = row >> 6, band = copper.runs.bands[number], last = band.offsets[(row & 63) + 1];
-      for (let at = band.firstEndingAfter(row & 63, start); at < last && band.starts[at] < end; at++) {
+      const number = row >> 6, band = elementAt(copper.runs.bands, number), last = /** @type {number} */ (band.offsets[(row & 63) + 1]);
+      for (let at = band.firstEndingAfter(row & 63, start); at < last; at++) {
+        const ownStart = /** @type {number} */ (band.starts[at]), ownEnd = /** @type {number} */ (band.ends[at]);
+        if (ownStart >= end) break;
         const net = copper.ownerOf(number, at), own = areas.get(opening) ?? new Map();
-        areas.set(opening, own.set(net, (own.get(net) ?? 0) + Math.min(end, band.ends[at]) - Math.max(start, band.starts[at])));
+        areas.set(opening, own.set(net, (own.get(net) ?? 0) + Math.min(end, ownEnd) - Math.max(start, ownStart)));
       }
     });
     return areas;
@@ -142,7 +146,7 @@ export class MaskCheck {
    * @param {Side & {openings: import("./runs.js").Runs}} side
    */
   bareCopper({ layer, openings }) {
-    const { nets } = this, copper = nets.copper[layer];
+    const { nets } = this, copper = elementAt(nets.copper, layer);
     const drilled = nets.holes.filter(({ from, to }) => from <= layer && layer <= to).map(({ runs }) => flatRows(runs));
     return runsOfFlat(drilled.reduce(difference, common(flatRows(openings), flatRows(copper))), copper.width);
   }
@@ -178,6 +182,6 @@ function fromCopper({ value, from, to }) {
  */
 function shifted(runs, around) {
   const { offsets, starts, ends } = flatRows(runs), height = runs.height + 2 * around, moved = new Int32Array(height + 1);
-  for (let row = 0; row <= height; row++) moved[row] = offsets[Math.min(runs.height, Math.max(0, row - around))];
+  for (let row = 0; row <= height; row++) moved[row] = /** @type {number} */ (offsets[Math.min(runs.height, Math.max(0, row - around))]);
   return runsOfFlat({ offsets: moved, starts: starts.map((start) => start + around), ends: ends.map((end) => end + around) }, runs.width + 2 * around);
 }

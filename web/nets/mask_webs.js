@@ -2,6 +2,7 @@
 
 import { RowsMade, flatRows, runsOfFlat } from "./discs.js";
 import { nearSteps } from "./clearances.js";
+import { elementAt } from "./lists.js";
 import { across, throughDisc } from "./measures.js";
 import { netsOf } from "./nets.js";
 import { thinSteps } from "./necks.js";
@@ -10,7 +11,7 @@ import { atOnce } from "./steps.js";
 
 /**
  * A narrow place: `from` and, between two openings, `to` are pixels; within one `measure` leads from edge to edge; in pixels.
- * @typedef {{width: number, from: [number, number], to: [number, number] | null, measure?: import("./measures.js").Measure}} Web
+ * @typedef {{width: number, from: [number, number], to: [number, number] | null, measure?: import("./measures.js").Measure | undefined}} Web
  *
  * An opening as the runs of its rows, [row, start, end, row, start, end ..].
  * @typedef {{left: number, right: number, top: number, bottom: number, runs: number[]}} Opening
@@ -31,9 +32,9 @@ export function inverse(runs, around) {
   for (let row = -around; row < runs.height + around; row++) {
     let last = 0;
     if (row >= 0 && row < runs.height) {
-      for (let at = offsets[row]; at < offsets[row + 1]; at++) {
-        if (starts[at] + around > last) made.add(last, starts[at] + around);
-        last = ends[at] + around;
+      for (let at = /** @type {number} */ (offsets[row]); at < /** @type {number} */ (offsets[row + 1]); at++) {
+        if (/** @type {number} */ (starts[at]) + around > last) made.add(last, /** @type {number} */ (starts[at]) + around);
+        last = /** @type {number} */ (ends[at]) + around;
       }
     }
     if (last < width) made.add(last, width);
@@ -68,17 +69,18 @@ function openingsOf(nets) {
 function isConvexSide(columns, side) {
   /** @type {number[]} the rows of the hull's corners */
   const hull = [];
-  const at = (/** @type {number} */ row) => columns[row] * side;
+  const at = (/** @type {number} */ row) => /** @type {number} */ (columns[row]) * side;
   for (let row = 0; row < columns.length; row++) {
     while (hull.length > 1) {
-      const last = hull[hull.length - 1], before = hull[hull.length - 2];
+      const last = /** @type {number} */ (hull[hull.length - 1]), before = /** @type {number} */ (hull[hull.length - 2]);
       if ((at(last) - at(before)) * (row - last) < (at(row) - at(last)) * (last - before)) break;
       hull.pop();
     }
     hull.push(row);
   }
   for (let corner = 1; corner < hull.length; corner++) {
-    const first = hull[corner - 1], last = hull[corner], slope = (at(last) - at(first)) / (last - first);
+    const first = /** @type {number} */ (hull[corner - 1]), last = /** @type {number} */ (hull[corner]);
+    const slope = (at(last) - at(first)) / (last - first);
     for (let row = first + 1; row < last; row++) if (at(row) - at(first) - slope * (row - first) > STRAIGHT) return false;
   }
   return true;
@@ -90,11 +92,7 @@ function isConvexSide(columns, side) {
  */
 function isConvex({ top, bottom, runs }) {
   if (runs.length / 3 !== bottom - top + 1) return false;
-  const starts = [], ends = [];
-  for (let at = 0; at < runs.length; at += 3) {
-    starts.push(runs[at + 1]);
-    ends.push(runs[at + 2]);
-  }
+  const starts = runs.filter((_, at) => at % 3 === 1), ends = runs.filter((_, at) => at % 3 === 2);
   return isConvexSide(starts, 1) && isConvexSide(ends, -1);
 }
 
@@ -105,7 +103,7 @@ function isConvex({ top, bottom, runs }) {
 function pictureOf({ left, right, top, bottom, runs }) {
   const made = new RowsMade(bottom - top + 1, runs.length / 3);
   for (let at = 0, row = top; row <= bottom; row++) {
-    for (; runs[at] === row; at += 3) made.add(runs[at + 1] - left, runs[at + 2] - left);
+    for (; runs[at] === row; at += 3) made.add(/** @type {number} */ (runs[at + 1]) - left, /** @type {number} */ (runs[at + 2]) - left);
     made.endRow();
   }
   return runsOfFlat(made.made(), right - left);
@@ -118,7 +116,7 @@ function pictureOf({ left, right, top, bottom, runs }) {
  * @returns {Map<number, Web>} by their pieces
  */
 function islandsOf(mask, width) {
-  const most = width / 2 + 2, deepest = new Deepest(mask.copper[0], most), outside = mask.netAt(0, 0, 0);
+  const most = width / 2 + 2, deepest = new Deepest(elementAt(mask.copper, 0), most), outside = mask.netAt(0, 0, 0);
   /** @type {Map<number, Web>} */
   const found = new Map();
   mask.visit((net) => net !== outside, (_, row, start, end, net) => {

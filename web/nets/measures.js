@@ -80,10 +80,12 @@ export function towards(from, to, length) {
  * @param {number} radius
  * @param {Spot} to
  * @param {number} length
- * @returns {Measure}
+ * @returns {Measure | null} null where the line has no place
  */
 export function fromRim(line, radius, to, length) {
-  const near = nearestOn(line, to), way = wayOf(near, to);
+  const near = nearestOn(line, to);
+  if (!near) return null;
+  const way = wayOf(near, to);
   return [along(near, way, radius), along(near, way, radius + length)];
 }
 
@@ -104,16 +106,16 @@ export function betweenRims(from, to, radius, length) {
  * The place of a line that is nearest to a place.
  * @param {[number, number][]} line
  * @param {Spot} place
- * @returns {Spot}
+ * @returns {Spot | null} null where the line has none
  */
 function nearestOn(line, { x, y }) {
-  /** @type {Spot & {distance: number}} */
-  let best = { x: line[0][0], y: line[0][1], distance: Infinity };
+  /** @type {Spot & {distance: number} | null} */
+  let best = null;
   for (const [[x0, y0], [x1, y1]] of segmentsOf(line)) {
     const dx = x1 - x0, dy = y1 - y0, square = dx * dx + dy * dy;
     const part = square ? Math.min(1, Math.max(0, ((x - x0) * dx + (y - y0) * dy) / square)) : 0;
     const near = { x: x0 + part * dx, y: y0 + part * dy }, distance = Math.hypot(x - near.x, y - near.y);
-    if (distance < best.distance) best = { ...near, distance };
+    if (!best || distance < best.distance) best = { ...near, distance };
   }
-  return { x: best.x, y: best.y };
+  return best && { x: best.x, y: best.y };
 }

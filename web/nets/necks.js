@@ -2,6 +2,7 @@
 
 import { BAND } from "./runs.js";
 import { common, difference, flatRows, grown, runsOfFlat, shrunk } from "./discs.js";
+import { elementAt } from "./lists.js";
 import { netsOf } from "./nets.js";
 import { atOnce } from "./steps.js";
 import { Widths } from "./widths.js";
@@ -23,6 +24,7 @@ const SOME_PLACES = 500;
 
 /** A part that no disc covers: its box, and pixels of it in whose middle it is measured, [column, row, column, row ..]. */
 class Part {
+  /** @param {number} left @param {number} top */
   constructor(left, top) {
     this.left = this.right = left;
     this.top = this.bottom = top;
@@ -32,6 +34,7 @@ class Part {
     this.contacts = new Set();
   }
 
+  /** @param {number} row @param {number} start @param {number} end */
   take(row, start, end) {
     this.left = Math.min(this.left, start);
     this.right = Math.max(this.right, end);
@@ -51,6 +54,8 @@ class Thin {
     this.rows = flatRows(runs);
     this.radius = radius;
     this.step = Math.ceil(radius / 2);
+    // (nothing, until it is split)
+    this.parts = this.contacts = netsOf([]);
   }
 
   /**
@@ -87,13 +92,15 @@ class Thin {
   /** @returns {Steps<Part[]>} */
   * partsFound() {
     /** @type {Part[]} */
-    const found = [], { netOf, bases: [bases], copper: [{ bands }] } = this.parts;
-    for (const [number, band] of bands.entries()) {
+    const found = [], { netOf, bases, copper } = this.parts, base = elementAt(bases, 0);
+    for (const [number, band] of elementAt(copper, 0).bands.entries()) {
       yield;
+      const first = /** @type {number} */ (base[number]);
       for (let inner = 0; inner < band.rows; inner++) {
-        const row = number * BAND + inner;
-        for (let at = band.offsets[inner]; at < band.offsets[inner + 1]; at++) {
-          const start = band.starts[at], end = band.ends[at], part = found[netOf[bases[number] + band.labels[at]]] ??= new Part(start, row);
+        const row = number * BAND + inner, last = /** @type {number} */ (band.offsets[inner + 1]);
+        for (let at = /** @type {number} */ (band.offsets[inner]); at < last; at++) {
+          const start = /** @type {number} */ (band.starts[at]), end = /** @type {number} */ (band.ends[at]);
+          const net = /** @type {number} */ (netOf[first + /** @type {number} */ (band.labels[at])]), part = found[net] ??= new Part(start, row);
           part.take(row, start, end);
           this.addPixels(part, row, start, end);
           for (const away of [-1, 0, 1]) this.addContacts(part.contacts, row + away, start - 1, end + 1);
@@ -103,42 +110,63 @@ class Thin {
     return found;
   }
 
+  /** @param {Set<number>} contacts @param {number} row @param {number} start @param {number} end */
   addContacts(contacts, row, start, end) {
     if (row < 0 || row >= this.runs.height) return;
-    const band = this.contacts.copper[0].bands[Math.floor(row / BAND)], inner = row % BAND;
-    for (let at = band.firstEndingAfter(inner, Math.max(0, start)); at < band.offsets[inner + 1] && band.starts[at] < end; at++) {
-      contacts.add(this.contacts.netAt(0, band.starts[at], row));
+    const band = elementAt(elementAt(this.contacts.copper, 0).bands, Math.floor(row / BAND)), inner = row % BAND;
+    const last = /** @type {number} */ (band.offsets[inner + 1]);
+    for (let at = band.firstEndingAfter(inner, Math.max(0, start)); at < last; at++) {
+      const column = /** @type {number} */ (band.starts[at]);
+      if (column >= end) break;
+      contacts.add(this.contacts.netAt(0, column, row));
     }
   }
 
-  // The copper is as wide at a pixel as at those next to it, but where a row of copper begins or ends next to it; of rows that
-  // are alike a few are enough.
+  /**
+   * The copper is as wide at a pixel as at those next to it, but where a row of copper begins or ends next to it; of rows that
+   * are alike a few are enough.
+   * @param {Part} part
+   * @param {number} row
+   * @param {number} start
+   * @param {number} end
+   */
   addPixels({ pixels }, row, start, end) {
-    const cuts = [], { offsets, starts, ends } = this.rows;
+    /** @type {number[]} */
+    const cuts = [];
+    const { offsets, starts, ends } = this.rows;
     for (const other of [row - 1, row + 1]) {
       if (other < 0 || other >= this.runs.height) continue;
-      for (let at = this.firstEndingAfter(other, start); at < offsets[other + 1] && starts[at] < end; at++) {
-        if (starts[at] > start) cuts.push(starts[at]);
-        if (ends[at] < end) cuts.push(ends[at]);
+      const last = /** @type {number} */ (offsets[other + 1]);
+      for (let at = this.firstEndingAfter(other, start); at < last; at++) {
+        const otherStart = /** @type {number} */ (starts[at]), otherEnd = /** @type {number} */ (ends[at]);
+        if (otherStart >= end) break;
+        if (otherStart > start) cuts.push(otherStart);
+        if (otherEnd < end) cuts.push(otherEnd);
       }
     }
     if (!cuts.length && row % this.step) return;
     pixels.push((start + end - 1) >> 1, row);
     cuts.sort((one, other) => one - other);
-    for (let at = 1; at < cuts.length; at++) if (cuts[at] > cuts[at - 1]) pixels.push((cuts[at - 1] + cuts[at] - 1) >> 1, row);
+    let before = Infinity;
+    for (const cut of cuts) {
+      if (cut > before) pixels.push((before + cut - 1) >> 1, row);
+      before = cut;
+    }
   }
 
+  /** @param {number} row @param {number} column */
   firstEndingAfter(row, column) {
     const { offsets, ends } = this.rows;
-    let low = offsets[row], high = offsets[row + 1];
+    let low = /** @type {number} */ (offsets[row]), high = /** @type {number} */ (offsets[row + 1]);
     while (low < high) {
       const middle = (low + high) >> 1;
-      if (ends[middle] > column) high = middle;
+      if (/** @type {number} */ (ends[middle]) > column) high = middle;
       else low = middle + 1;
     }
     return low;
   }
 
+  /** @param {Part} part */
   isNeck({ left, right, top, bottom, contacts }) {
     return contacts.size !== 1 || Math.max(right - left, bottom + 1 - top) > 3 * this.radius + 2;
   }
@@ -168,7 +196,7 @@ function* measured(widths, pixels, isLeast) {
   let least = Infinity;
   for (let at = 0; at < pixels.length; at += 2) {
     if (at % (2 * SOME_PLACES) === 0) yield;
-    const width = widths.at(pixels[at], pixels[at + 1], least + SAME);
+    const width = widths.at(/** @type {number} */ (pixels[at]), /** @type {number} */ (pixels[at + 1]), least + SAME);
     if (!width) continue;
     found.push(width);
     if (isLeast && width.width < least) {
@@ -198,7 +226,7 @@ export function thinPlaces(nets, width) {
  */
 export function* thinSteps(nets, width, layer) {
   // Where copper has this width, the white pixels' centres on both its sides are farther apart by two pixels at most.
-  const found = yield* new Thin(nets.copper[layer], width / 2 + 1).find();
+  const found = yield* new Thin(elementAt(nets.copper, layer), width / 2 + 1).find();
   return found.filter((place) => place.width < width)
     .map((place) => ({ layer, net: nets.netAt(layer, place.column, place.row), ...place }));
 }

@@ -2,6 +2,7 @@
 
 import { itemOf } from "../board/index.js";
 
+
 /** @typedef {[number, number]} Pair a place in nm */
 /** @typedef {Pair[]} Line from its first place to its last; an arc is cut into chords */
 
@@ -40,38 +41,56 @@ function chords([fromX, fromY], [toX, toY], [x, y], isClockwise) {
 export function linesOfItem(words) {
   const item = itemOf(words);
   if (!item) return [];
-  const { kind, points } = item;
-  if (kind === "draw") return [[points[0], points[1]]];
-  if (kind === "arc") return [chords(points[0], points[1], points[2], item.direction === "cw")];
-  if (kind !== "region") return [];
-  let from = points[0];
-  return item.segments.map((/** @type {{kind: string, to: Pair, centre: Pair | null}} */ segment) => {
-    const line = segment.centre ? chords(from, segment.to, segment.centre, segment.kind === "cw") : [from, segment.to];
-    from = segment.to;
-    return /** @type {Line} */ (line);
+  const [start, end, middle] = item.points;
+  if (!start) return [];
+  if (item.kind === "draw") return end ? [[start, end]] : [];
+  if (item.kind === "arc") return end && middle ? [chords(start, end, middle, item.direction === "cw")] : [];
+  if (item.kind !== "region") return [];
+  let from = start;
+  return item.segments.map(({ kind, to, centre }) => {
+    const line = centre ? chords(from, to, centre, kind === "cw") : [from, to];
+    from = to;
+    return line;
   });
 }
+
+/**
+ * Where lines end: the lines that do, and how many of their ends are there and not taken away.
+ * @typedef {{place: Pair, own: Joined[], degree: number}} End
+ *
+ * A line with its ends; it `isOpen` once it is taken away.
+ * @typedef {{line: Line, from: End, to: End, isOpen: boolean}} Joined
+ */
 
 /** Ends of lines, those that are near as one. */
 class Ends {
   constructor() {
-    /** @type {Map<string, number>} */
+    /** @type {Map<string, End>} */
     this.known = new Map();
-    /** @type {Pair[]} */
-    this.places = [];
   }
 
   /** @param {Pair} place */
-  numberOf([x, y]) {
+  endAt([x, y]) {
     const column = Math.floor(x / JOINED), row = Math.floor(y / JOINED);
     for (let across = -1; across <= 1; across++) {
       for (let up = -1; up <= 1; up++) {
         const found = this.known.get(`${column + across} ${row + up}`);
-        if (found !== undefined) return found;
+        if (found) return found;
       }
     }
-    this.known.set(`${column} ${row}`, this.places.length);
-    return this.places.push([x, y]) - 1;
+    /** @type {End} */
+    const end = { place: [x, y], own: [], degree: 0 };
+    this.known.set(`${column} ${row}`, end);
+    return end;
+  }
+
+  /** @param {Line} line @returns {Joined[]} none of a line without a place */
+  joined(line) {
+    const first = line[0], last = line.at(-1);
+    if (!first || !last) return [];
+    const from = this.endAt(first), to = this.endAt(last), joined = { line, from, to, isOpen: false };
+    for (const end of [from, to]) end.degree = end.own.push(joined);
+    return [joined];
   }
 }
 
@@ -81,23 +100,14 @@ class Ends {
  * @returns {{closed: Line[], open: number}} `open` counts the others
  */
 export function closedLines(lines) {
-  const ends = new Ends(), pairs = lines.map((line) => [ends.numberOf(line[0]), ends.numberOf(line[line.length - 1])]);
-  /** @type {number[][]} */
-  const at = ends.places.map(() => []);
-  pairs.forEach(([from, to], line) => {
-    at[from].push(line);
-    at[to].push(line);
-  });
-  const degrees = at.map(({ length }) => length), isOpen = new Uint8Array(lines.length);
-  const waiting = degrees.flatMap((degree, end) => (degree === 1 ? [end] : []));
-  while (waiting.length) {
-    const end = /** @type {number} */ (waiting.pop());
-    for (const line of at[end].filter((own) => !isOpen[own])) {
-      isOpen[line] = 1;
-      for (const other of pairs[line]) if (--degrees[other] === 1) waiting.push(other);
+  const ends = new Ends(), joined = lines.flatMap((line) => ends.joined(line));
+  const waiting = [...ends.known.values()].filter(({ degree }) => degree === 1);
+  for (let end = waiting.pop(); end; end = waiting.pop()) {
+    for (const line of end.own.filter(({ isOpen }) => !isOpen)) {
+      line.isOpen = true;
+      for (const other of [line.from, line.to]) if (--other.degree === 1) waiting.push(other);
     }
   }
-  const closed = lines.flatMap((line, number) => (isOpen[number] ? [] : [[ends.places[pairs[number][0]], ...line.slice(1, -1),
-    ends.places[pairs[number][1]]]]));
+  const closed = joined.flatMap(({ line, from, to, isOpen }) => (isOpen ? [] : [[from.place, ...line.slice(1, -1), to.place]]));
   return { closed, open: lines.length - closed.length };
 }

@@ -1,6 +1,7 @@
 // The pixels of an outline's lines.
 
 import { RowsMade } from "./discs.js";
+import { elementAt } from "./lists.js";
 
 /**
  * The pixels that lines pass, one next to another by an edge or a corner, so that no way by edges leads across.
@@ -19,7 +20,7 @@ export function pixelsOfLines(lines, grid) {
   };
   for (const line of lines) {
     for (let at = 1; at < line.length; at++) {
-      const [x0, y0] = line[at - 1], [x1, y1] = line[at], left = grid.columnOf(x0), top = grid.rowOf(y0);
+      const [x0, y0] = elementAt(line, at - 1), [x1, y1] = elementAt(line, at), left = grid.columnOf(x0), top = grid.rowOf(y0);
       const across = grid.columnOf(x1) - left, down = grid.rowOf(y1) - top, steps = Math.max(Math.abs(across), Math.abs(down), 1);
       for (let step = 0; step <= steps; step++) mark(left + Math.round(across * step / steps), top + Math.round(down * step / steps));
     }
@@ -28,7 +29,7 @@ export function pixelsOfLines(lines, grid) {
   for (let row = 0; row < grid.height; row++) {
     const columns = [...rows.get(row) ?? []].sort((one, other) => one - other);
     for (let at = 0; at < columns.length;) {
-      const start = columns[at];
+      const start = /** @type {number} */ (columns[at]);
       let end = start;
       while (at < columns.length && columns[at] === end) {
         end++;

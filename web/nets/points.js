@@ -1,6 +1,7 @@
 // The points of a netlist on the pictures of a board.
 
 import { aligned } from "./alignment.js";
+import { elementAt } from "./lists.js";
 
 /**
  * A point that belongs to a net.
@@ -60,6 +61,7 @@ export function layerReader({ points }, { last }) {
   };
 }
 
+/** @param {number} first @param {number} last */
 function between(first, last) {
   return Array.from({ length: last - first + 1 }, (_, at) => first + at);
 }
@@ -75,7 +77,7 @@ export function pointsOfNetlist(netlist, copper, alignment) {
   const points = netlist.points.filter(({ kind }) => kind !== "tooling"), layersOf = layerReader(netlist, copper);
   return points.flatMap((point) => {
     const { line, kind, net, part, pin } = point, { x, y } = aligned(alignment, point);
-    const [hole, width, height] = [point.hole ?? 0, point.width, point.height].map((length) => length * alignment.scale);
+    const { scale } = alignment, hole = (point.hole ?? 0) * scale, width = point.width * scale, height = point.height * scale;
     const layers = layersOf(point).map((number) => copper.numbers.indexOf(number)).filter((at) => at >= 0);
     const found = { net, name: pin === "" ? part : `${part}-${pin}`, isPin: part !== "VIA", source: `line ${line}`, x, y, layers,
       isThrough: kind !== "surface" && point.isPlated, isDrilled: kind !== "surface" && point.isPlated, isBareAllowed: net === null && kind !== "surface" && !point.isPlated,
@@ -86,11 +88,20 @@ export function pointsOfNetlist(netlist, copper, alignment) {
   });
 }
 
-// The nearest black pixel in squares around a place, up to a radius in pixels; a place on a hole's rim may be white.
+/**
+ * The nearest black pixel in squares around a place, up to a radius in pixels; a place on a hole's rim may be white.
+ * @param {import("./runs.js").Runs} runs
+ * @param {number} column
+ * @param {number} row
+ * @param {number} radius
+ * @returns {[column: number, row: number] | null}
+ */
 function nearBlack(runs, column, row, radius) {
   for (let away = 0; away <= radius; away++) {
     for (let across = -away; across <= away; across++) {
-      for (const [dx, dy] of [[across, -away], [across, away], [-away, across], [away, across]]) {
+      /** @type {[number, number][]} */
+      const steps = [[across, -away], [across, away], [-away, across], [away, across]];
+      for (const [dx, dy] of steps) {
         if (Math.hypot(dx, dy) <= radius && runs.isBlack(column + dx, row + dy)) return [column + dx, row + dy];
       }
     }
@@ -118,7 +129,7 @@ export function placed(nets, grid, point) {
   if (on.length || point.reach < grid.pitch) return { point, on };
   const radius = Math.floor(point.reach / grid.pitch);
   const near = point.layers.flatMap((layer) => {
-    const found = nearBlack(nets.copper[layer], column, row, radius);
+    const found = nearBlack(elementAt(nets.copper, layer), column, row, radius);
     return found ? [{ layer, column: found[0], row: found[1], net: nets.netAt(layer, ...found) }] : [];
   });
   return { point, on: near };

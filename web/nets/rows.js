@@ -14,14 +14,15 @@ import { BAND, Band, Runs } from "./runs.js";
  * @returns {Row}
  */
 export function without(one, other) {
+  /** @type {Row} */
   const row = [];
   for (let at = 0, to = 0; at < one.length; at += 2) {
-    let start = one[at];
-    const end = one[at + 1];
-    while (to < other.length && other[to + 1] <= start) to += 2;
-    for (let next = to; next < other.length && other[next] < end; next += 2) {
-      if (other[next] > start) row.push(start, other[next]);
-      start = Math.max(start, other[next + 1]);
+    let start = /** @type {number} */ (one[at]);
+    const end = /** @type {number} */ (one[at + 1]);
+    while (to < other.length && /** @type {number} */ (other[to + 1]) <= start) to += 2;
+    for (let next = to; next < other.length && /** @type {number} */ (other[next]) < end; next += 2) {
+      if (/** @type {number} */ (other[next]) > start) row.push(start, /** @type {number} */ (other[next]));
+      start = Math.max(start, /** @type {number} */ (other[next + 1]));
     }
     if (start < end) row.push(start, end);
   }
@@ -35,8 +36,11 @@ export function without(one, other) {
  */
 export function rowsOf(bands) {
   return bands.flatMap(({ rows, offsets, starts, ends }) => Array.from({ length: rows }, (_, row) => {
+    /** @type {Row} */
     const found = [];
-    for (let at = offsets[row]; at < offsets[row + 1]; at++) found.push(starts[at], ends[at]);
+    for (let at = /** @type {number} */ (offsets[row]), end = /** @type {number} */ (offsets[row + 1]); at < end; at++) {
+      found.push(/** @type {number} */ (starts[at]), /** @type {number} */ (ends[at]));
+    }
     return found;
   }));
 }
@@ -52,12 +56,12 @@ export function runsOfRows(rows, width) {
   for (let first = 0; first < rows.length; first += BAND) {
     const own = rows.slice(first, first + BAND), offsets = new Int32Array(own.length + 1);
     own.forEach((row, at) => {
-      offsets[at + 1] = offsets[at] + row.length / 2;
+      offsets[at + 1] = /** @type {number} */ (offsets[at]) + row.length / 2;
     });
     const flat = own.flat(), size = flat.length / 2, starts = new Uint16Array(size), ends = new Uint16Array(size);
     for (let at = 0; at < size; at++) {
-      starts[at] = Math.max(0, flat[2 * at]);
-      ends[at] = Math.min(width, flat[2 * at + 1]);
+      starts[at] = Math.max(0, /** @type {number} */ (flat[2 * at]));
+      ends[at] = Math.min(width, /** @type {number} */ (flat[2 * at + 1]));
     }
     bands.push(new Band(own.length, offsets, starts, ends));
   }

@@ -58,7 +58,7 @@ export function readRules(text) {
   /** @type {{line: number, what: string}[]} */
   const refusals = [];
   text.split(/\r\n|\r|\n/).forEach((line, at) => {
-    const words = line.split("#")[0].trim();
+    const [code = ""] = line.split("#"), words = code.trim();
     if (words === "") return;
     const fault = takeRule(limits, words);
     if (fault !== null) refusals.push({ line: at + 1, what: fault });
@@ -73,7 +73,7 @@ export function readRules(text) {
  * @returns {string | null} why it is refused
  */
 export function takeRule(limits, words) {
-  const [name, text, ...more] = words.split(/[ \t=]+/), length = lengthOf(text ?? "", "mm");
+  const [name = "", text = "", ...more] = words.split(/[ \t=]+/), length = lengthOf(text, "mm");
   const rule = RULES.get(name);
   if (!rule) return `${name.slice(0, 40)} is none of ${[...RULES.keys()].join(", ")}`;
   const { from = 1, to = LONGEST } = rule, within = rule.to ? `, from ${mm(from)} to ${mm(to)} mm` : "";

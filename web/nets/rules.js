@@ -4,6 +4,7 @@ import { Around } from "./around.js";
 import { nearSteps } from "./clearances.js";
 import { thinSteps } from "./necks.js";
 import { HoleCheck } from "./hole_rules.js";
+import { elementAt } from "./lists.js";
 import { between, betweenRims, fromRim, throughDisc } from "./measures.js";
 import { MaskCheck } from "./mask_rules.js";
 import { RULES } from "./rule_table.js";
@@ -82,7 +83,7 @@ class Check {
    * @param {import("./strokes.js").Hole} hole
    */
   layersOf({ layer, isPlated }) {
-    const { from, to } = isPlated && layer < this.spans.length ? this.spans[layer] : { from: 0, to: this.nets.copper.length - 1 };
+    const { from, to } = (isPlated && this.spans[layer]) || { from: 0, to: this.nets.copper.length - 1 };
     return Array.from({ length: to - from + 1 }, (_, at) => from + at);
   }
 
@@ -104,7 +105,7 @@ class Check {
    * @returns {Breach[]}
    */
   ringOn(hole, net, layer, most) {
-    const around = this.arounds[layer], { pitch } = this.grid;
+    const around = elementAt(this.arounds, layer), { pitch } = this.grid;
     /** @type {Breach | null} */
     let worst = null;
     for (const segment of segmentsOf(hole.line)) {
@@ -152,12 +153,13 @@ class Check {
         /** @type {(import("./around.js").Found & {net: number}) | null} */
         let nearest = null;
         for (const segment of segmentsOf(hole.line)) {
-          const found = this.arounds[layer].nearestCopper(this.stroke(segment, hole.radius), most, (other) => other !== net);
+          const found = elementAt(this.arounds, layer).nearestCopper(this.stroke(segment, hole.radius), most, (other) => other !== net);
           if (found && (!nearest || found.distance < nearest.distance)) nearest = found;
         }
-        if (!nearest || nearest.distance >= most) return [];
-        const [[x, y]] = hole.line, to = this.place(nearest.column, nearest.row), value = Math.max(0, nearest.distance) * pitch;
-        return [{ rule: "hole-copper", value, within: this.within, layer, from: { x, y }, to,
+        const [place] = hole.line;
+        if (!place || !nearest || nearest.distance >= most) return [];
+        const to = this.place(nearest.column, nearest.row), value = Math.max(0, nearest.distance) * pitch;
+        return [{ rule: "hole-copper", value, within: this.within, layer, from: { x: place[0], y: place[1] }, to,
           measure: fromRim(hole.line, hole.radius, to, value), nets: [nearest.net], sources: [hole.source] }];
       });
     });
@@ -170,7 +172,7 @@ class Check {
       /** @type {(import("./around.js").Found & {net: number}) | null} */
       let nearest = null;
       for (const segment of segmentsOf(line)) {
-        const found = this.arounds[layer].nearestCopper(this.stroke(segment, 0), nearest ? Math.min(most, nearest.distance) : most, () => true);
+        const found = elementAt(this.arounds, layer).nearestCopper(this.stroke(segment, 0), nearest ? Math.min(most, nearest.distance) : most, () => true);
         if (found && (!nearest || found.distance < nearest.distance)) nearest = found;
       }
       if (!nearest || nearest.distance >= most) return [];
@@ -228,7 +230,7 @@ export class RuleCheck {
     const layers = checked.nets.copper.map((_, layer) => layer), count = Math.ceil(checked.holes.length / SOME_HOLES);
     const some = Array.from({ length: count }, (_, at) => checked.holes.slice(at * SOME_HOLES, (at + 1) * SOME_HOLES));
     /** @type {Record<string, ((limit: number) => import("./steps.js").Steps<Breach[]>)[]>} */
-    this.found = { ring: some.map((own) => inOneStep((limit) => check.ring(limit, own))),
+    const found = { ring: some.map((own) => inOneStep((limit) => check.ring(limit, own))),
       gap: layers.map((layer) => (limit) => check.gap(limit, layer)),
       "hole-copper": some.map((own) => inOneStep((limit) => check.holeToCopper(limit, own))),
       outline: layers.map((layer) => inOneStep((limit) => check.toOutline(limit, layer))),
@@ -237,6 +239,7 @@ export class RuleCheck {
       paste: [(limit) => mask.paste(limit)], "hole-pad": [inOneStep((limit) => holes.holePad(limit))],
       "pad-hole": [inOneStep((limit) => holes.padHole(limit))], doubled: [inOneStep((limit) => holes.doubled(limit))],
       overlap: [inOneStep((limit) => holes.overlap(limit))] };
+    this.found = new Map(Object.entries(found));
   }
 
   /**
@@ -246,7 +249,7 @@ export class RuleCheck {
    * @returns {Generator<Breach[]>}
    */
   * parts(rule, limit) {
-    for (const part of this.found[rule]) {
+    for (const part of this.found.get(rule) ?? []) {
       const steps = part(limit);
       let next = steps.next();
       for (; !next.done; next = steps.next()) yield [];

@@ -1,5 +1,7 @@
 // A picture as runs: in each row the stretches of black pixels, in bands of 64 rows, each with its own pieces.
 
+import { elementAt } from "./lists.js";
+
 /** How many rows a band has. A tile of the station has as many, so that an edit touches whole bands. */
 export const BAND = 64;
 
@@ -9,6 +11,12 @@ export const BAND = 64;
  * run's piece in this band alone, from 0 to before `count`; `areas` has the pieces' pixels.
  */
 export class Band {
+  /**
+   * @param {number} rows
+   * @param {Int32Array} offsets
+   * @param {Uint16Array} starts
+   * @param {Uint16Array} ends
+   */
   constructor(rows, offsets, starts, ends) {
     this.rows = rows;
     this.offsets = offsets;
@@ -27,17 +35,21 @@ export class Band {
    */
   runAt(row, column) {
     const { starts, ends } = this;
-    const end = this.offsets[row + 1], at = this.firstEndingAfter(row, column);
-    return at < end && starts[at] <= column && column < ends[at] ? at : -1;
+    const end = /** @type {number} */ (this.offsets[row + 1]), at = this.firstEndingAfter(row, column);
+    return at < end && /** @type {number} */ (starts[at]) <= column && column < /** @type {number} */ (ends[at]) ? at : -1;
   }
 
-  /** The first run of a row that ends after a column, else where the row's runs end. */
+  /**
+   * The first run of a row that ends after a column, else where the row's runs end.
+   * @param {number} row
+   * @param {number} column
+   */
   firstEndingAfter(row, column) {
     const { ends } = this;
-    let low = this.offsets[row], high = this.offsets[row + 1];
+    let low = /** @type {number} */ (this.offsets[row]), high = /** @type {number} */ (this.offsets[row + 1]);
     while (low < high) {
       const middle = (low + high) >> 1;
-      if (ends[middle] > column) high = middle;
+      if (/** @type {number} */ (ends[middle]) > column) high = middle;
       else low = middle + 1;
     }
     return low;
@@ -69,7 +81,7 @@ export class Runs {
    */
   isBlack(column, row) {
     if (column < 0 || row < 0 || column >= this.width || row >= this.height) return false;
-    return this.bands[row >> 6].runAt(row & 63, column) >= 0;
+    return elementAt(this.bands, row >> 6).runAt(row & 63, column) >= 0;
   }
 
   /**
@@ -87,6 +99,7 @@ export class Runs {
 // Where the runs of one band are put down at first.
 let room = { starts: new Uint16Array(0), ends: new Uint16Array(0) };
 
+/** @param {number} width */
 function roomFor(width) {
   const most = BAND * ((width >> 1) + 1);
   if (room.starts.length < most) room = { starts: new Uint16Array(most), ends: new Uint16Array(most) };
@@ -109,7 +122,7 @@ export function bandOf(bits, stride, width, first, rows) {
   for (let row = 0; row < rows; row++) {
     let last = 0;
     for (let at = (first + row) * stride, end = at + stride, column = 0; at < end; at++, column += 8) {
-      const byte = bits[at];
+      const byte = /** @type {number} */ (bits[at]);
       if (byte === (last ? 255 : 0)) continue;
       // A bit is set where a pixel differs from the one left of it.
       let changes = byte ^ ((byte >> 1) | (last << 7));
@@ -138,23 +151,26 @@ export function runsOf({ width, height, stride, bits }) {
   return new Runs(width, height, bands);
 }
 
-// Pieces of a band: each run has the piece of the first run above it that it touches by an edge, and joins those of the
-// others.
+/**
+ * Pieces of a band: each run has the piece of the first run above it that it touches by an edge, and joins those of the
+ * others.
+ * @param {Pick<Band, "rows" | "offsets" | "starts" | "ends">} band
+ */
 function labelled({ rows, offsets, starts, ends }) {
   const parents = new Int32Array(starts.length);
-  const find = (number) => {
+  const find = (/** @type {number} */ number) => {
     let at = number;
-    while (parents[at] !== at) at = parents[at] = parents[parents[at]];
+    while (parents[at] !== at) at = parents[at] = /** @type {number} */ (parents[(/** @type {number} */ (parents[at]))]);
     return at;
   };
   for (let row = 0; row < rows; row++) {
-    let above = row ? offsets[row - 1] : 0;
-    const lastAbove = row ? offsets[row] : 0;
-    for (let at = offsets[row], end = offsets[row + 1]; at < end; at++) {
+    let above = row ? /** @type {number} */ (offsets[row - 1]) : 0;
+    const lastAbove = row ? /** @type {number} */ (offsets[row]) : 0;
+    for (let at = /** @type {number} */ (offsets[row]), end = /** @type {number} */ (offsets[row + 1]); at < end; at++) {
       let root = at;
       parents[at] = at;
-      while (above < lastAbove && ends[above] <= starts[at]) above++;
-      for (let touched = above; touched < lastAbove && starts[touched] < ends[at]; touched++) {
+      while (above < lastAbove && /** @type {number} */ (ends[above]) <= /** @type {number} */ (starts[at])) above++;
+      for (let touched = above; touched < lastAbove && /** @type {number} */ (starts[touched]) < /** @type {number} */ (ends[at]); touched++) {
         const other = find(touched);
         if (other < root) root = parents[root] = other;
         else if (other > root) parents[other] = root;
@@ -164,13 +180,16 @@ function labelled({ rows, offsets, starts, ends }) {
   // A parent has a lower number, so that the pieces are numbered in one pass.
   let count = 0;
   for (let at = 0; at < parents.length; at++) {
-    parents[at] = parents[at] === at ? count++ : parents[parents[at]];
+    parents[at] = parents[at] === at ? count++ : /** @type {number} */ (parents[(/** @type {number} */ (parents[at]))]);
   }
   return { labels: parents, count };
 }
 
+/** @param {Pick<Band, "starts" | "ends" | "labels" | "count">} band */
 function areasOf({ starts, ends, labels, count }) {
   const areas = new Int32Array(count);
-  for (let at = 0; at < labels.length; at++) areas[labels[at]] += ends[at] - starts[at];
+  for (let at = 0; at < labels.length; at++) {
+    areas[/** @type {number} */ (labels[at])] += /** @type {number} */ (ends[at]) - /** @type {number} */ (starts[at]);
+  }
   return areas;
 }

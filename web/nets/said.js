@@ -55,8 +55,8 @@ function* nestedItems(station, name) {
 function offsetsOf(shape, width, height) {
   const across = 0.45 * width, up = 0.45 * height, corner = shape === "rectangle" ? 1 : 0.7;
   const isLong = shape === "obround" && width !== height, x = isLong && width < height ? 0.3 * width : corner * across;
-  return [[0, 0], [across, 0], [-across, 0], [0, up], [0, -up], ...[[1, 1], [-1, 1], [1, -1], [-1, -1]].map(([right, above]) => (
-    /** @type {Pair} */ ([right * x, above * (isLong && height < width ? 0.3 * height : corner * up)])))];
+  const y = isLong && height < width ? 0.3 * height : corner * up;
+  return [[0, 0], [across, 0], [-across, 0], [0, up], [0, -up], [x, y], [-x, y], [x, -y], [-x, -y]];
 }
 
 /**

@@ -38,14 +38,14 @@ export function shareOf(runs, { left, top, right, bottom }, side) {
       const row = number * BAND + inner;
       if (row < top || row >= bottom) continue;
       const first = Math.floor((row - top) / side) * across;
-      for (let at = band.offsets[inner]; at < band.offsets[inner + 1]; at++) {
-        const start = Math.max(left, band.starts[at]), end = Math.min(right, band.ends[at]);
+      for (let at = /** @type {number} */ (band.offsets[inner]); at < /** @type {number} */ (band.offsets[inner + 1]); at++) {
+        const start = Math.max(left, /** @type {number} */ (band.starts[at])), end = Math.min(right, /** @type {number} */ (band.ends[at]));
         if (start < end) addRun(sums, first, start - left, end - left, side);
       }
     }
   });
   const sizeOf = (/** @type {number} */ square, /** @type {number} */ length) => Math.min(length, Math.ceil((square + 1) * side)) - Math.ceil(square * side);
   const rows = Array.from({ length: down }, (_, row) => Array.from({ length: across }, (_column, column) => (
-    sums[row * across + column] / (sizeOf(column, right - left) * sizeOf(row, bottom - top)))));
+    /** @type {number} */ (sums[row * across + column]) / (sizeOf(column, right - left) * sizeOf(row, bottom - top)))));
   return { all: sums.reduce((sum, one) => sum + one, 0) / ((right - left) * (bottom - top)), rows };
 }

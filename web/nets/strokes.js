@@ -1,6 +1,7 @@
 // Holes as strokes: hits, slots and flashes by their items, in nm; and which of them are near to others.
 
 import { itemOf } from "../board/index.js";
+import { elementAt } from "./lists.js";
 
 /**
  * A hole: a stroke in nm along a line, and where it comes from.
@@ -33,8 +34,16 @@ export function holesOf(flat, { isPlated, layer, label }) {
  * @returns {[[number, number], [number, number]][]}
  */
 export function segmentsOf(line) {
-  if (line.length === 1) return [[line[0], line[0]]];
-  return line.slice(1).map((place, at) => /** @type {[[number, number], [number, number]]} */ ([line[at], place]));
+  let [from] = line;
+  if (!from) return [];
+  if (line.length === 1) return [[from, from]];
+  /** @type {[[number, number], [number, number]][]} */
+  const segments = [];
+  for (const to of line.slice(1)) {
+    segments.push([from, to]);
+    from = to;
+  }
+  return segments;
 }
 
 /**
@@ -54,7 +63,8 @@ function nearestOn([[x0, y0], [x1, y1]], [x, y]) {
  * @param {[[number, number], [number, number]]} other
  */
 function areCrossing([a, b], [c, d]) {
-  const side = (/** @type {number[]} */ p, /** @type {number[]} */ q, /** @type {number[]} */ r) => Math.sign((q[0] - p[0]) * (r[1] - p[1]) - (q[1] - p[1]) * (r[0] - p[0]));
+  /** @param {[number, number]} p @param {[number, number]} q @param {[number, number]} r */
+  const side = (p, q, r) => Math.sign((q[0] - p[0]) * (r[1] - p[1]) - (q[1] - p[1]) * (r[0] - p[0]));
   return side(a, b, c) * side(a, b, d) < 0 && side(c, d, a) * side(c, d, b) < 0;
 }
 
@@ -62,10 +72,11 @@ function areCrossing([a, b], [c, d]) {
  * The least distance of two lines, and a place of each there.
  * @param {[number, number][]} one
  * @param {[number, number][]} other
+ * @returns {{distance: number, from: [number, number], to: [number, number]} | null} null where one of them has no place
  */
 function between(one, other) {
-  /** @type {{distance: number, from: [number, number], to: [number, number]}} */
-  let best = { distance: Infinity, from: one[0], to: other[0] };
+  /** @type {{distance: number, from: [number, number], to: [number, number]} | null} */
+  let best = null;
   for (const first of segmentsOf(one)) {
     for (const second of segmentsOf(other)) {
       /** @type {[[number, number], [number, number]][]} */
@@ -73,7 +84,7 @@ function between(one, other) {
         [nearestOn(first, second[1]), second[1]]];
       for (const [from, to] of pairs) {
         const distance = areCrossing(first, second) ? 0 : Math.hypot(from[0] - to[0], from[1] - to[1]);
-        if (distance < best.distance) best = { distance, from, to };
+        if (!best || distance < best.distance) best = { distance, from, to };
       }
     }
   }
@@ -94,26 +105,29 @@ export function nearHoles(holes, most) {
   const found = [];
   /** @type {Set<string>} */
   const seen = new Set();
+  const cellOf = (/** @type {number} */ side) => Math.floor(side / cell);
   holes.forEach((hole, number) => {
     for (const [[x0, y0], [x1, y1]] of segmentsOf(hole.line)) {
-      const [left, right, low, high] = [Math.min(x0, x1), Math.max(x0, x1), Math.min(y0, y1), Math.max(y0, y1)].map((side) => Math.floor(side / cell));
-      for (let column = left - 1; column <= right + 1; column++) {
-        for (let row = low - 1; row <= high + 1; row++) {
+      const right = cellOf(Math.max(x0, x1)), high = cellOf(Math.max(y0, y1));
+      for (let column = cellOf(Math.min(x0, x1)) - 1; column <= right + 1; column++) {
+        for (let row = cellOf(Math.min(y0, y1)) - 1; row <= high + 1; row++) {
           for (const other of cells.get(`${column} ${row}`) ?? []) {
             const key = `${other} ${number}`;
             if (other === number || seen.has(key)) continue;
-            const near = between(holes[other].line, hole.line), distance = near.distance - hole.radius - holes[other].radius;
+            const first = elementAt(holes, other), near = between(first.line, hole.line);
+            if (!near) continue;
+            const distance = near.distance - hole.radius - first.radius;
             if (distance >= most) continue;
             seen.add(key);
-            found.push({ holes: [holes[other], hole], distance, from: near.from, to: near.to });
+            found.push({ holes: [first, hole], distance, from: near.from, to: near.to });
           }
         }
       }
     }
     for (const [[x0, y0], [x1, y1]] of segmentsOf(hole.line)) {
-      const [left, right, low, high] = [Math.min(x0, x1), Math.max(x0, x1), Math.min(y0, y1), Math.max(y0, y1)].map((side) => Math.floor(side / cell));
-      for (let column = left; column <= right; column++) {
-        for (let row = low; row <= high; row++) {
+      const right = cellOf(Math.max(x0, x1)), high = cellOf(Math.max(y0, y1));
+      for (let column = cellOf(Math.min(x0, x1)); column <= right; column++) {
+        for (let row = cellOf(Math.min(y0, y1)); row <= high; row++) {
           const key = `${column} ${row}`, known = cells.get(key);
           if (!known) cells.set(key, [number]);
           else if (!known.includes(number)) known.push(number);

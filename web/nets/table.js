@@ -1,5 +1,7 @@
 // The runs of some nets, row by row, to search among.
 
+import { elementAt } from "./lists.js";
+
 /**
  * Runs of nets: those of row r of layer l are from `offsets[l][r]` to before `offsets[l][r + 1]`, from left to right. Run `at`
  * covers the columns from `starts[at]` to before `ends[at]`, in the row `rows[at]` of the layer `layers[at]`, and belongs to
@@ -31,33 +33,44 @@ export class Table {
       this.layers[at] = layer;
       this.owners[at] = net;
       at++;
-      this.offsets[layer][row + 1] = at;
+      elementAt(this.offsets, layer)[row + 1] = at;
     }, 0, layers.length - 1);
     // Rows without a run, and the layers after one, begin where the one before ends.
     let last = 0;
     for (const offsets of this.offsets) {
       offsets[0] = last;
-      for (let row = 1; row < offsets.length; row++) last = offsets[row] = Math.max(offsets[row], last);
+      for (let row = 1; row < offsets.length; row++) last = offsets[row] = Math.max(/** @type {number} */ (offsets[row]), last);
     }
   }
 
-  /** The first run of a row that ends after a column, else where the row's runs end. */
+  /**
+   * The first run of a row that ends after a column, else where the row's runs end.
+   * @param {number} layer
+   * @param {number} row
+   * @param {number} column
+   */
   firstEndingAfter(layer, row, column) {
     const { ends } = this;
-    let low = this.offsets[layer][row], high = this.offsets[layer][row + 1];
+    const offsets = elementAt(this.offsets, layer);
+    let low = /** @type {number} */ (offsets[row]), high = /** @type {number} */ (offsets[row + 1]);
     while (low < high) {
       const middle = (low + high) >> 1;
-      if (ends[middle] > column) high = middle;
+      if (/** @type {number} */ (ends[middle]) > column) high = middle;
       else low = middle + 1;
     }
     return low;
   }
 
-  /** The run that covers a pixel; -1 where none does. */
+  /**
+   * The run that covers a pixel; -1 where none does.
+   * @param {number} layer
+   * @param {number} column
+   * @param {number} row
+   */
   runAt(layer, column, row) {
-    const offsets = this.offsets[layer];
+    const offsets = elementAt(this.offsets, layer);
     if (row < 0 || row >= offsets.length - 1 || column < 0) return -1;
     const at = this.firstEndingAfter(layer, row, column);
-    return at < offsets[row + 1] && this.starts[at] <= column ? at : -1;
+    return at < /** @type {number} */ (offsets[row + 1]) && /** @type {number} */ (this.starts[at]) <= column ? at : -1;
   }
 }

@@ -1,5 +1,6 @@
 // Sets of numbers that are joined: which belong together.
 
+
 /** Numbers from 0 to before `count`, each in a set of its own at first. */
 export class Union {
   /** @param {number} count */
@@ -16,8 +17,8 @@ export class Union {
     const { parents } = this;
     let at = number;
     while (parents[at] !== at) {
-      parents[at] = parents[parents[at]];
-      at = parents[at];
+      parents[at] = /** @type {number} */ (parents[(/** @type {number} */ (parents[at]))]);
+      at = /** @type {number} */ (parents[at]);
     }
     return at;
   }
@@ -43,7 +44,7 @@ export class Union {
     let next = 0;
     for (let at = 0; at < count; at++) {
       const root = this.find(at);
-      numbers[at] = root === at ? next++ : numbers[root];
+      numbers[at] = root === at ? next++ : /** @type {number} */ (numbers[root]);
     }
     return { numbers, count: next };
   }

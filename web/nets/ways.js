@@ -1,5 +1,6 @@
 // The shortest way over copper between points, and its narrowest place.
 
+import { elementAt } from "./lists.js";
 import { Table } from "./table.js";
 import { Widths, widthOf } from "./widths.js";
 
@@ -15,9 +16,6 @@ class Queue {
     this.values = [];
   }
 
-  get isEmpty() {
-    return this.keys.length === 0;
-  }
 
   /** @param {number} key @param {number} value */
   push(key, value) {
@@ -25,39 +23,62 @@ class Queue {
     let at = keys.length;
     keys.push(key);
     values.push(value);
-    while (at > 0 && keys[(at - 1) >> 1] > key) {
-      const up = (at - 1) >> 1;
-      keys[at] = keys[up];
-      values[at] = values[up];
+    while (at > 0) {
+      const up = (at - 1) >> 1, upper = /** @type {number} */ (keys[up]);
+      if (upper <= key) break;
+      keys[at] = upper;
+      values[at] = /** @type {number} */ (values[up]);
       at = up;
     }
     keys[at] = key;
     values[at] = value;
   }
 
+  /** Takes the number with the least key away; null where none is left. */
   pop() {
-    const { keys, values } = this, first = { key: keys[0], value: values[0] }, key = keys.pop(), value = values.pop();
-    const size = keys.length;
+    const { keys, values } = this, [leastKey] = keys, [least] = values, key = keys.pop(), value = values.pop(), size = keys.length;
+    if (leastKey === undefined || least === undefined || key === undefined || value === undefined) return null;
     let at = 0;
-    while (size && 2 * at + 1 < size) {
+    while (2 * at + 1 < size) {
       let down = 2 * at + 1;
-      if (down + 1 < size && keys[down + 1] < keys[down]) down++;
-      if (keys[down] >= key) break;
-      keys[at] = keys[down];
-      values[at] = values[down];
+      if (down + 1 < size && /** @type {number} */ (keys[down + 1]) < /** @type {number} */ (keys[down])) down++;
+      const lower = /** @type {number} */ (keys[down]);
+      if (lower >= key) break;
+      keys[at] = lower;
+      values[at] = /** @type {number} */ (values[down]);
       at = down;
     }
     if (size) {
       keys[at] = key;
       values[at] = value;
     }
-    return first;
+    return { key: leastKey, value: least };
   }
 }
 
 /**
  * A stretch of a run: columns from `low` to `high`, both included.
  * @typedef {{low: number, high: number}} Stretch
+ *
+ * A stretch with its run.
+ * @typedef {Stretch & {run: number}} StretchOfRun
+ *
+ * A pixel, and the copper layer on which it lies.
+ * @typedef {{layer: number, column: number, row: number}} Pixel
+ *
+ * A step of a way: where a run is entered, and where it is left.
+ * @typedef {{run: number, enter: number, leave: number}} Step
+ *
+ * What a search found of each run: what the way there costs, the run before it, and where the way enters. Of the runs that were
+ * looked for it has the nearest; null where there is no way, or where none was looked for.
+ * @typedef {{costs: Float64Array, before: Int32Array, lows: Int32Array, highs: Int32Array, goal: Goal | null}} Searched
+ * @typedef {{run: number, column: number, cost: number}} Goal
+ *
+ * A run next to another: what the step costs, and where the columns that both have begin and end.
+ * @typedef {(run: number, cost: number, low: number, high: number) => void} Beside
+ *
+ * The middle of the copper at a narrow place, its width in pixels, and the disc that is as wide, if it is one.
+ * @typedef {Pixel & {width: number, disc?: import("./widths.js").Disc}} Narrow
  */
 
 /**
@@ -79,23 +100,38 @@ export class Ways {
     }));
   }
 
-  /** The run of a pixel, and that column of it. */
+  /**
+   * The run of a pixel, and that column of it.
+   * @param {number} layer
+   * @param {number} column
+   * @param {number} row
+   * @returns {StretchOfRun}
+   */
   stretchAt(layer, column, row) {
     return { run: this.table.runAt(layer, column, row), low: column, high: column };
   }
 
-  // Visits the runs next to one: what a step to it costs, and where the columns that both have begin and end.
+  /**
+   * Visits the runs next to one.
+   * @param {number} run
+   * @param {Beside} visit
+   */
   beside(run, visit) {
-    const { table } = this, layer = table.layers[run], row = table.rows[run], offsets = table.offsets[layer];
+    const { table } = this, layer = /** @type {number} */ (table.layers[run]), row = /** @type {number} */ (table.rows[run]);
+    const offsets = elementAt(table.offsets, layer);
     if (row > 0) this.overlapping(run, layer, row - 1, 1, visit);
     if (row + 2 < offsets.length) this.overlapping(run, layer, row + 1, 1, visit);
-    for (const other of this.through[layer]) this.overlapping(run, other, row, 0, visit);
+    for (const other of elementAt(this.through, layer)) this.overlapping(run, other, row, 0, visit);
   }
 
+  /** @param {number} run @param {number} layer @param {number} row @param {number} cost @param {Beside} visit */
   overlapping(run, layer, row, cost, visit) {
-    const { starts, ends, offsets } = this.table, end = offsets[layer][row + 1];
-    for (let at = this.table.firstEndingAfter(layer, row, starts[run]); at < end && starts[at] < ends[run]; at++) {
-      visit(at, cost, Math.max(starts[at], starts[run]), Math.min(ends[at], ends[run]) - 1);
+    const { starts, ends, offsets } = this.table, end = /** @type {number} */ (elementAt(offsets, layer)[row + 1]);
+    const ownStart = /** @type {number} */ (starts[run]), ownEnd = /** @type {number} */ (ends[run]);
+    for (let at = this.table.firstEndingAfter(layer, row, ownStart); at < end; at++) {
+      const start = /** @type {number} */ (starts[at]);
+      if (start >= ownEnd) break;
+      visit(at, cost, Math.max(start, ownStart), Math.min(/** @type {number} */ (ends[at]), ownEnd) - 1);
     }
   }
 
@@ -103,6 +139,7 @@ export class Ways {
    * The ways from some stretches to all runs; with `goals` only as far as the nearest of these.
    * @param {Map<number, Stretch>} from by runs
    * @param {Map<number, Stretch> | null} goals
+   * @returns {Searched}
    */
   search(from, goals = null) {
     const { size } = this.table, queue = new Queue();
@@ -114,23 +151,24 @@ export class Ways {
       highs[run] = high;
       queue.push(0, run);
     }
+    /** @type {Goal | null} */
     let goal = null;
-    while (!queue.isEmpty) {
-      const { key, value: run } = queue.pop();
+    for (let next = queue.pop(); next; next = queue.pop()) {
+      const { key, value: run } = next;
       if (goal && key >= goal.cost) break;
       if (done[run]) continue;
       done[run] = 1;
-      const wanted = goals?.get(run);
+      const wanted = goals?.get(run), ownLow = /** @type {number} */ (lows[run]), ownHigh = /** @type {number} */ (highs[run]);
       if (wanted) {
-        const column = Math.min(Math.max(wanted.low, lows[run]), wanted.high);
-        const cost = key + Math.max(0, column - highs[run], lows[run] - column);
+        const column = Math.min(Math.max(wanted.low, ownLow), wanted.high);
+        const cost = key + Math.max(0, column - ownHigh, ownLow - column);
         if (!goal || cost < goal.cost) goal = { run, column, cost };
       }
       this.beside(run, (at, cost, low, high) => {
         if (done[at]) return;
-        const first = Math.max(low, Math.min(lows[run], high)), last = Math.min(high, Math.max(highs[run], low));
-        const total = key + cost + Math.max(0, first - highs[run], lows[run] - last);
-        if (total >= costs[at]) return;
+        const first = Math.max(low, Math.min(ownLow, high)), last = Math.min(high, Math.max(ownHigh, low));
+        const total = key + cost + Math.max(0, first - ownHigh, ownLow - last);
+        if (total >= /** @type {number} */ (costs[at])) return;
         costs[at] = total;
         before[at] = run;
         lows[at] = first;
@@ -143,22 +181,32 @@ export class Ways {
 
   /**
    * The way that a search found to a column of a run, from there back: for each run, where it is entered and left.
-   * @returns {{run: number, enter: number, leave: number}[]}
+   * @param {Searched} searched
+   * @param {number} run
+   * @param {number} column
+   * @returns {Step[]}
    */
   traced({ before, lows, highs }, run, column) {
     const way = [];
     let leave = column;
-    for (let at = run; at >= 0; at = before[at]) {
-      const enter = Math.min(Math.max(leave, lows[at]), highs[at]);
+    for (let at = run; at >= 0; at = /** @type {number} */ (before[at])) {
+      const enter = Math.min(Math.max(leave, /** @type {number} */ (lows[at])), /** @type {number} */ (highs[at]));
       way.push({ run: at, enter, leave });
       leave = enter;
     }
     return way;
   }
 
-  /** What the shortest ways from the first of some stretches to the others cover: a stretch of each run. */
+  /**
+   * What the shortest ways from the first of some stretches to the others cover: a stretch of each run.
+   * @param {StretchOfRun[]} stretches
+   * @returns {Map<number, Stretch>} by the runs
+   */
   tree(stretches) {
-    const [first, ...others] = stretches, covered = new Map();
+    const [first, ...others] = stretches;
+    /** @type {Map<number, Stretch>} */
+    const covered = new Map();
+    if (!first) return covered;
     cover(covered, first.run, first.low, first.high);
     if (!others.length) return covered;
     const search = this.search(new Map([[first.run, first]]));
@@ -175,43 +223,54 @@ export class Ways {
    * what the two lie on. Of several places as narrow as one another it is the middle one.
    * @param {Map<number, Stretch>} from
    * @param {Map<number, Stretch>} to
-   * @returns {{layer: number, column: number, row: number, width: number, disc?: import("./widths.js").Disc} | null} the middle of
-   *   the copper there, its width in pixels, and the disc that is as wide
+   * @returns {Narrow | null}
    */
   narrowest(from, to) {
     const search = this.search(from, to);
     if (!search.goal) return null;
-    const way = this.pixelsOf(this.traced(search, search.goal.run, search.goal.column));
-    if (!way.length) return this.holeOf(search.goal);
-    const ends = [way[0], way[way.length - 1]].map((pixel) => ({ layer: pixel.layer, disc: this.widthsOf(pixel.layer).disc(pixel.column, pixel.row) }));
-    const isIn = ({ layer, column, row }) => ends.some((end) => end.disc && end.layer === layer
+    const way = this.pixelsOf(this.traced(search, search.goal.run, search.goal.column)), start = way[0], last = way.at(-1);
+    if (!start || !last) return this.holeOf(search.goal);
+    const ends = [start, last].map((pixel) => ({ layer: pixel.layer, disc: this.widthsOf(pixel.layer).disc(pixel.column, pixel.row) }));
+    const isIn = (/** @type {Pixel} */ { layer, column, row }) => ends.some((end) => end.disc && end.layer === layer
       && Math.hypot(end.disc.x - column, end.disc.y - row) < end.disc.radius);
-    return this.leastOn(way.filter((pixel) => !isIn(pixel))) ?? this.leastOn(way) ?? { ...way[0], width: this.widthAt(way[0]) };
+    return this.leastOn(way.filter((pixel) => !isIn(pixel))) ?? this.leastOn(way) ?? { ...start, width: this.widthAt(start) };
   }
 
+  /** @param {number} layer */
   widthsOf(layer) {
-    return this.widths[layer] ??= new Widths(this.nets.copper[layer]);
+    return this.widths[layer] ??= new Widths(elementAt(this.nets.copper, layer));
   }
 
-  // The pixels of copper on a way, in order.
+  /**
+   * The pixels of copper on a way, in order.
+   * @param {Step[]} way
+   */
   pixelsOf(way) {
+    /** @type {Pixel[]} */
     const pixels = [];
     for (const { run, enter, leave } of way) {
-      const layer = this.table.layers[run], row = this.table.rows[run], step = leave < enter ? 1 : -1;
+      const layer = /** @type {number} */ (this.table.layers[run]), row = /** @type {number} */ (this.table.rows[run]), step = leave < enter ? 1 : -1;
       if (layer >= this.nets.copper.length) continue;
       for (let column = leave; column !== enter + step; column += step) pixels.push({ layer, column, row });
     }
     return pixels;
   }
 
+  /** @param {Pixel} pixel */
   widthAt({ layer, column, row }) {
     const disc = this.widthsOf(layer).disc(column, row);
     return disc ? widthOf(disc).width : 0;
   }
 
-  // The place of the least width at some pixels of a way; null where copper ends at all of them.
+  /**
+   * The place of the least width at some pixels of a way.
+   * @param {Pixel[]} pixels
+   * @returns {Narrow | null} null where copper ends at all of them
+   */
   leastOn(pixels) {
-    let found = [], least = Infinity;
+    /** @type {(Pixel & import("./widths.js").Width)[]} */
+    let found = [];
+    let least = Infinity;
     for (const { layer, column, row } of pixels) {
       const width = this.widthsOf(layer).at(column, row, least + SAME);
       if (!width) continue;
@@ -219,8 +278,9 @@ export class Ways {
       least = Math.min(least, width.width);
     }
     found = found.filter(({ width }) => width < least + SAME);
-    if (!found.length) return null;
-    const [first] = found, last = found[found.length - 1], x = (first.column + last.column) / 2, y = (first.row + last.row) / 2;
+    const first = found[0], last = found.at(-1);
+    if (!first || !last) return null;
+    const x = (first.column + last.column) / 2, y = (first.row + last.row) / 2;
     // Between two corners of white, as where two discs overlap, copper is so narrow for a little way alone; its narrowest place
     // is exact. A longer stretch of one width is told at its middle.
     const isLong = Math.hypot(last.column - first.column, last.row - first.row) > 2 * Math.sqrt(2 * least * SAME) + 2;
@@ -229,21 +289,33 @@ export class Ways {
     return { layer, ...this.widthsOf(layer).at(column, row) ?? { column, row }, width: least };
   }
 
-  // Where the way lies in holes alone, the place of one.
+  /**
+   * Where the way lies in holes alone, the place of one.
+   * @param {Goal} goal
+   * @returns {Narrow}
+   */
   holeOf({ run, column }) {
-    const layer = Math.min(this.table.layers[run], this.nets.copper.length - 1);
-    return { layer, column, row: this.table.rows[run], width: 0 };
+    const layer = Math.min(/** @type {number} */ (this.table.layers[run]), this.nets.copper.length - 1);
+    return { layer, column, row: /** @type {number} */ (this.table.rows[run]), width: 0 };
   }
 }
 
+/**
+ * @template T
+ * @param {T[]} list one at least
+ * @param {(one: T) => number} away
+ * @returns {T} the one that is the least away
+ */
 function nearestOf(list, away) {
   return list.reduce((best, place) => (away(place) < away(best) ? place : best));
 }
 
+/** @param {number} from @param {number} to */
 function span(from, to) {
   return Array.from({ length: to - from + 1 }, (_, at) => from + at);
 }
 
+/** @param {Map<number, Stretch>} covered @param {number} run @param {number} low @param {number} high */
 function cover(covered, run, low, high) {
   const known = covered.get(run);
   if (known) {

@@ -3,6 +3,7 @@
 // From the place a disc grows away from the nearest white pixel, and from further ones that it meets on the same side, until it
 // lies between white pixels on two sides. A disc of copper that two sides hold is as wide as the copper is there.
 
+import { elementAt } from "./lists.js";
 import { BAND } from "./runs.js";
 
 /** Whites nearer to a disc's rim than this lie on it. */
@@ -79,13 +80,14 @@ export class Widths {
    * @param {number} column
    */
   runAt(band, row, column) {
-    const { offsets, starts, ends } = band, first = offsets[row], end = offsets[row + 1];
+    const { offsets, starts, ends } = band, first = /** @type {number} */ (offsets[row]), end = /** @type {number} */ (offsets[row + 1]);
     let at = first + this.order;
     // (the first run that ends after the column, as a search finds it)
-    const isFirst = at <= end && (at === end || column < ends[at]) && (at === first || ends[at - 1] <= column);
+    const isFirst = at <= end && (at === end || column < /** @type {number} */ (ends[at]))
+      && (at === first || /** @type {number} */ (ends[at - 1]) <= column);
     if (!isFirst) at = band.firstEndingAfter(row, column);
     this.order = at - first;
-    return at < end && starts[at] <= column ? at : -1;
+    return at < end && /** @type {number} */ (starts[at]) <= column ? at : -1;
   }
 
   /**
@@ -97,10 +99,10 @@ export class Widths {
     const { runs } = this, low = Math.floor(x), high = Math.ceil(x);
     let left = low, right = high;
     if (row >= 0 && row < runs.height) {
-      const band = runs.bands[Math.floor(row / BAND)], before = this.runAt(band, row % BAND, low);
-      if (before >= 0) left = band.starts[before] - 1;
-      const after = before >= 0 && high < band.ends[before] ? before : this.runAt(band, row % BAND, high);
-      if (after >= 0) right = band.ends[after];
+      const band = elementAt(runs.bands, Math.floor(row / BAND)), before = this.runAt(band, row % BAND, low);
+      if (before >= 0) left = /** @type {number} */ (band.starts[before]) - 1;
+      const after = before >= 0 && high < /** @type {number} */ (band.ends[before]) ? before : this.runAt(band, row % BAND, high);
+      if (after >= 0) right = /** @type {number} */ (band.ends[after]);
     }
     return x - left <= right - x ? left : right;
   }
@@ -114,9 +116,9 @@ export class Widths {
   whiteTo(row, x, side) {
     const column = side > 0 ? Math.ceil(x) : Math.floor(x), { runs } = this;
     if (row < 0 || row >= runs.height) return column;
-    const band = runs.bands[Math.floor(row / BAND)], at = this.runAt(band, row % BAND, column);
+    const band = elementAt(runs.bands, Math.floor(row / BAND)), at = this.runAt(band, row % BAND, column);
     if (at < 0) return column;
-    return side > 0 ? band.ends[at] : band.starts[at] - 1;
+    return side > 0 ? /** @type {number} */ (band.ends[at]) : /** @type {number} */ (band.starts[at]) - 1;
   }
 
   /**
@@ -155,7 +157,7 @@ export class Widths {
   hasSame(row) {
     const { runs, alike: { start, end } } = this;
     if (row < 0 || row >= runs.height) return false;
-    const band = runs.bands[Math.floor(row / BAND)], at = this.runAt(band, row % BAND, start);
+    const band = elementAt(runs.bands, Math.floor(row / BAND)), at = this.runAt(band, row % BAND, start);
     return at >= 0 && band.starts[at] === start && band.ends[at] === end;
   }
 
@@ -167,9 +169,9 @@ export class Widths {
    * @returns {Disc | null} null where the rows differ
    */
   straightDisc(column, row) {
-    const { runs, alike } = this, band = runs.bands[Math.floor(row / BAND)], at = this.runAt(band, row % BAND, column);
+    const { runs, alike } = this, band = elementAt(runs.bands, Math.floor(row / BAND)), at = this.runAt(band, row % BAND, column);
     if (at < 0) return null;
-    const start = band.starts[at], end = band.ends[at], reach = Math.ceil((end - start + 1) / 2);
+    const start = /** @type {number} */ (band.starts[at]), end = /** @type {number} */ (band.ends[at]), reach = Math.ceil((end - start + 1) / 2);
     const isKnown = alike.start === start && alike.end === end && row >= alike.first && row <= alike.last;
     if (!isKnown) Object.assign(alike, { start, end, first: row, last: row });
     while (alike.last < row + reach && this.hasSame(alike.last + 1)) alike.last++;

@@ -18,7 +18,12 @@ export function placeWords({ x, y }) {
   return `(${mm(x)}, ${mm(y)})`;
 }
 
-/** `1 net`, `2 nets`. */
+/**
+ * `1 net`, `2 nets`.
+ * @param {number} count
+ * @param {string} what
+ * @param {string} [many]
+ */
 export function counted(count, what, many = `${what}s`) {
   return `${count} ${count === 1 ? what : many}`;
 }
