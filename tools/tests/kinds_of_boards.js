@@ -6,6 +6,7 @@ import { box } from "./small_boards.js";
 
 const TOP = 0, SIDE = 10, LEFT = 1, RIGHT = 7;
 const THROUGH = { size: 1.2, hole: 0.6 };
+/** @type {[net: string, y: number][]} */
 const ROWS = [["A", 1], ["B", 3], ["C", 5], ["D", 7]];
 
 /** Two pads of a row with holes, the left one of D's missing where faults are planted. */
@@ -18,7 +19,7 @@ function pins(board, net, y, pad = THROUGH) {
  * @param {MadeBoard} board
  * @param {string} net
  * @param {number} y
- * @param {import("./made_boards.js").Pad} [pad] size and shape of the pads, and what else there is of the vias
+ * @param {import("./made_boards.js").Pad} pad size and shape of the pads, and what else there is of the vias
  */
 function escapes(board, net, y, { size = 0.8, shape = undefined, ...via } = {}) {
   [[LEFT, 2], [RIGHT, 6]].forEach(([x, to], at) => {
