@@ -2,7 +2,6 @@
 
 import { joined, middleFor, shifted, turned } from "../board/index.js";
 import { GREATEST } from "./picking.js";
-import { layerOf } from "./state.js";
 
 // A line of a script may have so many bytes.
 const LONGEST = 65536;
@@ -65,11 +64,12 @@ function whyNoArray({ picked }, { columns, rows, dx, dy }) {
 function array(state, gesture) {
   const why = whyNotAnew(state, "copy", "copied") ?? whyNoArray(state, gesture);
   if (why) return { why };
-  const items = byPlace(state.picked), ends = new Map(items.map(({ name }) => [name, layerOf(state, name).items]));
+  const items = byPlace(state.picked), ends = new Map(state.layers.map((layer) => [layer.name, layer.items]));
   const lines = [], places = state.picked.map(({ name, place }) => ({ name, place }));
   for (const { dx, dy } of copySteps(gesture)) {
     for (const { name, words } of items) {
       const place = ends.get(name);
+      if (place === undefined) continue;
       ends.set(name, place + 1);
       lines.push(`insert ${name} ${place} ${shifted(words, dx, dy)}`);
       places.push({ name, place });
@@ -79,7 +79,7 @@ function array(state, gesture) {
 }
 
 // How far an item's box has to go so that it is aligned with the box of all, in nm.
-/** @type {Record<string, (box: Board.Box, all: Board.Box) => { dx: number, dy: number }>} */
+/** @type {Record<Machine.Alignment, (box: Board.Box, all: Board.Box) => { dx: number, dy: number }>} */
 const ALIGNED = {
   left: (box, all) => ({ dx: all.left - box.left, dy: 0 }),
   right: (box, all) => ({ dx: all.right - box.right, dy: 0 }),
@@ -95,11 +95,11 @@ const nearest = (length) => Math.sign(length) * Math.ceil(Math.abs(length) - 0.5
 
 /** @param {Machine.State} state @param {Machine.EditOf<"align">} gesture @returns {Machine.Outcome} */
 function align(state, { to }) {
-  const painted = state.picked.filter(({ box }) => box), all = joined(painted.map(({ box }) => box));
+  const painted = state.picked.flatMap(({ name, place, box }) => box ? [{ name, place, box }] : []), all = joined(painted.map(({ box }) => box));
   const why = whyNot(state, "align") ?? (painted.length < 2 ? "Pick two items or more to align them." : null);
-  if (why) return { why };
+  if (why !== null || !all) return { why: why ?? "" };
   return { lines: painted.flatMap(({ name, place, box }) => {
-    const shift = ALIGNED[to](box, all), [dx, dy] = [shift.dx, shift.dy].map(nearest);
+    const shift = ALIGNED[to](box, all), dx = nearest(shift.dx), dy = nearest(shift.dy);
     return dx || dy ? [`move ${name} ${place} ${dx} ${dy}`] : [];
   }) };
 }

@@ -1,5 +1,7 @@
 // Questions about refused files: one for each kind of file, however many there are.
 
+import { openingOf } from "./state.js";
+
 /** @param {Machine.Question} question */
 const concerned = (question) => "refused" in question ? [question.refused].flat() : [];
 
@@ -8,20 +10,21 @@ const concerned = (question) => "refused" in question ? [question.refused].flat(
 export const askedFiles = ({ questions }) => new Map(questions.flatMap((question) =>
   concerned(question).map((file) => [file, question.id])));
 
-/** @param {Machine.Turn} turn @param {Machine.Refused[]} entries @param {number} opening */
+/** @param {Machine.Turn} turn @param {Machine.Refused[]} entries @param {number | undefined} opening */
 export function askAbout(turn, entries, opening) {
   for (const kind of ["gerber", "drill"]) {
     const ids = entries.filter(({ layer }) => layer.kind === kind).map(({ id }) => id);
-    if (ids.length === 1) turn.question({ kind: "convert", refused: ids[0], opening });
-    else if (ids.length) turn.question({ kind: "convertAll", refused: ids, opening });
+    const [id] = ids;
+    if (ids.length > 1) turn.question({ kind: "convertAll", refused: ids, opening });
+    else if (id !== undefined) turn.question({ kind: "convert", refused: id, opening });
   }
 }
 
 // Asks about the files of an opening that can be converted, once each of its files was loaded or tried.
-/** @param {Machine.Turn} turn @param {number} opening */
+/** @param {Machine.Turn} turn @param {number | undefined} opening */
 export function askWhenTried(turn, opening) {
-  const { refused, openings } = turn.state;
-  if (openings[opening] && (openings[opening].trying > 0 || !openings[opening].isDone)) return;
+  const { refused } = turn.state, its = openingOf(turn.state, opening);
+  if (its && (its.trying > 0 || !its.isDone)) return;
   /** @param {Machine.Refused} entry */
   const isOf = (entry) => entry.opening === opening && entry.isPending;
   turn.set({ refused: refused.map((entry) => isOf(entry) ? { ...entry, isPending: false } : entry) });
@@ -42,6 +45,8 @@ export function askingAlike({ refused }) {
     const key = askedBy(entry);
     if (key !== null) groups.set(key, [...groups.get(key) ?? [], entry]);
   }
-  return [...groups].filter(([, entries]) => entries.length > 1).map(([key, entries]) =>
-    ({ key, kind: entries[0].layer.kind, asks: entries[0].offer.asks, entries }));
+  return [...groups].flatMap(([key, entries]) => {
+    const [first] = entries;
+    return first?.offer && entries.length > 1 ? [{ key, kind: first.layer.kind, asks: first.offer.asks, entries }] : [];
+  });
 }

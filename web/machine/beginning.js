@@ -1,9 +1,10 @@
 // How the page begins: where it was left, by what the browser kept, or else with the board that it holds.
 
 import { BLANK, change, open } from "./opening.js";
-import { PLAIN } from "./state.js";
+import { PLAIN, openingOf } from "./state.js";
 import { askAbout, askWhenTried } from "./asking.js";
 import { firstWord, wordsOf } from "./steps.js";
+import { named } from "./named.js";
 
 /** @param {string} id */
 const numberOf = (id) => Number(/(\d+)$/.exec(id)?.[1] ?? 0);
@@ -25,7 +26,7 @@ function restore(turn, { records, files, looks, waiting }) {
   const parts = looksOf(looks);
   const next = 1 + Math.max(0, turn.state.next, waiting?.next ?? 0, ...files.map(([id]) => numberOf(id)));
   turn.set({ ...parts, layers: (parts.layers ?? []).filter(({ name }) => names.has(name)), told, files: given, next,
-    paths: Object.fromEntries(loads.filter(({ reply }) => reply.startsWith("ok")).map(({ path, file }) => [path, file ?? path])),
+    paths: named(Object.fromEntries(loads.filter(({ reply }) => reply.startsWith("ok")).map(({ path, file }) => [path, file ?? path]))),
     refused: (waiting?.refused ?? []).filter(({ file }) => given[file]).map(({ isAsked, ...entry }) => ({ ...entry, isPending: isAsked === true })) });
   if (told.length) turn.last({ kind: "replay", isFitted: !looks?.view });
   if (looks?.view) turn.send({ to: "page", kind: "view", view: looks.view });
@@ -49,15 +50,15 @@ function goOnWith(turn, { gestures = [], refused = [], pictures = [] }, given) {
   const open = turn.state.refused.filter(({ isTried, isPending }) => !isTried || isPending);
   for (const id of new Set([...waits, ...open].map(({ opening }) => opening))) {
     if (id === undefined) continue;
-    /** @param {{ opening?: number }} what */
+    /** @param {{ opening?: number | undefined }} what */
     const isOf = ({ opening }) => opening === id;
     const its = turn.state.refused.filter(isOf).map((entry) => ({ id: entry.id, name: entry.layer.fileName, reply: entry.reply }));
     turn.set({ openings: { ...turn.state.openings, [id]: { ...BLANK, refused: its, isDone: !waits.some(isOf) } } });
   }
   askAgain(turn, refused);
   for (const entry of turn.state.refused) {
-    if (!entry.isTried && !refused.find(({ id }) => id === entry.id).isAsked) {
-      change(turn, entry.opening, { trying: (turn.state.openings[entry.opening]?.trying ?? 0) + 1 });
+    if (!entry.isTried && !refused.find(({ id }) => id === entry.id)?.isAsked) {
+      change(turn, entry.opening, { trying: (openingOf(turn.state, entry.opening)?.trying ?? 0) + 1 });
       turn.send({ to: "page", kind: "try", refused: entry.id });
     }
   }
@@ -73,17 +74,19 @@ function askAgain(turn, refused) {
   /** @type {Map<number, Machine.Refused[]>} */
   const groups = new Map();
   for (const entry of turn.state.refused) {
-    const { isAsked } = refused.find(({ id }) => id === entry.id);
+    const isAsked = refused.find(({ id }) => id === entry.id)?.isAsked;
     if (typeof isAsked === "number") groups.set(isAsked, [...groups.get(isAsked) ?? [], entry]);
   }
-  for (const entries of groups.values()) askAbout(turn, entries, entries[0].opening);
+  for (const entries of groups.values()) askAbout(turn, entries, entries[0]?.opening);
 }
 
 // The board that a tool put into the page, with the lines that came with it.
 /** @param {Machine.Turn} turn @param {Machine.Contents} contents */
 function openContents(turn, { files, lines }) {
   if (files.length) open(turn, { files });
-  const given = { ...turn.state.files }, ids = [];
+  const given = { ...turn.state.files };
+  /** @type {string[]} */
+  const ids = [];
   /** @type {Machine.Gesture[]} */
   const gestures = [];
   for (const { line, bytes } of lines) {
@@ -91,18 +94,19 @@ function openContents(turn, { files, lines }) {
       gestures.push({ kind: "lines", lines: [line], isAllowed: true, isGiven: true });
       continue;
     }
-    const [, name, kind, path] = wordsOf(line), id = `given ${turn.number()}`;
+    const [, name = "", kind, path = ""] = wordsOf(line), id = `given ${turn.number()}`;
     given[id] = { name: path, bytes };
     ids.push(id);
-    gestures.push({ kind: "load", file: id, layer: { kind: /** @type {Board.LayerKind} */ (kind) }, given: { name, path: path.replace(/^.*\//, "") }, isGiven: true });
+    gestures.push({ kind: "load", file: id, layer: { kind: kind === "drill" ? "drill" : "gerber" },
+      given: { name, path: path.replace(/^.*\//, "") }, isGiven: true });
   }
   turn.set({ files: given });
   if (gestures.length) turn.last(...gestures);
   // They are kept together with the files, before the first of them is loaded.
-  const at = turn.state.queue.findIndex(({ kind }) => kind === "keep");
+  const keeps = turn.state.queue.find(({ kind }) => kind === "keep");
   /** @type {Machine.Gesture} */
-  const all = at < 0 ? { kind: "keep", files: ids } : { ...turn.state.queue[at], files: [...turn.state.queue[at].files, ...ids] };
-  turn.set({ queue: [...ids.length || at >= 0 ? [all] : [], ...turn.state.queue.filter((_, place) => place !== at)] });
+  const all = { ...keeps, kind: "keep", files: [...keeps?.files ?? [], ...ids] };
+  turn.set({ queue: [...ids.length || keeps ? [all] : [], ...turn.state.queue.filter((gesture) => gesture !== keeps)] });
 }
 
 /** @param {Machine.Turn} turn @param {Machine.Events["begin"]} event */

@@ -5,6 +5,7 @@ import { NO_STEPS, after, isGhost, isPlayed } from "./replay.js";
 import { DEPTH, layerOf } from "./state.js";
 import { Steps, firstWord, wordsOf } from "./steps.js";
 import { filesNeeded, keepAnew } from "./keeping.js";
+import { named } from "./named.js";
 import { plural } from "../board/index.js";
 
 const OF_LAYERS = new Set(["load", "plot", "write", "list", "insert", "delete", "move", "reorder", "aperture", "polarity", "tool",
@@ -13,7 +14,7 @@ const OF_LAYERS = new Set(["load", "plot", "write", "list", "insert", "delete", 
 /** @param {string} line @param {string} name */
 const isOf = (line, name) => OF_LAYERS.has(firstWord(line)) && wordsOf(line)[1] === name;
 
-/** @param {Machine.Told} before @param {Machine.Told} entry */
+/** @param {Machine.Told | undefined} before @param {Machine.Told} entry */
 const isEmptyGroup = (before, { line }) => before && firstWord(before.line) === "begin" && isPlayed(before)
   && ["end", "abort"].includes(firstWord(line));
 
@@ -31,7 +32,7 @@ export function without(told, name) {
     const isGone = isOf(entry.line, name) || isGhost(steps, entry.line);
     steps = after(steps, entry, !isGone);
     if (isGone) continue;
-    if (isEmptyGroup(left[left.length - 1], entry)) left.pop();
+    if (isEmptyGroup(left.at(-1), entry)) left.pop();
     else left.push(entry);
   }
   return left;
@@ -41,19 +42,13 @@ export function without(told, name) {
 /** @param {Machine.Turn} turn @param {Machine.Told[]} told @param {Partial<Machine.State>} changes */
 function goOn(turn, told, changes) {
   const { state } = turn;
-  turn.set({ ...changes, told, paths: {}, comparison: null, click: null, station: { isOpen: false, why: null } });
+  turn.set({ ...changes, told, paths: named(), comparison: null, click: null, station: { isOpen: false, why: null } });
   turn.set({ files: filesNeeded(turn.state) });
   turn.send({ to: "page", kind: "start" });
   const { isOpen, isLost } = state.kept;
   if (!isOpen || isLost) return turn.finish({ isWell: true });
   keepAnew(turn);
-  return turn.work({ stage: "kept", result: { isWell: true } });
-}
-
-/** @param {Machine.Turn} turn @param {Machine.Question} question */
-function ask(turn, question) {
-  turn.work({ stage: "asking" });
-  turn.question({ ...question, gesture: turn.state.work.gesture.id });
+  return turn.work({ stage: "kept" });
 }
 
 /** @param {Machine.Turn} turn */
@@ -62,9 +57,9 @@ const inGroup = (turn) => {
   return turn.finish();
 };
 
-/** @param {Machine.Turn} turn @param {string} name */
-function closeLayer(turn, name) {
-  const { state } = turn, { label } = layerOf(state, name);
+/** @param {Machine.Turn} turn @param {Machine.Layer} layer */
+function closeLayer(turn, { name, label }) {
+  const { state } = turn;
   turn.say(`${label} is closed.`);
   return goOn(turn, without(state.told, name), { layers: state.layers.filter((layer) => layer.name !== name),
     picked: state.picked.filter((pick) => pick.name !== name), active: state.active === name ? null : state.active, lit: null });
@@ -72,13 +67,20 @@ function closeLayer(turn, name) {
 
 /** @type {Machine.Kind<"close">} */
 export const close = {
-  begin(turn, { name }) {
+  begin(turn, { name, id }) {
     const { steps, saved } = turn.state, layer = layerOf(turn.state, name), unsaved = steps.unsaved(saved, name);
     if (!layer) return turn.finish();
     if (steps.group) return inGroup(turn);
-    return unsaved ? ask(turn, { kind: "close", label: layer.label, unsaved }) : closeLayer(turn, name);
+    if (!unsaved) return closeLayer(turn, layer);
+    turn.work({ stage: "asking" });
+    return turn.question({ kind: "close", label: layer.label, unsaved, gesture: id });
   },
-  replied: (turn, { name }, { value }) => value === "yes" ? closeLayer(turn, name) : turn.finish(),
+  heard: {
+    asking(turn, { name }, { value }) {
+      const layer = layerOf(turn.state, name);
+      return value === "yes" && layer ? closeLayer(turn, layer) : turn.finish();
+    },
+  },
 };
 
 /** @param {Machine.Turn} turn */
@@ -89,17 +91,19 @@ function closeBoard(turn) {
   }
   turn.say(`The board is closed: ${plural(count, "layer")}.`);
   turn.send({ to: "page", kind: "board closed" });
-  return goOn(turn, [], { layers: [], picked: [], active: null, entry: null, entries: {}, attributes: {}, steps: new Steps(DEPTH),
-    saved: {}, unsaved: 0, hasWindow: false, opened: [], windows: [], refused: [], openings: {}, dropped: {}, spoiled: [],
+  return goOn(turn, [], { layers: [], picked: [], active: null, entry: null, entries: named(), attributes: named(), steps: new Steps(DEPTH),
+    saved: named(), unsaved: 0, hasWindow: false, opened: [], windows: [], refused: [], openings: {}, dropped: {}, spoiled: [],
     questions: [], shownBefore: null, inWords: null, lit: null, job: null, checks: { ...state.checks, accepted: [] },
     queue: state.queue.filter(({ kind }) => !["load", "opened", "picture"].includes(kind)) });
 }
 
 /** @type {Machine.Kind<"closeAll">} */
 export const closeAll = {
-  begin(turn) {
+  begin(turn, { id }) {
     const { unsaved, layers } = turn.state;
-    return unsaved ? ask(turn, { kind: "closeAll", unsaved, count: layers.length }) : closeBoard(turn);
+    if (!unsaved) return closeBoard(turn);
+    turn.work({ stage: "asking" });
+    return turn.question({ kind: "closeAll", unsaved, count: layers.length, gesture: id });
   },
-  replied: (turn, gesture, { value }) => value === "yes" ? closeBoard(turn) : turn.finish(),
+  heard: { asking: (turn, gesture, { value }) => value === "yes" ? closeBoard(turn) : turn.finish() },
 };

@@ -13,7 +13,7 @@ const entryOf = (entries, number) => entries?.find((entry) => entry.number === n
 // What is picked, but for repeats, which no line inserts.
 /** @param {Machine.State} state @returns {Machine.Copied[]} */
 export const copiedOf = ({ picked, entries }) => picked.filter((item) => !isRepeat(item)).map(({ name, words }) => {
-  const entry = entryOf(Object.hasOwn(entries, name) ? entries[name] : undefined, itemOf(words)?.number);
+  const entry = entryOf(entries[name], itemOf(words)?.number);
   return { words, from: name, definition: entry?.definition ?? null, entry: entry?.words ?? "" };
 });
 
@@ -37,18 +37,18 @@ function wordsIn({ words, from, definition, entry }, layer, entries) {
 }
 
 // The words of what was copied, as the chosen layer has them; or why it has none.
-/** @param {Machine.State} state @param {Machine.Copied[]} copied @returns {{ words: string[], why: string | null }} */
+/** @param {Machine.State} state @param {Machine.Copied[]} copied @returns {{ words: string[] } | { why: string }} */
 export function wordsInto(state, copied) {
   const layer = layerOf(state, state.active), words = [];
-  if (!layer) return { words, why: "Choose a layer for the item first." };
-  const entries = Object.hasOwn(state.entries, layer.name) ? state.entries[layer.name] : [];
+  if (!layer) return { why: "Choose a layer for the item first." };
+  const entries = state.entries[layer.name] ?? [];
   for (const item of copied) {
     const own = wordsIn(item, layer, entries);
     if (own === null) {
-      return { words: [], why: `${layer.label} has no ${layer.kind === "drill" ? "tool" : "aperture"} like that of what was copied: ${
+      return { why: `${layer.label} has no ${layer.kind === "drill" ? "tool" : "aperture"} like that of what was copied: ${
         item.entry || "one that is not known"}.` };
     }
     words.push(own);
   }
-  return { words, why: null };
+  return { words };
 }

@@ -22,6 +22,7 @@ function onCircle(centre, start, towards) {
 // is the start.
 /** @param {Board.Point[]} points @param {Machine.Settings} settings */
 function arcWords([start, centre, towards], { entry, direction, polarity, grid }) {
+  if (!start || !centre || !towards) return null;
   const isFull = Math.hypot(towards.x - start.x, towards.y - start.y) < grid;
   const end = isFull ? start : onCircle(centre, start, towards);
   return `arc ${entry} ${flat([start, end, centre])} ${direction} ${polarity}`;
@@ -37,21 +38,22 @@ const side = ({ x, y, centre, direction }) => centre ? `${direction} ${x} ${y} $
 // The contour ends where it begins.
 /** @param {Machine.Drawn["points"]} points @param {Machine.Settings} settings */
 function regionWords([first, ...rest], { polarity }) {
-  /** @param {Machine.Drawn["points"][number]} point */
-  const sides = isSame(rest[rest.length - 1], first) ? rest : [...rest, { x: first.x, y: first.y }];
+  const last = rest.at(-1);
+  if (!first || !last) return null;
+  const sides = isSame(last, first) ? rest : [...rest, { x: first.x, y: first.y }];
   return `region ${polarity} ${flat([first])} ${sides.map(side).join(" ")}`;
 }
 
 /** @type {Record<string, Machine.DrawingTool>} */
 export const drawingTools = {
-  flash: { label: "Flash", kind: "gerber", count: 1, words: ([at], { entry, turn, polarity }) =>
-    `flash ${entry} ${flat([at])} ${turn} ${polarity}` },
+  flash: { label: "Flash", kind: "gerber", count: 1, words: (points, { entry, turn, polarity }) =>
+    `flash ${entry} ${flat(points)} ${turn} ${polarity}` },
   draw: { label: "Draw", kind: "gerber", count: 2, words: (points, { entry, turn, polarity }) =>
     `draw ${entry} ${flat(points)} ${turn} ${polarity}` },
   arc: { label: "Arc", kind: "gerber", count: 3, words: arcWords, hint: "start, centre, then the direction of the end" },
   region: { label: "Region", kind: "gerber", count: null, least: 3, hasArcs: true, words: regionWords,
     hint: "click the corners, Enter ends; for an arc click its centre with Shift, then the direction of its end" },
-  hit: { label: "Hit", kind: "drill", count: 1, words: ([at], { entry }) => `hit ${entry} ${flat([at])}` },
+  hit: { label: "Hit", kind: "drill", count: 1, words: (points, { entry }) => `hit ${entry} ${flat(points)}` },
   rout: { label: "Rout", kind: "drill", count: null, least: 2, words: (points, { entry }) => `rout ${entry} ${flat(points)}` },
 };
 
@@ -59,7 +61,9 @@ export const drawingTools = {
 export class Making {
   /** @param {string} name @param {Machine.Settings} settings @param {Partial<Machine.Drawn>} drawn */
   constructor(name, settings = SETTINGS, { points = [], centre = null } = {}) {
-    this.tool = drawingTools[name];
+    const tool = drawingTools[name];
+    if (!tool) throw new Error(`There is no tool ${name}.`);
+    this.tool = tool;
     this.settings = settings;
     this.points = points;
     this.centre = centre;
@@ -75,7 +79,7 @@ export class Making {
   // Takes a point, or the centre of an arc to the next one; answers the words where the item is whole.
   /** @param {Machine.Tapped} point @param {boolean} isCentre */
   add(point, isCentre = false) {
-    const at = this.snapped(point), last = this.points[this.points.length - 1];
+    const at = this.snapped(point), last = this.points.at(-1);
     if (isCentre && this.tool.hasArcs && last && !isSame(at, last)) {
       this.centre = at;
       return null;
@@ -89,8 +93,8 @@ export class Making {
   // The next point where the pointer is, on the arc about the centre if there is one: all around where it is the start.
   /** @param {Board.Point} at */
   next(at) {
-    const { centre } = this, start = this.points[this.points.length - 1];
-    if (!centre) return at;
+    const { centre } = this, start = this.points.at(-1);
+    if (!centre || !start) return at;
     const isFull = Math.hypot(at.x - start.x, at.y - start.y) < this.settings.grid;
     const { x, y } = isFull ? start : onCircle(centre, start, at);
     return { x, y, centre, direction: this.settings.direction };
@@ -98,7 +102,7 @@ export class Making {
 
   /** @param {Machine.Drawn["points"]} points */
   isEnough(points) {
-    return points.length >= this.tool.least || points.length > 1 && points.some(({ centre }) => centre);
+    return points.length >= (this.tool.least ?? 1) || points.length > 1 && points.some(({ centre }) => centre);
   }
 
   // The words of what there is, where that is enough.

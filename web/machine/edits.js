@@ -12,7 +12,7 @@ import { wordsInto } from "./copied.js";
 /** @param {Machine.Picked} item */
 const isRepeat = (item) => item.words.startsWith("repeat");
 
-/** @param {Machine.State} state @param {(item: Machine.Picked) => string} line */
+/** @param {Machine.State} state @param {(item: Machine.Picked) => string} line @returns {Machine.Outcome} */
 const each = ({ picked }, line) => ({ lines: picked.map(line) });
 
 // Items at the end of the active layer, and then they are picked.
@@ -40,17 +40,17 @@ function drawnWords(state, { words, active, again }) {
 function paste(state, { dx, dy }) {
   if (!state.copied.length) return { why: "Nothing was copied." };
   const copied = state.copied.map((item) => ({ ...item, words: shifted(item.words, dx, dy) }));
-  const other = whyNotInto(state, copied.map(({ words }) => words)), { words, why } = other ? { words: [], why: other } : wordsInto(state, copied);
-  const made = why ? { why } : insertAll(state, words);
-  return made.why ? made : { ...made, changes: { copied } };
+  const other = whyNotInto(state, copied.map(({ words }) => words)), found = other ? { why: other } : wordsInto(state, copied);
+  const made = "why" in found ? found : insertAll(state, found.words);
+  return "why" in made ? made : { ...made, changes: { copied } };
 }
 
 // One picked item to another place of its layer's list, or so many places on.
-/** @param {Machine.State} state @param {Machine.EditOf<"reorder">} gesture */
-function reorder(state, { to, by }) {
+/** @param {Machine.State} state @param {Machine.EditOf<"reorder">} gesture @returns {Machine.Outcome} */
+function reorder(state, gesture) {
   const [item] = state.picked, layer = item && layerOf(state, item.name);
-  if (!layer) return { lines: [] };
-  const place = Math.max(0, Math.min(by === undefined ? to : item.place + by, layer.items - 1));
+  if (!item || !layer) return { lines: [] };
+  const place = Math.max(0, Math.min(gesture.by === undefined ? gesture.to : item.place + gesture.by, layer.items - 1));
   return { lines: place === item.place ? [] : [`reorder ${item.name} ${item.place} ${place}`] };
 }
 
@@ -73,7 +73,10 @@ const verbs = {
   tool: (state, { number }) => each(state, ({ name, place }) => `tool ${name} ${place} ${number}`),
   diameter: (_, { name, number, nm }) => ({ lines: [`diameter ${name} ${number} ${nm}`] }),
   reorder,
-  insert: (state, gesture) => insertAll(state, [drawnWords(state, gesture)]),
+  insert(state, gesture) {
+    const words = drawnWords(state, gesture);
+    return words === null ? { lines: [] } : insertAll(state, [words]);
+  },
   paste,
   ...arranging,
   reshape,
@@ -87,7 +90,7 @@ const verbs = {
 
 // Whether what is picked is still what a gesture was begun with: the picks that it names, or any where it names none.
 /** @param {Machine.State} state @param {Machine.Edit} gesture */
-const isOf = ({ picked }, { of }) => !of || of.length === picked.length && of.every((id, at) => picked[at].id === id);
+const isOf = ({ picked }, { of }) => !of || of.length === picked.length && of.every((id, at) => picked[at]?.id === id);
 
 /** @param {Machine.State} state @param {Machine.Edit} gesture @returns {Machine.Outcome} */
 export function linesOf(state, gesture) {

@@ -3,6 +3,7 @@
 // it back; of a drill layer, whose text has none, it is the page's alone.
 
 import { PLAIN, byFunction, inner } from "../board/index.js";
+import { pairs } from "./pairs.js";
 
 const INNER = /^in(\d+)$/;
 // With both sides 32 layers of copper, as many as KiCad has.
@@ -12,32 +13,34 @@ const MOST_INNER = 30;
 export const FUNCTIONS = [...PLAIN.values(), ...Array.from({ length: MOST_INNER }, (_, at) => inner(at + 1))]
   .sort((one, other) => one.height - other.height || other.name.localeCompare(one.name, "en", { numeric: true }));
 
-const SIDES = { top: "Top", bottom: "Bot" };
-const ON_A_SIDE = { mask: "Soldermask", silk: "Legend", paste: "Paste", glue: "Glue" };
-const HOLES = { plated: ["Plated", "PTH"], nonplated: ["NonPlated", "NPTH"], holes: ["MixedPlating", "PTH"] };
-const OTHERS = { outline: "Profile,NP", drawing: "OtherDrawing,drawing", other: "Other,other" };
+const SIDES = new Map([["top", "Top"], ["bottom", "Bot"]]);
+const ON_A_SIDE = new Map([["mask", "Soldermask"], ["silk", "Legend"], ["paste", "Paste"], ["glue", "Glue"]]);
+const HOLES = new Map([["plated", ["Plated", "PTH"]], ["nonplated", ["NonPlated", "NPTH"]], ["holes", ["MixedPlating", "PTH"]]]);
+const OTHER = "Other,other";
+const OTHERS = new Map([["outline", "Profile,NP"], ["drawing", "OtherDrawing,drawing"], ["other", OTHER]]);
 
 // How many layers of copper the board has, by what its layers show: two at least.
-/** @param {Partial<Machine.Look>[]} layers */
+/** @param {Pick<Machine.Look, "shows">[]} layers */
 const copperOf = (layers) => 2 + Math.max(0, ...layers.map(({ shows }) => Number(INNER.exec(shows ?? "")?.[1] ?? 0)));
 
 // The fields of the attribute .FileFunction for a function, on a board of these layers.
 /** @param {string} shows @param {Machine.Layer[]} layers */
 export function fieldsOf(shows, layers) {
-  const number = INNER.exec(shows), [side, what] = shows.split("-"), last = copperOf([...layers, { shows }]);
-  if (number) return `Copper,L${Number(number[1]) + 1},Inr`;
+  const number = INNER.exec(shows)?.[1], [side = "", what = ""] = shows.split("-"), last = copperOf([...layers, { shows }]);
+  if (number) return `Copper,L${Number(number) + 1},Inr`;
   if (shows === "top") return "Copper,L1,Top";
   if (shows === "bottom") return `Copper,L${last},Bot`;
-  if (what) return `${ON_A_SIDE[what]},${SIDES[side]}`;
-  return HOLES[shows] ? `${HOLES[shows][0]},1,${last},${HOLES[shows][1]}` : OTHERS[shows];
+  const sided = ON_A_SIDE.get(what), of = SIDES.get(side), holes = HOLES.get(shows);
+  if (sided && of) return `${sided},${of}`;
+  return holes ? `${holes[0]},1,${last},${holes[1]}` : OTHERS.get(shows) ?? OTHER;
 }
 
-const PARTS = ["label", "colour", "height", "shows"];
-/** @param {Partial<Machine.Look>} from */
+const PARTS = /** @type {const} */ (["label", "colour", "height", "shows"]);
+/** @param {Machine.Look} from */
 const partsOf = ({ label, colour, height, shows }) => ({ label, colour, height, shows });
 
 // What a layer is by its file alone.
-/** @param {Partial<Machine.Look>} layer @returns {Machine.Following} */
+/** @param {Machine.Look} layer @returns {Machine.Following} */
 export const byFile = (layer) => ({ ...partsOf(layer), value: null });
 
 // A layer under a function; another one that is called the same is told apart by its file.
@@ -55,16 +58,18 @@ function byName({ name, label, colour, height }, value, layer, layers) {
 
 /** @param {string} value @param {Machine.Layer} layer @param {Machine.Layer[]} layers */
 function byValue(value, layer, layers) {
-  const plain = Object.keys(OTHERS).find((name) => OTHERS[name] === value);
-  return byName(plain ? PLAIN.get(plain) : byFunction(value), value, layer, layers);
+  const [plain = ""] = [...OTHERS].find(([, fields]) => fields === value) ?? [];
+  return byName(PLAIN.get(plain) ?? byFunction(value), value, layer, layers);
 }
 
 // The layer with what follows from a function now. What is another thing than followed from the one before was chosen by a
 // person, and stays.
 /** @param {Machine.Layer} layer @param {Machine.Following} now @returns {Machine.Layer} */
 function following(layer, now) {
-  if (layer.by.value === now.value) return layer;
-  const changed = PARTS.filter((part) => layer[part] === layer.by[part]);
+  const { by } = layer;
+  // (one that is still to be loaded follows nothing yet)
+  if (!by || by.value === now.value) return layer;
+  const changed = PARTS.filter((part) => layer[part] === by[part]);
   return { ...layer, ...Object.fromEntries(changed.map((part) => [part, now[part]])), by: now };
 }
 
@@ -97,6 +102,7 @@ export function withFunctions(layers, steps) {
 /** @param {Machine.Layer[]} layers @param {string} name @param {string} shows */
 export function withShown(layers, name, shows) {
   const chosen = FUNCTIONS.find((one) => one.name === shows);
+  if (!chosen) return layers;
   return inOrder(layers.map((layer) => layer.name === name ? following(layer, byName(chosen, shows, layer, layers)) : layer));
 }
 
@@ -108,8 +114,8 @@ export function withMoved(layers, name, by) {
   const heights = layers.map(({ height }) => height), moved = layers.slice();
   moved.splice(to, 0, ...moved.splice(from, 1));
   let last = -Infinity;
-  return moved.map((layer, at) => {
-    last = heights[at] > last ? heights[at] : last + 1e-6;
+  return pairs(moved, heights).map(([layer, height]) => {
+    last = height > last ? height : last + 1e-6;
     return layer.height === last ? layer : { ...layer, height: last };
   });
 }

@@ -7,7 +7,7 @@ import { arcThrough, itemOf, middleOf, sidesOfRegion } from "../board/index.js";
 const whole = ([x, y]) => [Math.round(x), Math.round(y)];
 /** @param {Board.Pair} one @param {Board.Pair} other */
 const isSame = (one, other) => one[0] === other[0] && one[1] === other[1];
-/** @param {boolean} isClockwise */
+/** @param {boolean | undefined} isClockwise */
 const opposite = (isClockwise) => isClockwise ? "cw" : "ccw";
 
 /** @param {Board.ArcItem} item @returns {Board.Arc} */
@@ -16,7 +16,7 @@ const arcOf = ({ points: [from, to, centre], direction }) => ({ from, to, centre
 // The points of a region, the first one once.
 /** @param {Board.Region} item @returns {Board.Pair[]} */
 const cornersOf = ({ points, segments }) => {
-  const ends = segments.map(({ to }) => to), isClosed = ends.length > 0 && isSame(ends[ends.length - 1], points[0]);
+  const ends = segments.map(({ to }) => to), last = ends.at(-1), isClosed = last !== undefined && isSame(last, points[0]);
   return [points[0], ...isClosed ? ends.slice(0, -1) : ends];
 };
 
@@ -38,7 +38,7 @@ export function handlesOf(words) {
 
 // An arc from and to other points that passes through the middle of the one before; a full circle keeps its centre. Null where
 // there is none.
-/** @param {Board.Side} before @param {Board.Pair} from @param {Board.Pair} to @returns {Board.Side | null} */
+/** @param {Board.Arc} before @param {Board.Pair} from @param {Board.Pair} to @returns {Board.Arc | null} */
 function arcBetween(before, from, to) {
   if (isSame(before.from, before.to)) return { ...before, from, to };
   const found = isSame(from, to) ? null : arcThrough(from, middleOf(before), to);
@@ -60,19 +60,25 @@ function arcWords(item, at, to) {
 // The sides of a region with one of its points elsewhere; null where an arc beside it would be none.
 /** @param {Board.Region} item @param {number} at @param {Board.Pair} to */
 function regionWords(item, at, to) {
-  const was = cornersOf(item)[at], of = (point) => isSame(point, was) ? to : point;
-  const sides = sidesOfRegion(item).map((side, number) => {
+  const was = cornersOf(item)[at];
+  /** @type {Board.Side[]} */
+  const sides = [];
+  /** @param {Board.Pair} point */
+  const of = (point) => was && isSame(point, was) ? to : point;
+  for (const [number, side] of sidesOfRegion(item).entries()) {
     // (only the sides beside the point: another corner may stand at the same place)
     const count = item.segments.length, isFrom = number === at, isTo = (number + 1) % count === at % count;
-    const [from, end] = [isFrom ? of(side.from) : side.from, isTo ? of(side.to) : side.to];
-    if (!side.centre || isSame(from, side.from) && isSame(end, side.to)) return { ...side, from, to: end };
-    const made = arcBetween(side, from, end);
-    return made && (isSame(made.centre, from) ? null : made);
-  });
-  if (sides.includes(null)) return null;
+    const from = isFrom ? of(side.from) : side.from, end = isTo ? of(side.to) : side.to, { centre } = side;
+    const isKept = !centre || isSame(from, side.from) && isSame(end, side.to);
+    const made = isKept ? { ...side, from, to: end } : arcBetween({ ...side, centre }, from, end);
+    if (!made || !isKept && made.centre && isSame(made.centre, from)) return null;
+    sides.push(made);
+  }
+  const [first] = sides;
+  if (!first) return null;
   const words = sides.map(({ to: end, centre, isClockwise }) => centre ? `${opposite(isClockwise)} ${[end, centre].flat().join(" ")}`
     : `l ${end.join(" ")}`);
-  return `region ${item.polarity} ${sides[0].from.join(" ")} ${words.join(" ")}`;
+  return `region ${item.polarity} ${first.from.join(" ")} ${words.join(" ")}`;
 }
 
 /**
@@ -83,10 +89,10 @@ function regionWords(item, at, to) {
  */
 export function reshaped(words, at, to) {
   const item = itemOf(words);
-  if (item.kind === "arc") return arcWords(item, at, to);
-  if (item.kind === "region") return regionWords(item, at, to);
-  const points = item.points.map((point, place) => place === at ? to : point).flat().join(" ");
-  if (item.kind === "rout") return `rout ${item.number} ${points}`;
-  const { number, turn, polarity } = /** @type {Board.FlashOrDraw} */ (item);
-  return `draw ${number} ${points} ${turn} ${polarity}`;
+  if (item?.kind === "arc") return arcWords(item, at, to);
+  if (item?.kind === "region") return regionWords(item, at, to);
+  /** @param {Board.Pair[]} points */
+  const moved = (points) => points.map((point, place) => place === at ? to : point).flat().join(" ");
+  if (item?.kind === "rout") return `rout ${item.number} ${moved(item.points)}`;
+  return item?.kind === "draw" ? `draw ${item.number} ${moved(item.points)} ${item.turn} ${item.polarity}` : null;
 }

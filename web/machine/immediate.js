@@ -6,7 +6,7 @@ import { askAbout, askWhenTried, askedFiles } from "./asking.js";
 import { joined } from "../board/index.js";
 import { whyNoTool } from "./drawn_into.js";
 import { withMoved, withShown } from "./functions.js";
-import { layerOf, shownLayers } from "./state.js";
+import { layerOf, openingOf, shownLayers } from "./state.js";
 
 /** @param {Machine.Turn} turn @param {string | null} name @param {Partial<Machine.Layer>} changes */
 const layerLook = (turn, name, changes) =>
@@ -60,7 +60,8 @@ function chooseTool(turn, { name }) {
   const why = whyNoTool(turn.state, name);
   if (why) return turn.say(why, true);
   turn.set({ tool: name, making: null });
-  if (drawingTools[name]?.hint) turn.say(drawingTools[name].hint);
+  const hint = drawingTools[name]?.hint;
+  if (hint) turn.say(hint);
   return undefined;
 }
 
@@ -68,7 +69,7 @@ function chooseTool(turn, { name }) {
 /** @param {Machine.Turn} turn */
 function escape(turn) {
   const { comparison, lit, making, tables, tool, picked, work } = turn.state;
-  if (work?.isGroup && work.stage === "lines") return turn.send({ to: "worker", number: 0, kind: "stop" });
+  if (work?.stage === "lines" && work.isGroup) return turn.send({ to: "worker", number: 0, kind: "stop" });
   if (comparison) return turn.set({ comparison: null });
   if (making?.points.length) return turn.set({ making: null });
   if (lit) return turn.set({ lit: null });
@@ -92,9 +93,10 @@ function lead(turn, { name, box }) {
 }
 
 /** @param {Machine.Turn} turn @param {Machine.Immediate["tried"]} event */
-function tried(turn, { refused, isAble, why, asks = [] }) {
-  const entry = turn.state.refused.find(({ id }) => id === refused), opening = turn.state.openings[entry?.opening];
+function tried(turn, { refused, isAble, why = "", asks = [] }) {
+  const entry = turn.state.refused.find(({ id }) => id === refused);
   if (!entry) return;
+  const opening = openingOf(turn.state, entry.opening);
   const offer = isAble === null ? null : { isAble, why, asks }, now = { ...entry, isTried: true, offer, isPending: isAble === true };
   turn.set({ refused: turn.state.refused.map((other) => other === entry ? now : other) });
   if (opening) change(turn, entry.opening, { trying: opening.trying - 1 });
@@ -109,19 +111,19 @@ function tried(turn, { refused, isAble, why, asks = [] }) {
 function offer(turn, entries) {
   const { queue, refused, work } = turn.state, asked = askedFiles(turn.state);
   const onWay = new Set([work?.gesture, ...queue].flatMap((gesture) => gesture?.kind === "load" ? [gesture.refused] : []));
-  const others = entries.filter(({ id }) => !asked.has(id) && !onWay.has(id));
-  if (!others.length) return;
+  const others = entries.filter(({ id }) => !asked.has(id) && !onWay.has(id)), [first] = others;
+  if (!first) return;
   turn.set({ refused: refused.map((entry) => others.includes(entry) ? { ...entry, isPending: false } : entry) });
-  askAbout(turn, others, others[0].opening);
+  askAbout(turn, others, first.opening);
   turn.last({ kind: "keep" });
 }
 
 // Loads what refused files were converted to: [{ id, bytes }] by the numbers of the refused. All of it is kept before the first
 // of them is loaded, so that the answer holds for all of them when the page is left meanwhile.
-/** @param {Machine.Turn} turn @param {number} opening @param {{ id: number, bytes: Uint8Array }[]} made */
-function openConverted(turn, opening, made) {
-  const files = { ...turn.state.files }, { openings, refused } = turn.state;
-  /** @type {Machine.Gesture[]} */
+/** @param {Machine.Turn} turn @param {number | undefined} of @param {{ id: number, bytes: Uint8Array }[]} made */
+function openConverted(turn, of, made) {
+  const files = { ...turn.state.files }, { openings, refused } = turn.state, opening = of ?? turn.number();
+  /** @type {Machine.GestureOf<"load">[]} */
   const loads = [];
   for (const { id, bytes } of made) {
     const entry = refused.find((other) => other.id === id), file = `given ${turn.number()}`;
@@ -151,10 +153,10 @@ const answers = {
   plot(turn, question, { value, names, pitch, form, why }) {
     if (value !== "yes") return;
     if (why) turn.say(why, true);
-    else turn.last({ kind: "plot", names, pitch, form });
+    else if (names && pitch !== undefined && form !== undefined) turn.last({ kind: "plot", names, pitch, form });
   },
   array(turn, { of }, { value, columns, rows, dx, dy }) {
-    if (value === "yes") turn.last({ kind: "edit", verb: "array", columns, rows, dx, dy, of });
+    if (value === "yes") turn.last({ kind: "edit", verb: "array", columns: columns ?? NaN, rows: rows ?? NaN, dx: dx ?? NaN, dy: dy ?? NaN, of });
   },
   go(turn, question, { value, place }) {
     if (value === "link") turn.send({ to: "page", kind: "copy link" });
@@ -163,7 +165,7 @@ const answers = {
   give(turn, question, { value, form, pitch, why }) {
     if (value !== "yes") return;
     if (why) turn.say(why, true);
-    else turn.last({ kind: "give", form, pitch });
+    else if (form !== undefined && pitch !== undefined) turn.last({ kind: "give", form, pitch });
   },
   anew(turn, question, { value }) {
     if (value !== "yes") return;

@@ -4,8 +4,8 @@
 // It is not the page: it is pure, waits for nothing, and knows no element and no browser. (What numbers of refusals mean is handed
 // to it once, by `knowRefusals`.)
 //
-// State, events, gestures and messages are in types.d.ts, by kinds. A gesture is under way for as long as its answers take, and
-// others wait for it.
+// State, events, gestures and messages are in types.d.ts, by kinds; the stages of a gesture that is under way, for as long as its
+// answers take, are in work.d.ts. Others wait for it.
 //
 //     import { firstState, step } from "./index.js";
 //     const { state, messages } = step(firstState(), { kind: "say", text: "A board." });

@@ -1,6 +1,7 @@
 // What is handed to the browser to be kept, and what is known of whether it is.
 
 import { askedFiles } from "./asking.js";
+import { bytesOf } from "./state.js";
 
 // What is still to be done when the page is opened again: files on their way into the station, those that were refused,
 // with the questions about them, and the pictures beside the layers.
@@ -26,6 +27,13 @@ export const looksOfState = ({ grid, unit, active, polarity, turn, direction, la
   layers: layers.map(({ name, kind, label, colour, opacity, isShown, height, file, origin, shows, by }) =>
     ({ name, kind, label, colour, opacity, isShown, height, file, origin, shows, by })),
 });
+
+// A file with its number, as it is kept; none where there is none of that number.
+/** @param {Machine.State} state @param {string} id @returns {[id: string, bytes: Uint8Array][]} */
+const fileOf = ({ files }, id) => {
+  const bytes = bytesOf(files, id);
+  return bytes ? [[id, bytes]] : [];
+};
 
 /** @param {Machine.Keeping} kept */
 const isWritten = ({ isOpen, isLost }) => isOpen && !isLost;
@@ -59,7 +67,7 @@ function filesOnWay(turn) {
 // before. Answers whether that is under way.
 /** @param {Machine.Turn} turn @param {{ entries?: Machine.Told[], files?: string[], isWaiting?: boolean }} what */
 export function keep(turn, { entries = [], files = [], isWaiting = false }) {
-  const { kept, work } = turn.state;
+  const { kept } = turn.state;
   if (!isWritten(kept)) return false;
   if (kept.isAnew) {
     keepAnew(turn, entries);
@@ -71,8 +79,8 @@ export function keep(turn, { entries = [], files = [], isWaiting = false }) {
   turn.set({ kept: { ...kept, ...all } });
   if (!all.records.length && !all.files.length && !all.isWaiting) return false;
   const { state } = turn;
-  turn.send({ to: "kept", kind: "keep", number: work.number, from: kept.count, records: all.records,
-    files: all.files.map((id) => [id, state.files[id]?.bytes]), waiting: all.isWaiting ? waitingOf(state) : null });
+  turn.send({ to: "kept", kind: "keep", number: turn.underWay.number, from: kept.count, records: all.records,
+    files: all.files.flatMap((id) => fileOf(state, id)), waiting: all.isWaiting ? waitingOf(state) : null });
   return true;
 }
 
@@ -81,7 +89,7 @@ export function keep(turn, { entries = [], files = [], isWaiting = false }) {
 export function keepAnew(turn, entries = []) {
   const { state } = turn, all = [...state.told, ...entries];
   turn.set({ kept: { ...state.kept, records: all.length ? [all] : [], files: [], count: 0, isWaiting: true, isAnew: true } });
-  turn.send({ to: "kept", kind: "anew", number: state.work.number, records: turn.state.kept.records,
+  turn.send({ to: "kept", kind: "anew", number: turn.underWay.number, records: turn.state.kept.records,
     files: Object.entries(state.files).filter(([id]) => !id.startsWith("inside ")).map(([id, { bytes }]) => [id, bytes]),
     waiting: waitingOf(state) });
 }
@@ -96,7 +104,7 @@ export function written(turn) {
 }
 
 /** @param {Machine.Turn} turn @param {Machine.Written} answer */
-export function unwritten(turn, { why, isLost = false }) {
+export function unwritten(turn, { why = "", isLost = false }) {
   const { kept } = turn.state;
   turn.set({ kept: { ...kept, why, isLost: kept.isLost || isLost } });
 }

@@ -1,10 +1,11 @@
-// The gestures that change the station or ask it, each by how it begins, what it does with each answer, and how it ends
-// once its lines are settled. One is under way at a time.
+// The gestures that change the station or ask it, each by how it begins, what it does with each answer that it hears, and how it
+// ends once its lines are settled. One is under way at a time.
 
 import { dropped, readLater } from "./attributes.js";
 import { firstWord, isEdit, wordsOf } from "./steps.js";
 import { keep, keepAnew } from "./keeping.js";
-import { layerOf } from "./state.js";
+import { pairs } from "./pairs.js";
+import { bytesOf, layerOf } from "./state.js";
 import { close, closeAll } from "./closing.js";
 import { applied, entriesOf, grouped } from "./grouped.js";
 import { copiedOf } from "./copied.js";
@@ -26,52 +27,51 @@ import { whole } from "./whole_layer.js";
 /** @type {Machine.Kind<"edit">} */
 const edit = {
   begin(turn, gesture) {
-    const { lines, why, changes, places } = linesOf(turn.state, gesture);
-    if (why) {
-      turn.say(why, true);
+    const made = linesOf(turn.state, gesture);
+    if ("why" in made) {
+      turn.say(made.why, true);
       return turn.finish();
     }
+    const { lines, places = null, changes = null } = made;
     if (!lines.length) return turn.finish();
     const isGroup = lines.length > 1 && !turn.state.steps.group;
-    turn.work({ lines, isGroup, changes, places });
-    turn.apply(lines.map((line) => ({ line })), isGroup);
+    return turn.apply({ stage: "lines", isGroup, lines, places, changes }, lines.map((line) => ({ line })));
   },
-  answer: (turn, gesture, answer) => applied(turn, answer),
+  heard: { lines: (turn, gesture, answer, at) => applied(turn, answer, at, (entries, then) => settle(turn, entries, { ...then, left: null })) },
 };
 
 // Lines as they are: one that was typed, or several of a caller, which are a group where all are edits.
 /** @type {Machine.Kind<"lines">} */
 const lines = {
   begin(turn, gesture) {
-    const { state } = turn, given = gesture.lines, words = wordsOf(given[0]);
-    if (words[0] === "load" && losesSteps(state) && !gesture.isAllowed) {
+    const { state } = turn, given = gesture.lines, [word = "", , , path = ""] = wordsOf(given[0] ?? "");
+    if (word === "load" && losesSteps(state) && !gesture.isAllowed) {
       turn.work({ stage: "asking" });
       return turn.question({ kind: "history", steps: state.steps.done.length + state.steps.undone.length, gesture: gesture.id });
     }
     const isGroup = given.length > 1 && given.every(isEdit) && !state.steps.group;
     // A plot shows the window of the script; where it has none yet, what is seen becomes it.
-    const isBlind = !state.hasWindow && ["plot", "redraw"].includes(words[0]) && gesture.window;
-    const all = isBlind ? [gesture.window, ...given] : given, file = words[0] === "load" ? state.paths[words[3]] : undefined;
-    turn.work({ lines: all, isGroup, isBlind, file, path: words[3] });
-    turn.apply(all.map((line) => ({ line, bytes: file === undefined ? undefined : state.files[file]?.bytes })), isGroup);
+    const seen = !state.hasWindow && ["plot", "redraw"].includes(word) && gesture.window ? [gesture.window] : [];
+    const file = word === "load" ? state.paths[path] : undefined, load = file === undefined ? null : { path, file };
+    const all = [...seen, ...given], bytes = bytesOf(state.files, file);
+    return turn.apply({ stage: "lines", isGroup, lines: all, isBlind: seen.length > 0, load }, all.map((line) => ({ line, bytes })));
   },
-  replied(turn, gesture, { value }) {
-    if (value === "yes") return lines.begin(turn, { ...gesture, isAllowed: true });
-    turn.say("The layer was left closed.");
-    return turn.finish({ isWell: false, answers: [] });
-  },
-  answer(turn, gesture, { answers, isStopped }) {
-    const { isGroup, isBlind, file, path } = turn.state.work;
-    if (isStopped) {
-      turn.say("Stopped: nothing of it was done.");
+  heard: {
+    asking(turn, gesture, { value }) {
+      if (value === "yes") return lines.begin(turn, { ...gesture, isAllowed: true });
+      turn.say("The layer was left closed.");
       return turn.finish({ isWell: false, answers: [] });
-    }
-    const isRefused = tellRefused(turn, answers), all = turn.state.work.lines;
-    const made = isGroup ? grouped(all, isRefused, answers.length) : all;
-    if (!isRefused) turn.say("");
-    turn.work({ result: { isWell: !isRefused, answers: isGroup ? answers.slice(1, -1) : answers.slice(isBlind ? 1 : 0) } });
-    const more = (at) => file !== undefined && firstWord(made[at]) === "load" ? { path, file } : {};
-    settle(turn, entriesOf(made, answers, more), { isWaiting: gesture.isGiven });
+      },
+      lines(turn, { isGiven = false }, { answers, isStopped }, { lines: all, isGroup, isBlind, load: of }) {
+        if (isStopped) {
+          turn.say("Stopped: nothing of it was done.");
+          return turn.finish({ isWell: false, answers: [] });
+        }
+        const isRefused = tellRefused(turn, answers), made = isGroup ? grouped(all, answers, isRefused) : all;
+        if (!isRefused) turn.say("");
+        const result = { isWell: !isRefused, answers: isGroup ? answers.slice(1, -1) : answers.slice(isBlind ? 1 : 0) };
+        return settle(turn, entriesOf(made, answers, (line) => of && firstWord(line) === "load" ? of : {}), { isWaiting: isGiven, result, left: null });
+      },
   },
   finished: (turn) => readLater(turn),
 };
@@ -106,7 +106,7 @@ const copy = {
 const choose = {
   begin(turn, { name }) {
     if (!layerOf(turn.state, name)) return turn.finish();
-    return lookOnly(turn, turn.state.picked, { active: name });
+    return lookOnly(turn, turn.state.picked, { active: name }, null);
   },
 };
 
@@ -116,7 +116,7 @@ const list = {
   begin(turn, { from = turn.state.list.from, isOpen = turn.state.list.isOpen, by = 0 }) {
     const layer = layerOf(turn.state, turn.state.active), count = layer?.items ?? 0;
     const first = Math.max(0, Math.min(from + by, count - 1));
-    return lookOnly(turn, turn.state.picked, { list: { ...turn.state.list, isOpen, from: first - first % 100 } });
+    return lookOnly(turn, turn.state.picked, { list: { ...turn.state.list, isOpen, from: first - first % 100 } }, null);
   },
 };
 

@@ -6,6 +6,7 @@ import { leaveClosed } from "./keeping.js";
 import { readLater } from "./attributes.js";
 import { boxOf, boxOfWindow, joined } from "../board/index.js";
 import { firstWord } from "./steps.js";
+import { PLAIN, bytesOf, openingOf } from "./state.js";
 import { lookOnly, settle } from "./settling.js";
 import { boxNames, showIfNone } from "./seeking.js";
 import { nameFor, pathFor } from "./names.js";
@@ -15,52 +16,53 @@ import { readPbm } from "../bytes/index.js";
 /** @param {Machine.State} state */
 export const losesSteps = ({ steps }) => steps.done.length > 0 || steps.undone.length > 0;
 
-/** @param {Machine.Turn} turn @param {Machine.GestureOf<"load">} gesture */
+/** @param {Machine.Turn<"load">} turn @param {Machine.GestureOf<"load">} gesture */
 function send(turn, gesture) {
-  const { state } = turn, { layer, file, given } = gesture, opening = state.openings[gesture.opening];
+  const { state } = turn, opening = openingOf(state, gesture.opening), isGiven = "given" in gesture;
   if (opening && opening.wasEmpty === null) change(turn, gesture.opening, { wasEmpty: state.layers.length === 0 });
-  const name = given ? given.name : nameFor(state, layer.wanted);
-  const path = pathFor(state, given ? given.path : layer.fileName);
-  const look = given ? {} : lookOf(layer, name, state.layers);
-  turn.work({ line: `load ${name} ${layer.kind} ${path}`, name, path, look });
-  turn.apply([{ line: turn.state.work.line, bytes: state.files[file].bytes }]);
+  const name = isGiven ? gesture.given.name : nameFor(state, gesture.layer.wanted);
+  const path = pathFor(state, isGiven ? gesture.given.path : gesture.layer.fileName);
+  const look = isGiven ? {} : lookOf(gesture.layer, name, state.layers), line = `load ${name} ${gesture.layer.kind} ${path}`;
+  turn.apply({ stage: "lines", isGroup: false, line, name, path, look }, [{ line, bytes: bytesOf(state.files, gesture.file) }]);
 }
 
 /** @type {Machine.Kind<"load">} */
 export const load = {
   begin(turn, gesture) {
-    const opening = turn.state.openings[gesture.opening];
-    if (!losesSteps(turn.state) || gesture.given || opening?.isAllowed) return send(turn, gesture);
+    const isAllowed = openingOf(turn.state, gesture.opening)?.isAllowed === true;
+    if (!losesSteps(turn.state) || "given" in gesture || isAllowed) return send(turn, gesture);
     turn.work({ stage: "asking" });
     const { done, undone } = turn.state.steps;
     return turn.question({ kind: "history", opening: gesture.opening, steps: done.length + undone.length, gesture: gesture.id });
   },
-  replied(turn, gesture, { value }) {
-    if (value === "yes") {
-      change(turn, gesture.opening, { isAllowed: true });
-      return send(turn, gesture);
-    }
-    /** @param {Machine.Gesture} other */
-    const isOf = (other) => other.kind === "load" && other.opening === gesture.opening;
-    change(turn, gesture.opening, { leftClosed: 1 + turn.state.queue.filter(isOf).length });
-    turn.set({ queue: turn.state.queue.filter((other) => !isOf(other)) });
-    turn.finish();
-    return leaveClosed(turn);
+  heard: {
+    asking(turn, gesture, { value }) {
+      if (value === "yes") {
+        change(turn, gesture.opening, { isAllowed: true });
+        return send(turn, gesture);
+      }
+      /** @param {Machine.Gesture} other */
+      const isOf = (other) => other.kind === "load" && other.opening === gesture.opening;
+      change(turn, gesture.opening, { leftClosed: 1 + turn.state.queue.filter(isOf).length });
+      turn.set({ queue: turn.state.queue.filter((other) => !isOf(other)) });
+      turn.finish();
+      return leaveClosed(turn);
+    },
+    lines(turn, gesture, { answers: [answer] }, { line, name, path, look }) {
+      if (!answer) return turn.finish();
+      const { code, reply } = answer, { file, refused } = gesture, entry = { line, reply }, isWell = code === 0;
+      if (code) refuse(turn, gesture, reply);
+      // What became of it is kept together with the line.
+      if (refused) {
+        if (code) note(turn, refused, `What it was converted to is refused too: ${reply}.`);
+        else converted(turn, refused, gesture.opening);
+      }
+      return settle(turn, [code ? entry : { ...entry, path, file, layer: look }],
+        { isWaiting: true, result: { isWell, answers: [{ code, reply }] }, left: { name, isWell } });
+    },
   },
-  answer(turn, gesture, { answers: [{ code, reply }] }) {
-    const { line, path, look } = turn.state.work, entry = { line, reply };
-    if (code) refuse(turn, gesture, reply);
-    // What became of it is kept together with the line.
-    if (gesture.refused) {
-      if (code) note(turn, gesture.refused, `What it was converted to is refused too: ${reply}.`);
-      else converted(turn, gesture);
-    }
-    turn.work({ isWell: code === 0, result: { isWell: code === 0, answers: [{ code, reply }] } });
-    settle(turn, [code ? entry : { ...entry, path, file: gesture.file, layer: look }],
-      { isWaiting: true });
-  },
-  end(turn, gesture) {
-    const { name, isWell } = turn.state.work, opening = turn.state.openings[gesture.opening];
+  end(turn, gesture, { name, isWell }) {
+    const opening = openingOf(turn.state, gesture.opening);
     if (isWell && opening) change(turn, gesture.opening, { opened: [...opening.opened, name] });
   },
 };
@@ -68,11 +70,17 @@ export const load = {
 // The reasons that no conversion of a file changes: too many layers are open, or it is too much for the station.
 const HOPELESS = /^refused (?:25|85)\b/;
 
+// A file that came with its name and path, as one that was recognised: what it is converted to goes by these.
+/** @param {Extract<Machine.GestureOf<"load">, { given: unknown }>} gesture @returns {Machine.Recognised} */
+const asGiven = ({ layer: { kind }, given: { name, path } }) =>
+  ({ kind, wanted: name, label: name, colour: PLAIN.colour, height: PLAIN.height, isShown: PLAIN.isShown, fileName: path, origin: path });
+
 // A file that is refused stands in the list of those; whether it can be converted is tried.
 /** @param {Machine.Turn} turn @param {Machine.GestureOf<"load">} gesture @param {string} reply */
-function refuse(turn, { layer, file, opening, refused }, reply) {
-  if (refused) return;
-  const id = turn.number(), before = turn.state.openings[opening], isTried = HOPELESS.test(reply);
+function refuse(turn, gesture, reply) {
+  if (gesture.refused) return;
+  const { file, opening } = gesture, layer = "given" in gesture ? asGiven(gesture) : gesture.layer;
+  const id = turn.number(), before = openingOf(turn.state, opening), isTried = HOPELESS.test(reply);
   turn.set({ refused: [...turn.state.refused, { id, file, layer, reply, opening, isTried, offer: null, note: "" }] });
   if (before) {
     change(turn, opening, { refused: [...before.refused, { id, name: layer.fileName, reply }], trying: before.trying + (isTried ? 0 : 1) });
@@ -90,18 +98,18 @@ const note = (turn, id, words) =>
 export function breakOff(turn, { gesture, stage }, why) {
   if (gesture.kind !== "load" && gesture.kind !== "picture" || ["settling", "kept"].includes(stage)) return;
   if (why === null || stage === "asking") return turn.first(gesture);
-  const label = gesture.kind === "load" ? gesture.layer.fileName ?? gesture.given?.path : gesture.label;
-  const words = `${label} was not opened: the station stopped (${why}).`, before = turn.state.openings[gesture.opening];
+  const label = gesture.kind === "picture" ? gesture.label : "given" in gesture ? gesture.given.path : gesture.layer.fileName;
+  const words = `${label} was not opened: the station stopped (${why}).`, before = openingOf(turn.state, gesture.opening);
   if (before) change(turn, gesture.opening, { faults: [...before.faults, words] });
   else turn.say(words, true);
   leaveClosed(turn);
 }
 
 // What was converted and is open stands no longer as refused.
-/** @param {Machine.Turn} turn @param {Machine.GestureOf<"load">} gesture */
-function converted(turn, { refused: id, opening }) {
+/** @param {Machine.Turn} turn @param {number} id @param {number | undefined} opening */
+function converted(turn, id, opening) {
   turn.set({ refused: turn.state.refused.filter((entry) => entry.id !== id) });
-  const before = turn.state.openings[opening];
+  const before = openingOf(turn.state, opening);
   if (before) change(turn, opening, { refused: before.refused.filter((entry) => entry.id !== id), converted: before.converted + 1 });
 }
 
@@ -109,22 +117,24 @@ function converted(turn, { refused: id, opening }) {
 /** @type {Machine.Kind<"opened">} */
 export const opened = {
   begin(turn, gesture) {
-    const opening = turn.state.openings[gesture.opening];
+    const opening = openingOf(turn.state, gesture.opening);
     if (!opening) return turn.finish();
-    const { opened: names, wasEmpty } = opening;
-    if (names.length) showIfNone(turn, names);
-    if (!names.length || !wasEmpty) return turn.finish();
-    return lookOnly(turn, turn.state.picked, { active: names.includes("top") ? "top" : names[names.length - 1] });
+    const { opened: names, wasEmpty } = opening, last = names.at(-1);
+    if (last !== undefined) showIfNone(turn, names);
+    if (last === undefined || !wasEmpty) return turn.finish();
+    return lookOnly(turn, turn.state.picked, { active: names.includes("top") ? "top" : last }, null);
   },
   end(turn) {
     const names = boxNames(turn.state.layers);
-    turn.ask("boxes", { kind: "boxes", names });
+    turn.ask({ stage: "boxes" }, { kind: "boxes", names });
     return "more";
   },
-  answer(turn, gesture, { boxes }) {
-    const box = joined(boxes.map(boxOf));
-    if (box) turn.send({ to: "page", kind: "fit", box });
-    turn.finish();
+  heard: {
+    boxes(turn, gesture, { boxes }) {
+      const box = joined(boxes.map(boxOf));
+      if (box) turn.send({ to: "page", kind: "fit", box });
+      turn.finish();
+    },
   },
   finished(turn, gesture) {
     change(turn, gesture.opening, { isDone: true });
@@ -148,16 +158,15 @@ function windowFor({ told, windows, opened: pictures }, { width, height }) {
     .find((line) => sidesOf(line)[0] === width && sidesOf(line)[1] === height) ?? null;
 }
 
-/** @param {Machine.Turn} turn @param {Machine.GestureOf<"picture">} gesture @param {string} window */
-function put(turn, gesture, window) {
+/** @param {Machine.Turn<"picture">} turn @param {Machine.BitPicture} made @param {string} window */
+function put(turn, made, window) {
   const name = `picture ${turn.number()}`;
-  turn.work({ name, window });
-  turn.ask("put", { kind: "picture", name, picture: turn.state.work.picture, line: window });
+  turn.ask({ stage: "put", name, window }, { kind: "picture", name, picture: made, line: window });
 }
 
 /** @param {Machine.Turn} turn @param {Machine.GestureOf<"picture">} gesture @param {string} why */
 function fault(turn, { opening, label }, why) {
-  const before = turn.state.openings[opening];
+  const before = openingOf(turn.state, opening);
   if (before) change(turn, opening, { faults: [...before.faults, `${label}: ${why}.`] });
   else turn.say(`${label}: ${why}.`, true);
   turn.finish();
@@ -170,35 +179,33 @@ export const picture = {
   begin(turn, gesture) {
     let made = null;
     try {
-      made = readPbm(turn.state.files[gesture.file].bytes);
+      made = readPbm(bytesOf(turn.state.files, gesture.file) ?? new Uint8Array());
     } catch (thrown) {
-      return fault(turn, gesture, thrown.message);
+      return fault(turn, gesture, thrown instanceof Error ? thrown.message : String(thrown));
     }
-    turn.work({ picture: made });
     const window = gesture.window ?? windowFor(turn.state, made);
-    if (window) return put(turn, gesture, window);
-    return turn.ask("boxes", { kind: "boxes", names: boxNames(turn.state.layers) });
+    if (window) return put(turn, made, window);
+    return turn.ask({ stage: "boxes", picture: made }, { kind: "boxes", names: boxNames(turn.state.layers) });
   },
-  answer(turn, gesture, answer) {
-    const { stage, name, window, picture: made } = turn.state.work, { width, height } = made;
-    if (stage === "boxes") {
-      const box = joined(answer.boxes.map(boxOf)) ?? { left: 0, low: 0, right: 25400 * width, high: 25400 * height };
-      turn.work({ stage: "asking" });
-      const { label, opening, id } = gesture;
+  heard: {
+    boxes(turn, { label, opening, id }, { boxes }, { picture: made }) {
+      const { width, height } = made, box = joined(boxes.map(boxOf)) ?? { left: 0, low: 0, right: 25400 * width, high: 25400 * height };
+      turn.work({ stage: "asking", picture: made });
       return turn.question({ kind: "place", label, width, height, box, opening, gesture: id });
-    }
-    const { label, file, of, isShown = of === null, opacity = 0.85, isInside = false } = gesture;
-    const { layers, opened: others } = turn.state;
-    const { colour = INKS[others.length % INKS.length] } = gesture;
-    if (!layers.length && !others.length) turn.send({ to: "page", kind: "fit", box: boxOfWindow(window) });
-    turn.set({ opened: [...others, { name, label, of, window, file, isInside, isOpened: true, isShown, opacity, colour }] });
-    const before = turn.state.openings[gesture.opening];
-    if (before) change(turn, gesture.opening, { pictures: before.pictures + 1 });
-    turn.finish();
-    return isInside ? undefined : turn.first({ kind: "keep" });
-  },
-  replied(turn, gesture, { value, window, why }) {
-    if (value === "yes" && window) return put(turn, gesture, window);
-    return fault(turn, gesture, value === "yes" ? why : "left out");
+    },
+    asking(turn, gesture, { value, window, why }, { picture: made }) {
+      if (value === "yes" && window) return put(turn, made, window);
+      return fault(turn, gesture, value === "yes" ? why ?? "it has no place" : "left out");
+    },
+    put(turn, gesture, _, { name, window }) {
+      const { label, file, of, isShown = of === null, opacity = 0.85, isInside = false } = gesture;
+      const { layers, opened: others } = turn.state, { colour = INKS[others.length % INKS.length] ?? PLAIN.colour } = gesture;
+      if (!layers.length && !others.length) turn.send({ to: "page", kind: "fit", box: boxOfWindow(window) });
+      turn.set({ opened: [...others, { name, label, of, window, file, isInside, isOpened: true, isShown, opacity, colour }] });
+      const before = openingOf(turn.state, gesture.opening);
+      if (before) change(turn, gesture.opening, { pictures: before.pictures + 1 });
+      turn.finish();
+      return isInside ? undefined : turn.first({ kind: "keep" });
+    },
   },
 };

@@ -7,13 +7,15 @@ import { pick } from "./picking.js";
 export const pile = {
   begin(turn, { x, y, pile: names }) {
     turn.set({ menu: null });
-    return turn.ask("pile", { kind: "pile", pile: names, x, y });
+    return turn.ask({ stage: "pile" }, { kind: "pile", pile: names, x, y });
   },
-  answer(turn, { x, y }, { items, isMore }) {
-    const { told } = turn.state;
-    if (items.length) turn.set({ menu: { x, y, items, isMore, told } });
-    else turn.say("Nothing lies there.");
-    return turn.finish();
+  heard: {
+    pile(turn, { x, y }, { items, isMore }) {
+      const { told } = turn.state;
+      if (items.length) turn.set({ menu: { x, y, items, isMore, told } });
+      else turn.say("Nothing lies there.");
+      return turn.finish();
+    },
   },
 };
 
@@ -26,11 +28,9 @@ export const pickListed = {
       turn.say("The board was changed meanwhile, so nothing was picked.", true);
       return turn.finish();
     }
-    pick(turn, [{ name, place }], isAdded);
-    return turn.work({ item: { name, place } });
+    return pick(turn, [{ name, place }], isAdded, { item: { name, place } });
   },
-  end(turn) {
-    const { name, place } = turn.state.work.item;
+  end(turn, gesture, { item: { name, place } }) {
     const item = turn.state.picked.find((other) => other.name === name && other.place === place);
     turn.say(item ? `${name} ${place}: ${item.words}` : "");
   },
@@ -42,10 +42,12 @@ export const gap = {
   begin(turn) {
     const { picked } = turn.state;
     if (picked.length !== 2) return turn.finish();
-    return turn.ask("gap", { kind: "gap", pair: picked.map(({ name, words }) => ({ name, words })) });
+    return turn.ask({ stage: "gap" }, { kind: "gap", pair: picked.map(({ name, words }) => ({ name, words })) });
   },
-  answer(turn, gesture, { gap: found }) {
-    turn.set({ gap: { picked: turn.state.picked, found } });
-    return turn.finish();
+  heard: {
+    gap(turn, gesture, { gap: found }) {
+      turn.set({ gap: { picked: turn.state.picked, found } });
+      return turn.finish();
+    },
   },
 };

@@ -4,6 +4,7 @@ import { isArchive } from "../zip/index.js";
 import { isPbm } from "../bytes/index.js";
 import { isJob, otherWords } from "./other_files.js";
 import { plural, recogniseFiles } from "../board/index.js";
+import { openingOf } from "./state.js";
 
 // What becomes of an opening.
 /** @type {Machine.Opening} */
@@ -21,7 +22,7 @@ const EXTRA = ["#f08cd0", "#8ce0a0", "#e0c08c", "#8cb4f0"];
 export function lookOf({ wanted, label, colour, height, isShown, fileName, origin, toldBy }, name, others) {
   const isCalledSo = others.some((other) => other.label === label);
   return { label: isCalledSo ? `${label} (${fileName})` : label, height, isShown, opacity: 0.85,
-    colour: name !== wanted ? EXTRA[others.length % EXTRA.length] : colour, file: fileName, origin, shows: wanted, toldBy };
+    colour: name !== wanted ? EXTRA[others.length % EXTRA.length] ?? colour : colour, file: fileName, origin, shows: wanted, toldBy };
 }
 
 /** @param {import("../board/index.js").Layer} layer @returns {Machine.Recognised} */
@@ -34,7 +35,7 @@ const recognised = ({ file, kind, layerFunction, toldBy }) => ({ kind, wanted: l
 /** @param {Machine.Turn} turn @param {{ files: Machine.File[], areNamed?: boolean, faults?: string[] }} given */
 export function open(turn, { files, areNamed = true, faults = [] }) {
   const opening = turn.number(), archives = files.filter(({ bytes }) => isArchive(bytes)), plain = files.filter(({ bytes }) => !isArchive(bytes));
-  const pictures = plain.filter(({ bytes }) => isPbm(bytes)), foreign = plain.filter((file) => otherWords(file) !== null);
+  const pictures = plain.filter(({ bytes }) => isPbm(bytes)), foreign = plain.filter((file) => otherWords(file));
   const { layers, others } = recogniseFiles(plain.filter((file) => !isPbm(file.bytes) && !foreign.includes(file)), areNamed);
   const given = { ...turn.state.files };
   /** @type {string[]} */
@@ -52,7 +53,7 @@ export function open(turn, { files, areNamed = true, faults = [] }) {
   const unread = archives.map(({ name }) => `${name} is a ZIP file, which is not read here: drop it on the page.`);
   // (one that comes alone, to no board, is told what it is)
   const job = layers.length || turn.state.layers.length ? foreign.filter(isJob).pop() ?? null : null;
-  const told = foreign.filter((file) => job === null || !isJob(file)).map(otherWords);
+  const told = foreign.filter((file) => job === null || !isJob(file)).flatMap((file) => otherWords(file) ?? []);
   const record = { ...BLANK, others: others.map(({ name }) => name), faults: [...faults, ...unread, ...told], job: job?.name ?? null };
   if (job) turn.set({ job: { name: job.name, bytes: job.bytes } });
   turn.set({ files: given, openings: { ...turn.state.openings, [opening]: record } });
@@ -61,17 +62,17 @@ export function open(turn, { files, areNamed = true, faults = [] }) {
   return opening;
 }
 
-/** @param {Machine.Turn} turn @param {number} opening @param {Partial<Machine.Opening>} changes */
-export function change(turn, opening, changes) {
-  const { openings } = turn.state;
-  if (openings[opening]) turn.set({ openings: { ...openings, [opening]: { ...openings[opening], ...changes } } });
+/** @param {Machine.Turn} turn @param {number | undefined} id @param {Partial<Machine.Opening>} changes */
+export function change(turn, id, changes) {
+  const before = openingOf(turn.state, id);
+  if (before && id !== undefined) turn.set({ openings: { ...turn.state.openings, [id]: { ...before, ...changes } } });
 }
 
 // Says what became of an opening when nothing of it is open any more.
-/** @param {Machine.Turn} turn @param {number} id */
+/** @param {Machine.Turn} turn @param {number | undefined} id */
 export function conclude(turn, id) {
-  const { openings, queue, questions } = turn.state, opening = openings[id];
-  if (!opening?.isDone || opening.trying || queue.some((gesture) => gesture.opening === id)
+  const { openings, queue, questions } = turn.state, opening = openingOf(turn.state, id);
+  if (id === undefined || !opening?.isDone || opening.trying || queue.some((gesture) => gesture.opening === id)
     || questions.some((question) => question.opening === id)) return;
   const { opened, refused, others, faults, pictures, converted, leftClosed, job } = opening;
   const isNothing = !pictures && !refused.length && !faults.length && !leftClosed && !job;

@@ -12,13 +12,20 @@ export const GREATEST = 5000;
 const isSame = (one, other) => one.name === other.name && one.place === other.place;
 
 // Picks items, in addition to those that are, or in their place. Of added ones those that are picked already are let go.
-/** @param {Machine.Turn} turn @param {Machine.Place[]} places @param {boolean} isAdded @param {Partial<Machine.State>} changes */
-export function pick(turn, places, isAdded, changes = {}) {
+/**
+ * @template {Machine.Gesture["kind"]} K
+ * @param {Machine.Turn<K>} turn
+ * @param {Machine.Place[]} places
+ * @param {boolean} isAdded
+ * @param {Machine.LeftOf<K>} left what the end of the gesture knows of it
+ * @param {Partial<Machine.State>} changes
+ */
+export function pick(turn, places, isAdded, left, changes = {}) {
   const { picked } = turn.state;
   const fresh = places.filter((place) => !isAdded || !picked.some((item) => isSame(item, place)));
   const kept = isAdded ? picked.filter((item) => !places.some((place) => isSame(item, place))) : [];
   const picks = [...kept, ...fresh.map((place) => ({ id: turn.number(), ...place, words: "", box: null }))];
-  lookOnly(turn, picks, { active: activeAfter(turn.state, picks[picks.length - 1]), ...changes });
+  lookOnly(turn, picks, { active: activeAfter(turn.state, picks.at(-1)), ...changes }, left);
   return picks;
 }
 
@@ -26,24 +33,25 @@ export function pick(turn, places, isAdded, changes = {}) {
 export const pickAt = {
   begin(turn, { x, y, reach, isAdded, pile }) {
     const { click, picked } = turn.state;
-    const isAgain = click !== null && !isAdded && Math.hypot(click.x - x, click.y - y) <= reach
-      && picked.length === 1 && picked[0].id === click.id;
-    const below = isAgain ? { name: picked[0].name, place: picked[0].place } : null;
-    turn.ask("under", { kind: "under", pile, x, y, below });
+    const [one] = picked.length === 1 ? picked : [];
+    const isAgain = click !== null && !isAdded && Math.hypot(click.x - x, click.y - y) <= reach && one?.id === click.id;
+    const below = isAgain && one ? { name: one.name, place: one.place } : null;
+    turn.ask({ stage: "under" }, { kind: "under", pile, x, y, below });
   },
-  answer(turn, { x, y, isAdded }, { found }) {
-    if (!found && isAdded) {
-      turn.say("Nothing lies there.");
-      return turn.finish();
-    }
-    const picks = pick(turn, found ? [found] : [], isAdded);
-    const item = found && picks.find((other) => isSame(other, found));
-    turn.set({ click: item ? { x, y, id: item.id } : null });
-    return turn.work({ found });
+  heard: {
+    under(turn, { x, y, isAdded }, { found }) {
+      if (!found && isAdded) {
+        turn.say("Nothing lies there.");
+        return turn.finish();
+      }
+      const picks = pick(turn, found ? [found] : [], isAdded, { found });
+      const item = found && picks.find((other) => isSame(other, found));
+      return turn.set({ click: item ? { x, y, id: item.id } : null });
+    },
   },
-  end(turn) {
-    const { found } = turn.state.work, item = found && turn.state.picked.find((other) => isSame(other, found));
-    turn.say(item ? `${found.name} ${found.place}: ${item.words}` : found ? "" : "Nothing lies there.");
+  end(turn, gesture, { found }) {
+    const item = found && turn.state.picked.find((other) => isSame(other, found));
+    turn.say(item ? `${item.name} ${item.place}: ${item.words}` : found ? "" : "Nothing lies there.");
   },
 };
 
@@ -51,19 +59,19 @@ export const pickAt = {
 /** @type {Machine.Kind<"pickIn">} */
 export const pickIn = {
   begin(turn, { box, pile, isTouched = false }) {
-    turn.ask("inside", { kind: isTouched ? "touched" : "inside", names: pile, box, most: GREATEST });
+    turn.ask({ stage: "inside" }, { kind: isTouched ? "touched" : "inside", names: pile, box, most: GREATEST });
   },
-  answer(turn, { isAdded, isTouched }, { places }) {
-    if (places.length > GREATEST) {
-      const count = isTouched ? `More than ${plural(GREATEST, "item")}` : plural(places.length, "item");
-      turn.say(`${count} lie there, and ${GREATEST} are the most that can be picked: draw a smaller box.`, true);
-      return turn.finish();
-    }
-    pick(turn, places, isAdded);
-    return turn.work({ count: places.length });
+  heard: {
+    inside(turn, { isAdded, isTouched }, { places }) {
+      if (places.length > GREATEST) {
+        const count = isTouched ? `More than ${plural(GREATEST, "item")}` : plural(places.length, "item");
+        turn.say(`${count} lie there, and ${GREATEST} are the most that can be picked: draw a smaller box.`, true);
+        return turn.finish();
+      }
+      return pick(turn, places, isAdded, { count: places.length });
+    },
   },
-  end(turn, { isTouched }) {
-    const { count } = turn.state.work;
+  end(turn, { isTouched }, { count }) {
     const none = isTouched ? "The box touches no item." : "No item lies completely in the box.";
     turn.say(count ? `${plural(count, "item")} picked.` : none);
   },
@@ -72,25 +80,25 @@ export const pickIn = {
 // Places of layers, or all of a layer.
 /** @type {Machine.Kind<"picks">} */
 export const picks = {
-  begin(turn, { places, all, isAdded = false, isShown = false, isLed = false }) {
-    const { state } = turn, wanted = all === undefined ? places : placesOf(layerOf(state, all));
-    const layer = wanted.length === 1 ? layerOf(state, wanted[0].name) : null;
-    if (isShown && (!layer || wanted[0].place >= layer.items)) {
-      turn.say(`${wanted[0].name} has no item ${wanted[0].place}.`, true);
+  begin(turn, gesture) {
+    const { isAdded = false, isShown = false, isLed = false } = gesture, { state } = turn;
+    const wanted = gesture.places ?? placesOf(layerOf(state, gesture.all)), [one] = wanted.length === 1 ? wanted : [];
+    const layer = one ? layerOf(state, one.name) : null;
+    if (isShown && one && (!layer || one.place >= layer.items)) {
+      turn.say(`${one.name} has no item ${one.place}.`, true);
       return turn.finish();
     }
     if (wanted.length > GREATEST) {
-      turn.say(`${all} has more than ${GREATEST} items, too many to pick at once.`, true);
+      turn.say(`${gesture.all} has more than ${GREATEST} items, too many to pick at once.`, true);
       return turn.finish();
     }
     const layers = isShown ? state.layers.map((other) => other === layer ? { ...other, isShown: true } : other) : state.layers;
-    pick(turn, wanted, isAdded, { layers });
-    return turn.work({ isLed });
+    return pick(turn, wanted, isAdded, { isLed }, { layers });
   },
-  end(turn) {
-    if (turn.state.work.isLed) turn.send({ to: "page", kind: "show picked" });
+  end(turn, gesture, { isLed }) {
+    if (isLed) turn.send({ to: "page", kind: "show picked" });
   },
 };
 
 /** @param {Machine.Layer | null} layer */
-const placesOf = (layer) => Array.from({ length: layer?.items ?? 0 }, (_, place) => ({ name: layer.name, place }));
+const placesOf = (layer) => layer ? Array.from({ length: layer.items }, (_, place) => ({ name: layer.name, place })) : [];

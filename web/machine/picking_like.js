@@ -9,7 +9,7 @@ const WITHOUT = new Set(["region", "repeat"]);
 // What an item is like by: its kind, or the number of its aperture or tool; null where it has none.
 /** @param {Machine.Picked} item @param {string} by */
 function keyOf({ words }, by) {
-  const [kind, number] = words.split(" ", 2);
+  const [kind = "", number] = words.split(" ", 2);
   if (by === "kind") return kind || null;
   return WITHOUT.has(kind) ? null : number ?? null;
 }
@@ -18,23 +18,27 @@ function keyOf({ words }, by) {
 export const pickLike = {
   begin(turn, { by, of: given = null }) {
     const { picked } = turn.state;
-    const of = given ?? picked.map((item) => ({ name: item.name, key: keyOf(item, by) })).filter(({ key }) => key !== null);
+    const of = given ?? picked.flatMap((item) => {
+      const key = keyOf(item, by);
+      return key === null ? [] : [{ name: item.name, key }];
+    });
     if (!of.length) {
       turn.say(picked.length ? "What is picked has no aperture and no tool." : "Pick an item first, then all that is like it.",
         true);
       return turn.finish();
     }
-    return turn.ask("like", { kind: "like", by, of, most: GREATEST });
+    return turn.ask({ stage: "like" }, { kind: "like", by, of, most: GREATEST });
   },
-  answer(turn, gesture, { places }) {
-    if (places.length > GREATEST) {
-      turn.say(`More than ${GREATEST} items are like it, too many to pick at once.`, true);
-      return turn.finish();
-    }
-    pick(turn, places, false);
-    return turn.work({ count: places.length });
+  heard: {
+    like(turn, gesture, { places }) {
+      if (places.length > GREATEST) {
+        turn.say(`More than ${GREATEST} items are like it, too many to pick at once.`, true);
+        return turn.finish();
+      }
+      return pick(turn, places, false, { count: places.length });
+    },
   },
-  end(turn) {
-    turn.say(`${plural(turn.state.work.count, "item")} picked.`);
+  end(turn, gesture, { count }) {
+    turn.say(`${plural(count, "item")} picked.`);
   },
 };

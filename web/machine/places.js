@@ -6,7 +6,7 @@ import { firstWord, wordsOf } from "./steps.js";
 // leaves all where they are.
 /** @param {string} line @returns {Machine.Shift | null} */
 function shiftOf(line) {
-  const [verb, name, place, to] = wordsOf(line);
+  const [verb, name = "", place, to] = wordsOf(line);
   switch (verb) {
     case "insert": return { name, from: null, to: Number(place) };
     case "delete": return { name, from: Number(place), to: null };
@@ -35,23 +35,22 @@ function shifted(picks, shift) {
   return left;
 }
 
-/** @param {Machine.Picked[]} picks @param {string[]} lines */
-const forth = (picks, lines) => lines.map(shiftOf).filter((shift) => shift).reduce(shifted, picks);
+/** @param {string[]} lines */
+const shiftsOf = (lines) => lines.flatMap((line) => shiftOf(line) ?? []);
 
 /** @param {Machine.Picked[]} picks @param {string[]} lines */
-const back = (picks, lines) => lines.map(shiftOf).filter((shift) => shift).reverse()
-  .reduce((left, { name, from, to }) => shifted(left, { name, from: to, to: from }), picks);
+const forth = (picks, lines) => shiftsOf(lines).reduce(shifted, picks);
+
+/** @param {Machine.Picked[]} picks @param {string[]} lines */
+const back = (picks, lines) => shiftsOf(lines).reverse().reduce((left, { name, from, to }) => shifted(left, { name, from: to, to: from }), picks);
 
 // The picks after an accepted line; `steps` are what could be undone and redone before it.
 /** @param {Machine.Picked[]} picks @param {string} line @param {Machine.Steps} steps */
 export function follow(picks, line, steps) {
   switch (firstWord(line)) {
-    case "undo": return back(picks, steps.done[steps.done.length - 1].lines);
-    case "redo": return forth(picks, steps.undone[steps.undone.length - 1].lines);
+    case "undo": return back(picks, steps.done.at(-1)?.lines ?? []);
+    case "redo": return forth(picks, steps.undone.at(-1)?.lines ?? []);
     case "abort": return back(picks, steps.group ?? []);
-    case "insert":
-    case "delete":
-    case "reorder": return shifted(picks, shiftOf(line));
-    default: return picks;
+    default: return forth(picks, [line]);
   }
 }

@@ -22,7 +22,7 @@ export function advice(code, kind = "gerber") {
 // A refused load, of its reply and its bytes.
 /** @param {string} reply @param {Uint8Array} bytes @param {string} kind */
 export function refusalWords(reply, bytes, kind) {
-  const [, code, at] = reply.split(" ").map(Number);
+  const [, code = NaN, at] = reply.split(" ").map(Number);
   const words = `refused ${code}, ${advice(code, kind)}`;
   if (Number.isNaN(at) || at === undefined) return words;
   const { line, column } = placeOf(bytes, at);

@@ -27,8 +27,8 @@ export function after({ done, undone, group }, { line }, isReal) {
     case "begin": return { done, undone, group: { isAny: false, isReal: false } };
     case "end": return group?.isAny ? { done: [...done, group.isReal], undone: [], group: null } : { done, undone, group: null };
     case "abort": return { done, undone, group: null };
-    case "undo": return { done: done.slice(0, -1), undone: [...undone, done[done.length - 1]], group };
-    case "redo": return { done: [...done, undone[undone.length - 1]], undone: undone.slice(0, -1), group };
+    case "undo": return { done: done.slice(0, -1), undone: [...undone, ...done.slice(-1)], group };
+    case "redo": return { done: [...done, ...undone.slice(-1)], undone: undone.slice(0, -1), group };
     case "load": return NO_STEPS;
     default: return { done, undone, group };
   }
@@ -37,7 +37,7 @@ export function after({ done, undone, group }, { line }, isReal) {
 /** @param {Machine.Real} steps @param {string} line */
 export function isGhost({ done, undone }, line) {
   const word = firstWord(line);
-  return word === "undo" && done[done.length - 1] === false || word === "redo" && undone[undone.length - 1] === false;
+  return word === "undo" && done.at(-1) === false || word === "redo" && undone.at(-1) === false;
 }
 
 // Which of the entries are sent next, where all of them are accepted.
@@ -53,13 +53,22 @@ export function plan(entries, steps) {
 }
 
 // What became of them: those up to the first that is refused now, which becomes a refused one, and the rest.
-/** @param {Machine.Told[]} entries @param {boolean[]} isSent @param {Machine.Applied[]} answers @param {Machine.Real} steps */
+/**
+ * @param {Machine.Told[]} entries
+ * @param {boolean[]} isSent
+ * @param {Machine.Applied[]} answers
+ * @param {Machine.Real} steps
+ * @returns {{ made: Machine.Told[], spoiled: Machine.State["spoiled"], rest: Machine.Told[], steps: Machine.Real }}
+ */
 export function absorbed(entries, isSent, answers, steps) {
-  const made = [], spoiled = [];
+  /** @type {Machine.Told[]} */
+  const made = [];
+  /** @type {Machine.State["spoiled"]} */
+  const spoiled = [];
   let now = steps, at = 0;
-  for (let k = 0; k < entries.length; k++) {
-    const entry = entries[k], answer = isSent[k] ? answers[at++] : null;
-    if (isSent[k] && !answer) return { made, spoiled, rest: entries.slice(k), steps: now };
+  for (const [k, entry] of entries.entries()) {
+    const answer = isSent[k] ? answers[at++] : null;
+    if (answer === undefined) return { made, spoiled, rest: entries.slice(k), steps: now };
     if (!isPlayed(entry)) {
       made.push(entry);
       continue;

@@ -1,44 +1,44 @@
 // The lines of the script, played in a fresh station: when the page is opened again, or after the station stopped.
 
 import { NO_STEPS, absorbed, plan } from "./replay.js";
-import { DEPTH } from "./state.js";
+import { DEPTH, bytesOf } from "./state.js";
 import { Steps, firstWord, wordsOf } from "./steps.js";
 import { lookOnly } from "./settling.js";
+import { named } from "./named.js";
 import { plural } from "../board/index.js";
 import { readLater } from "./attributes.js";
 import { withFunctions } from "./functions.js";
 import { showIfAllHidden } from "./seeking.js";
 import { loaded, taken } from "./taking.js";
 
-/** @param {Machine.Turn} turn @returns {unknown} */
-function sendRest(turn) {
-  const { rest, steps } = turn.state.work, { files } = turn.state, isSent = plan(rest, steps);
-  turn.work({ isSent });
-  if (!isSent.includes(true)) return finishRest(turn, []);
-  return turn.apply(rest.filter((_, at) => isSent[at]).map(({ line, file }) =>
-    ({ line, bytes: file === undefined ? undefined : files[file]?.bytes })));
+/** @param {Machine.Turn<"replay">} turn @param {Machine.Replaying} at @returns {unknown} */
+function sendRest(turn, at) {
+  const { rest, steps } = at, { files } = turn.state, isSent = plan(rest, steps);
+  if (!isSent.includes(true)) return finishRest(turn, { ...at, isSent }, []);
+  return turn.apply({ stage: "lines", isGroup: false, ...at, isSent }, rest.filter((_, place) => isSent[place]).map(({ line, file }) =>
+    ({ line, bytes: bytesOf(files, file) })));
 }
 
-/** @param {Machine.Turn} turn @param {Machine.Applied[]} answers */
-function finishRest(turn, answers) {
-  const { rest, isSent, steps, made, spoiled } = turn.state.work, found = absorbed(rest, isSent, answers, steps);
-  turn.work({ rest: found.rest, steps: found.steps, made: [...made, ...found.made], spoiled: [...spoiled, ...found.spoiled] });
-  return found.rest.length ? sendRest(turn) : rebuild(turn);
+/** @param {Machine.Turn<"replay">} turn @param {Machine.Replaying & { isSent: boolean[] }} at @param {Machine.Applied[]} answers */
+function finishRest(turn, { rest, isSent, steps, made, spoiled }, answers) {
+  const found = absorbed(rest, isSent, answers, steps);
+  const now = { rest: found.rest, steps: found.steps, made: [...made, ...found.made], spoiled: [...spoiled, ...found.spoiled] };
+  return found.rest.length ? sendRest(turn, now) : rebuild(turn, now);
 }
 
 // The document is now what these lines made.
-/** @param {Machine.Turn} turn */
-function rebuild(turn) {
-  const { made, spoiled } = turn.state.work, { state } = turn;
-  const blank = { ...state, told: [], steps: new Steps(DEPTH), saved: {}, picked: [], hasWindow: false, entries: {},
-    attributes: {} };
+/** @param {Machine.Turn<"replay">} turn @param {Machine.Replaying} at */
+function rebuild(turn, { made, spoiled }) {
+  const { state } = turn;
+  const blank = { ...state, told: [], steps: new Steps(DEPTH), saved: named(), picked: [], hasWindow: false, entries: named(),
+    attributes: named() };
   const parts = { ...taken(blank, made), ...loaded(blank, made) };
   const names = new Set(made.filter(({ line, reply }) => reply.startsWith("ok") && firstWord(line) === "load")
     .map(({ line }) => wordsOf(line)[1]));
   const layers = withFunctions(parts.layers.filter(({ name }) => names.has(name)), parts.steps);
   turn.set({ ...parts, picked: state.picked, layers,
     spoiled: [...state.spoiled, ...spoiled] });
-  lookOnly(turn, state.picked);
+  lookOnly(turn, state.picked, {}, { isSpoiled: spoiled.length > 0 });
 }
 
 /** @type {Machine.Kind<"replay">} */
@@ -46,17 +46,14 @@ export const replay = {
   begin(turn) {
     const { told } = turn.state;
     if (!told.length) return turn.finish();
-    turn.work({ rest: told, made: [], spoiled: [], steps: NO_STEPS });
-    return sendRest(turn);
+    return sendRest(turn, { rest: told, made: [], spoiled: [], steps: NO_STEPS });
   },
-  answer(turn, gesture, { answers }) {
-    finishRest(turn, answers);
-  },
+  heard: { lines: (turn, gesture, { answers }, at) => finishRest(turn, at, answers) },
   // What was spoiled is kept as what it is now, so that it is left out the next time.
-  end(turn, { isFitted, isAgain }) {
-    const { state } = turn, { kept } = state;
-    if (state.work.spoiled.length && kept.isOpen && !kept.isLost) turn.first({ kind: "keep", isAnew: true });
-    if (isFitted) turn.first({ kind: "fit", names: undefined });
+  end(turn, { isFitted, isAgain }, { isSpoiled }) {
+    const { kept } = turn.state;
+    if (isSpoiled && kept.isOpen && !kept.isLost) turn.first({ kind: "keep", isAnew: true });
+    if (isFitted) turn.first({ kind: "fit" });
     if (!isAgain) showIfAllHidden(turn);
   },
   finished(turn, { isAgain }) {

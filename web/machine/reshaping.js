@@ -6,7 +6,7 @@ import { tooLong } from "./arranging.js";
 export function reshape({ picked, steps }, { was, words }) {
   const [item] = picked;
   if (steps.group) return { why: "A group is open: end it first." };
-  if (picked.length !== 1 || item.words !== was) return { why: "What was picked is another by now, so nothing was done." };
+  if (!item || picked.length !== 1 || item.words !== was) return { why: "What was picked is another by now, so nothing was done." };
   if (words === null) return { why: "No arc goes through these points, so nothing was done." };
   if (words === was) return { lines: [] };
   const { name, place } = item, lines = [`delete ${name} ${place}`, `insert ${name} ${place} ${words}`];

@@ -1,6 +1,7 @@
 // A page that would show nothing of its board shows all of it: layers that are all hidden, and a view that lies elsewhere.
 
 import { boxOf, boxOfWindow, joined } from "../board/index.js";
+import { pairs } from "./pairs.js";
 import { shownLayers } from "./state.js";
 
 // The layers whose boxes are the board's: the outline alone where it has items.
@@ -34,14 +35,15 @@ export const seek = {
   begin(turn) {
     const names = shownLayers(turn.state).filter(isSeen).map(({ name }) => name);
     if (!names.length || turn.state.comparison) return turn.finish();
-    turn.work({ names });
-    return turn.ask("boxes", { kind: "boxes", names });
+    return turn.ask({ stage: "boxes", names }, { kind: "boxes", names });
   },
-  answer(turn, gesture, { boxes: lines }) {
-    const { state } = turn, { names } = state.work, boxes = lines.map(boxOf), main = boxNames(shownLayers(state));
-    const whole = joined(boxes.filter((_, at) => main.includes(names[at]))) ?? joined(boxes);
-    const pictures = state.opened.filter(({ isShown }) => isShown).map(({ window }) => boxOfWindow(window));
-    if (whole) turn.send({ to: "page", kind: "seek", boxes: [...boxes, ...pictures].filter((box) => box), whole });
-    turn.finish();
+  heard: {
+    boxes(turn, gesture, { boxes: lines }, { names }) {
+      const { state } = turn, boxes = lines.map(boxOf), main = boxNames(shownLayers(state));
+      const whole = joined(pairs(names, boxes).flatMap(([name, box]) => main.includes(name) ? [box] : [])) ?? joined(boxes);
+      const pictures = state.opened.filter(({ isShown }) => isShown).map(({ window }) => boxOfWindow(window));
+      if (whole) turn.send({ to: "page", kind: "seek", boxes: [...boxes.flatMap((box) => box ?? []), ...pictures], whole });
+      turn.finish();
+    },
   },
 };

@@ -1,6 +1,7 @@
 // What the page knows: one plain object, of which `step` makes the next one. Nothing of it is changed in place.
 
 import { Steps } from "./steps.js";
+import { named } from "./named.js";
 
 // How many steps the station can undo.
 export const DEPTH = 1000;
@@ -16,7 +17,7 @@ export const firstState = () => ({
   layers: [],
   told: [],
   steps: new Steps(DEPTH),
-  saved: {},
+  saved: named(),
   unsaved: 0,
   hasWindow: false,
   // What is picked, { id, name, place, words, box }, in the order of picking: `id` is the pick's own for as long as it lasts.
@@ -28,8 +29,8 @@ export const firstState = () => ({
   // entries and attributes of layers; and the part of the active layer's items that is listed.
   active: null,
   entry: null,
-  entries: {},
-  attributes: {},
+  entries: named(),
+  attributes: named(),
   list: { isOpen: false, from: 0, words: [], name: null },
   // The tool, the points of what is drawn by it, { points, centre }, the settings of new items, and the unit of lengths.
   tool: "pick",
@@ -47,7 +48,7 @@ export const firstState = () => ({
   // of which they are, what they found by the layers' names, and the items of what is lit, { name, number, items }.
   menu: null,
   gap: null,
-  tables: { isDrill: false, isApertures: false, told: null, found: {}, lit: null },
+  tables: { isDrill: false, isApertures: false, told: null, found: named(), lit: null },
   // The one item that is picked in words, { id, told, unit, words }; all items that share something and are lit, { of, told,
   // items, entries }; and the job file that came along, { name, bytes }.
   inWords: null,
@@ -62,7 +63,7 @@ export const firstState = () => ({
   // The files that were given, by number, { name, bytes }; the number of each path of the script; the pictures beside the
   // layers; the files that were refused; and what became of each opening.
   files: {},
-  paths: {},
+  paths: named(),
   opened: [],
   windows: [],
   refused: [],
@@ -96,8 +97,16 @@ export const firstState = () => ({
   next: 1,
 });
 
-/** @param {Machine.State} state @param {string} name */
+/** @param {Pick<Machine.State, "layers">} state @param {string | null} name */
 export const layerOf = ({ layers }, name) => layers.find((layer) => layer.name === name) ?? null;
+
+// What becomes of the opening of a number; undefined where there is none.
+/** @param {Pick<Machine.State, "openings">} state @param {number | undefined} id */
+export const openingOf = ({ openings }, id) => id === undefined ? undefined : openings[id];
+
+// The bytes of a file by its number; undefined where there is none.
+/** @param {Machine.State["files"]} files @param {string | undefined} id */
+export const bytesOf = (files, id) => id === undefined ? undefined : files[id]?.bytes;
 
 /** @type {(state: Machine.State) => boolean} whether the side of the board is shown as it will be made, and not the layers */
 export const isMadeShown = ({ made, comparison }) => made.isShown && comparison === null;
@@ -112,7 +121,7 @@ export const drawnLayers = (state) => state.comparison?.layers
 
 // Whether many files are on their way into the station, so that nothing is drawn yet.
 /** @param {Machine.State} state */
-export const isOpening = ({ work, queue }) => ["load", "replay"].includes(work?.gesture.kind) && work.stage !== "asking"
+export const isOpening = ({ work, queue }) => work !== null && ["load", "replay"].includes(work.gesture.kind) && work.stage !== "asking"
   || queue.some(({ kind }) => kind === "load" || kind === "replay");
 
 // Whether nothing is under way, nothing waits, and no refused file is still tried.
@@ -123,12 +132,12 @@ export const isIdle = ({ work, queue, station, openings }) => work === null && (
 // Whether lines or files wait for a station that stopped: they are kept nowhere, and are in this page alone.
 /** @param {Machine.State} state */
 export const waitsForStation = ({ queue, station }) => station.why !== null
-  && queue.some((gesture) => ["edit", "lines"].includes(gesture.kind) || gesture.kind === "keep" && gesture.files?.length > 0);
+  && queue.some((gesture) => ["edit", "lines"].includes(gesture.kind) || gesture.kind === "keep" && (gesture.files ?? []).length > 0);
 
 // Whether nothing was done yet.
 /** @param {Machine.State} state */
 export const isBlank = (state) => state.work === null
-  && ["told", "queue", "refused", "opened", "questions"].every((part) => state[part].length === 0);
+  && [state.told, state.queue, state.refused, state.opened, state.questions].every(({ length }) => length === 0);
 
 // The script as a file: what was accepted, and what was refused as comments.
 /** @param {Machine.State} state */

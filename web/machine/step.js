@@ -4,39 +4,41 @@
 
 import { breakOff } from "./loading.js";
 import { conclude, open } from "./opening.js";
-import { isSettled, see } from "./settling.js";
+import { see } from "./settling.js";
 import { unwritten, written } from "./keeping.js";
 import { Turn } from "./turn.js";
 import { begin } from "./beginning.js";
 import { immediate } from "./immediate.js";
 import { kinds } from "./kinds.js";
 
-/** @type {(gesture: Machine.Gesture) => Machine.AnyKind} */
-const kindOf = ({ kind }) => kinds[kind];
+// (what a gesture's own kind does is never done with another gesture)
+/** @param {Machine.Gesture} gesture */
+const kindOf = ({ kind }) => /** @type {Machine.AnyKind} */ (/** @type {unknown} */ (kinds[kind]));
 
 // A gesture ends when its lines are kept and what came of them was seen.
 /** @param {Machine.Turn} turn */
 function endIfSettled(turn) {
-  if (!isSettled(turn.state)) return;
-  const { gesture, result } = turn.state.work;
-  if (kindOf(gesture).end?.(turn, gesture) === "more") return;
-  if (turn.state.work) turn.finish(result ?? null);
+  const { work } = turn.state;
+  if (work?.stage !== "settling" || !work.isSeen || !work.isKept) return;
+  const { gesture, result, left } = work;
+  if (kindOf(gesture).end?.(turn, gesture, left) === "more") return;
+  if (turn.state.work) turn.finish(result);
 }
 
 // Begins the next gesture where none is under way.
 /** @param {Machine.Turn} turn */
 function goOn(turn) {
-  while (!turn.state.work && turn.state.queue.length && turn.state.station.isOpen) {
-    const [gesture, ...queue] = turn.state.queue, number = turn.number();
-    turn.set({ queue, work: { number, gesture: { id: number, ...gesture }, stage: "begun" } });
-    attend(turn, () => kindOf(gesture).begin(turn, turn.state.work.gesture));
+  for (let [next] = turn.state.queue; next && !turn.state.work && turn.state.station.isOpen; [next] = turn.state.queue) {
+    const number = turn.number(), gesture = { id: number, ...next };
+    turn.set({ queue: turn.state.queue.slice(1), work: { number, gesture, stage: "begun" } });
+    attend(turn, () => kindOf(gesture).begin(turn, gesture));
   }
 }
 
 // Runs a part of a gesture, and what belongs to its end.
 /** @param {Machine.Turn} turn @param {() => unknown} run */
 function attend(turn, run) {
-  const { gesture } = turn.state.work;
+  const { gesture } = turn.underWay;
   run();
   if (turn.state.work) endIfSettled(turn);
   if (!turn.state.work) kindOf(gesture).finished?.(turn, gesture);
@@ -45,13 +47,17 @@ function attend(turn, run) {
 /** @param {Machine.State} state @param {{ number: number }} event */
 const isOfWork = ({ work }, { number }) => work !== null && work.number === number;
 
+// What the gesture under way does with what it waits for; where it waits for nothing, it does not hear it.
+/** @param {Machine.Turn} turn @param {Machine.Work} work @param {Machine.Heard} answer */
+const hear = (turn, work, answer) => kindOf(work.gesture).heard?.[work.stage]?.(turn, work.gesture, answer, work);
+
 /** @param {Machine.Turn} turn @param {Machine.Events["answer"]} event */
 function answered(turn, event) {
   if (!isOfWork(turn.state, event)) return;
   attend(turn, () => {
-    const { gesture, stage } = turn.state.work;
-    if (stage === "settling") return see(turn, /** @type {Machine.Looked} */ (event.answer));
-    return kindOf(gesture).answer(turn, gesture, /** @type {Machine.Heard[keyof Machine.Heard]} */ (event.answer));
+    const work = turn.underWay;
+    if (work.stage === "settling") return see(turn, /** @type {Machine.Looked} */ (event.answer));
+    return hear(turn, work, event.answer);
   });
 }
 
@@ -61,8 +67,8 @@ function kept(turn, event) {
   else unwritten(turn, event);
   if (!isOfWork(turn.state, event)) return;
   attend(turn, () => {
-    if (turn.state.work.stage === "kept") turn.finish();
-    else turn.work({ isKept: true });
+    if (turn.underWay.stage === "kept") turn.finish();
+    else turn.settling({ isKept: true });
   });
 }
 
@@ -74,7 +80,7 @@ function replied(turn, event) {
   turn.set({ questions: turn.state.questions.filter((other) => other !== question) });
   const { work } = turn.state;
   if (question.gesture !== undefined && work?.gesture.id === question.gesture) {
-    attend(turn, () => kindOf(work.gesture).replied(turn, work.gesture, event));
+    attend(turn, () => hear(turn, work, event));
   } else {
     immediate.replied(turn, question, event);
   }
@@ -99,10 +105,9 @@ function stopped(turn, { why }) {
 /** @param {Machine.Turn} turn */
 function drop(turn) {
   const { work } = turn.state;
-  if (work.stage === "kept") return;
-  if (work.stage !== "settling") turn.finish();
-  else if (work.isKept) turn.finish();
-  else turn.work({ stage: "kept" });
+  if (!work || work.stage === "kept") return;
+  if (work.stage === "settling" && !work.isKept) turn.work({ stage: "kept" });
+  else turn.finish();
 }
 
 // Another station takes the place of this one, which answers nothing any more, and may be under way.

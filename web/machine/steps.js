@@ -15,20 +15,25 @@ export const firstWord = (line) => /\S+/.exec(line)?.[0] ?? "";
 /** @param {string} line */
 export const wordsOf = (line) => line.trim().split(/[ \t]+/);
 
+// The layer that a line names behind its verb; "" where it names none, which no layer is called.
+/** @param {string} line */
+export const layerIn = (line) => wordsOf(line)[1] ?? "";
+
 // Whether edits take items out and put others in their places.
 /** @param {string[][]} edits */
 const areInPlace = (edits) => edits.length % 2 === 0 && edits.every(([verb, layer, place], at) => at % 2 === 0 ? verb === "delete"
-  : verb === "insert" && layer === edits[at - 1][1] && place === edits[at - 1][2]);
+  : verb === "insert" && layer === edits[at - 1]?.[1] && place === edits[at - 1]?.[2]);
 
 // A step in words, of its lines.
 /** @param {string[]} lines */
 export function stepWords(lines) {
-  const edits = lines.filter(isEdit).map(wordsOf);
-  if (edits.length === 0) return "nothing";
-  const [verb, layer, place, ...rest] = edits[0];
+  const edits = lines.filter(isEdit).map(wordsOf), [first] = edits;
+  if (!first) return "nothing";
+  const [verb, layer, place, ...rest] = first;
   const isSame = edits.every((words) => words[0] === verb);
   if (areInPlace(edits)) return `replace ${plural(edits.length / 2, "item")}`;
   if (edits.length > 1) return isSame ? `${verb} ${plural(edits.length, "item")}` : plural(edits.length, "edit");
+  /** @param {string | undefined} text */
   const length = (text) => `${Number(text) / 1e6}`;
   switch (verb) {
     case "move": return `move ${layer} ${place} by ${length(rest[0])}, ${length(rest[1])} mm`;
@@ -57,7 +62,13 @@ export class Steps {
   /** @param {number} depth */
   constructor(depth) {
     this.depth = depth;
-    this.clear();
+    /** @type {Machine.Step[]} */
+    this.done = [];
+    /** @type {Machine.Step[]} */
+    this.undone = [];
+    // The lines of the open group, where it began, and the step that it becomes.
+    /** @type {Machine.Group | null} */
+    this.open = null;
     // The last edit that is in the document, with those before it: an undo goes back on this way, another edit then leaves
     // it.
     this.at = START;
@@ -66,21 +77,18 @@ export class Steps {
   // One to go on with, while this one stays as it is.
   /** @returns {Steps} */
   copy() {
-    return Object.assign(Object.create(Steps.prototype), this, { group: this.group?.slice() ?? null });
+    return Object.assign(Object.create(Steps.prototype), this, { open: this.open && { ...this.open, lines: [...this.open.lines] } });
+  }
+
+  // The lines of the open group; null where none is open.
+  get group() {
+    return this.open?.lines ?? null;
   }
 
   clear() {
-    /** @type {Machine.Step[]} */
     this.done = [];
-    /** @type {Machine.Step[]} */
     this.undone = [];
-    // The lines of the open group, where it began, and the step that it becomes.
-    /** @type {string[] | null} */
-    this.group = null;
-    /** @type {Machine.Way | null} */
-    this.from = null;
-    /** @type {object | null} */
-    this.step = null;
+    this.open = null;
   }
 
   // Takes in a line that the station accepted.
@@ -88,32 +96,32 @@ export class Steps {
   take(line) {
     const word = firstWord(line);
     if (EDITS.has(word)) {
-      if (this.group) {
-        this.group.push(line);
-        this.go(line, this.step);
+      if (this.open) {
+        this.open.lines.push(line);
+        this.go(line, this.open.step);
       } else {
         const from = this.at;
         this.go(line, {});
         this.push([line], from);
       }
     } else if (word === "begin") {
-      this.group = [];
-      this.from = this.at;
-      this.step = {};
+      this.open = { lines: [], from: this.at, step: {} };
     } else if (word === "end") {
-      const lines = this.group ?? [];
-      this.group = null;
-      if (lines.length) this.push(lines, this.from);
+      const { open } = this;
+      this.open = null;
+      if (open?.lines.length) this.push(open.lines, open.from);
     } else if (word === "abort") {
-      this.group = null;
-      this.at = this.from ?? this.at;
+      this.at = this.open?.from ?? this.at;
+      this.open = null;
     } else if (word === "undo") {
-      const step = this.done[this.done.length - 1];
+      const step = this.done.at(-1);
+      if (!step) return;
       this.done = this.done.slice(0, -1);
       this.undone = [...this.undone, step];
       this.at = step.from;
     } else if (word === "redo") {
-      const step = this.undone[this.undone.length - 1];
+      const step = this.undone.at(-1);
+      if (!step) return;
       this.undone = this.undone.slice(0, -1);
       this.done = [...this.done, step];
       this.at = step.at;
@@ -125,7 +133,7 @@ export class Steps {
   // Goes one edit on. The edits of a group are of one step.
   /** @param {string} line @param {object} step */
   go(line, step) {
-    const { at } = this, [, layer] = wordsOf(line), fields = fieldsIn(line);
+    const { at } = this, layer = layerIn(line), fields = fieldsIn(line);
     this.at = { before: at, length: at.length + 1, layer, step,
       functions: fields === undefined ? at.functions : { before: at.functions, layer, fields } };
   }
@@ -141,10 +149,10 @@ export class Steps {
   // is named.
   /** @param {Record<string, Machine.Way>} saved @param {string | null} name */
   unsaved(saved, name = null) {
-    const found = new Set(), placeOf = (layer) => Object.hasOwn(saved, layer) ? saved[layer] : START;
+    const found = new Set(), places = new Map(Object.entries(saved));
     for (const from of new Set([START, ...Object.values(saved)])) {
       for (const { layer, step } of between(from, this.at)) {
-        if (placeOf(layer) === from && (name === null || layer === name)) found.add(step);
+        if ((places.get(layer ?? "") ?? START) === from && (name === null || layer === name)) found.add(step);
       }
     }
     return found.size;
@@ -156,8 +164,11 @@ export class Steps {
 function between(one, other) {
   /** @type {Machine.Way[]} */
   const found = [];
-  let a = one, b = other;
-  while (a !== b) {
+  /** @type {Machine.Way | null} */
+  let a = one;
+  /** @type {Machine.Way | null} */
+  let b = other;
+  while (a && b && a !== b) {
     if (a.length >= b.length) {
       found.push(a);
       a = a.before;

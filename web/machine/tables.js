@@ -2,6 +2,7 @@
 
 import { boxOf, entriesFrom } from "../board/index.js";
 import { layerOf } from "./state.js";
+import { named } from "./named.js";
 
 // The layers of the tables that are open: all drill layers, and the chosen layer where it is a Gerber one.
 /** @param {Machine.State} state */
@@ -20,13 +21,15 @@ export const tally = {
     const { lit } = tables, names = tabled(turn.state).filter((name) => layerOf(turn.state, name));
     if (!names.length && !lit) return turn.finish();
     const isLit = lit !== null && layerOf(turn.state, lit.name) !== null;
-    return turn.ask("tally", { kind: "tally", names, lit: isLit ? { name: lit.name, number: lit.number } : null });
+    return turn.ask({ stage: "tally" }, { kind: "tally", names, lit: isLit ? { name: lit.name, number: lit.number } : null });
   },
-  answer(turn, gesture, { layers, lit }) {
-    const { tables, told } = turn.state;
-    const items = (lit ?? []).map((item) => ({ ...item, box: boxOf(item.box) }));
-    turn.set({ tables: { ...tables, told, lit: lit ? { ...tables.lit, items } : null,
-      found: Object.fromEntries(Object.entries(layers).map(([name, found]) => [name, described(found)])) } });
-    return turn.finish();
+  heard: {
+    tally(turn, gesture, { layers, lit }) {
+      const { tables, told } = turn.state;
+      const items = (lit ?? []).map((item) => ({ ...item, box: boxOf(item.box) }));
+      turn.set({ tables: { ...tables, told, lit: lit && tables.lit ? { ...tables.lit, items } : null,
+        found: named(Object.fromEntries(Object.entries(layers).map(([name, found]) => [name, described(found)]))) } });
+      return turn.finish();
+    },
   },
 };

@@ -3,6 +3,7 @@
 
 import { GREATEST, pick } from "./picking.js";
 import { boxOf, entriesFrom, joined, plural } from "../board/index.js";
+import { named } from "./named.js";
 
 // A part of the board around what is found is seen too, this many nm to each side at least: enough to know where one is.
 const AROUND = 4000000;
@@ -25,22 +26,24 @@ export const light = {
       return turn.finish();
     }
     if (tables.lit) turn.set({ tables: { ...tables, lit: null } });
-    return turn.ask("lit", { kind: "lit", of, ...tellingOf(turn.state) });
+    return turn.ask({ stage: "lit", of }, { kind: "lit", of, ...tellingOf(turn.state) });
   },
-  answer(turn, { of, isLed = false, isAgain = false }, { found, why }) {
-    if (!found) {
-      turn.set({ lit: null });
-      turn.say(`The files can't be read for that: ${why}`, true);
+  heard: {
+    lit(turn, { isLed = false, isAgain = false }, { found, why }, { of }) {
+      if (!found) {
+        turn.set({ lit: null });
+        turn.say(`The files can't be read for that: ${why}`, true);
+        return turn.finish();
+      }
+      const items = found.items.map((item) => ({ ...item, box: boxOf(item.box) })), { told } = turn.state;
+      const entries = named(Object.fromEntries(Object.entries(found.entries).map(([name, lines]) => [name, entriesFrom(lines)])));
+      turn.set({ lit: { of, told, items, entries } });
+      if (isLed) lead(turn, items);
+      if (isAgain) return turn.finish();
+      const { count } = found, some = items.length < count ? `, ${items.length.toLocaleString("en")} of which are lit` : "";
+      turn.say(count ? `${wordsOf(of)}: ${plural(count, "item")}${some}.` : `${wordsOf(of)}: no item.`);
       return turn.finish();
-    }
-    const items = found.items.map((item) => ({ ...item, box: boxOf(item.box) })), { told } = turn.state;
-    const entries = Object.fromEntries(Object.entries(found.entries).map(([name, lines]) => [name, entriesFrom(lines)]));
-    turn.set({ lit: { of, told, items, entries } });
-    if (isLed) lead(turn, items);
-    if (isAgain) return turn.finish();
-    const { count } = found, some = items.length < count ? `, ${items.length.toLocaleString("en")} of which are lit` : "";
-    turn.say(count ? `${wordsOf(of)}: ${plural(count, "item")}${some}.` : `${wordsOf(of)}: no item.`);
-    return turn.finish();
+    },
   },
 };
 
@@ -58,16 +61,17 @@ function lead(turn, items) {
 
 /** @type {Machine.Kind<"pickShared">} */
 export const pickShared = {
-  begin: (turn, { of }) => turn.ask("shared", { kind: "shared", of, most: GREATEST, ...tellingOf(turn.state) }),
-  answer(turn, { of }, { found, why }) {
-    const isMany = found && found.count > GREATEST;
-    if (!found || isMany) {
-      turn.say(found ? `${wordsOf(of)} has ${plural(found.count, "item")}, and ${GREATEST} are the most that can be picked.`
-        : `The files can't be read for that: ${why}`, true);
-      return turn.finish();
-    }
-    pick(turn, found.places, false);
-    return turn.work({ count: found.count });
+  begin: (turn, { of }) => turn.ask({ stage: "shared" }, { kind: "shared", of, most: GREATEST, ...tellingOf(turn.state) }),
+  heard: {
+    shared(turn, { of }, { found, why }) {
+      const isMany = found && found.count > GREATEST;
+      if (!found || isMany) {
+        turn.say(found ? `${wordsOf(of)} has ${plural(found.count, "item")}, and ${GREATEST} are the most that can be picked.`
+          : `The files can't be read for that: ${why}`, true);
+        return turn.finish();
+      }
+      return pick(turn, found.places, false, { count: found.count });
+    },
   },
-  end: (turn, { of }) => turn.say(`${wordsOf(of)}: ${plural(turn.state.work.count, "item")} picked.`),
+  end: (turn, { of }, { count }) => turn.say(`${wordsOf(of)}: ${plural(count, "item")} picked.`),
 };

@@ -1,5 +1,7 @@
 // One turn of the machine: the state as it becomes, and what is to be sent. What it makes is handed out by `step`.
 
+// (of the kind K is the gesture that is under way: a turn of which that is not known goes to no stage of a kind)
+/** @template {Machine.Gesture["kind"]} [K=never] */
 export class Turn {
   /** @param {Machine.State} state */
   constructor(state) {
@@ -33,25 +35,41 @@ export class Turn {
     this.messages.push(message);
   }
 
-  // Changes what is under way.
-  /** @param {Partial<Machine.Work>} changes */
-  work(changes) {
-    this.set({ work: { ...this.state.work, ...changes } });
+  // What is under way: asked for by its own parts alone.
+  get underWay() {
+    const { work } = this.state;
+    if (!work) throw new Error("nothing is under way");
+    return work;
+  }
+
+  // What is under way is at another stage, with what is known there.
+  /** @param {Machine.StageOf<K> | Machine.Settling | Machine.BeingKept} at */
+  work(at) {
+    const { number, gesture } = this.underWay;
+    // (the gesture is of the kind whose stages these are)
+    this.set({ work: /** @type {Machine.Work} */ ({ number, gesture, ...at }) });
+  }
+
+  // Changes what is known while it is settled.
+  /** @param {{ isKept?: boolean, isSeen?: boolean, entries?: Machine.Told[] }} changes */
+  settling(changes) {
+    const { work } = this.state;
+    if (work?.stage === "settling") this.set({ work: { ...work, ...changes } });
   }
 
   // Asks the worker, whose answer goes to the gesture that is under way at this stage.
-  /** @param {string} stage @param {Machine.ToWorker} message */
-  ask(stage, message) {
+  /** @param {Machine.StageOf<K>} at @param {Machine.ToWorker} message */
+  ask(at, message) {
     if (!this.state.station.isOpen) return this.finish();
-    this.work({ stage });
-    return this.send({ to: "worker", number: this.state.work.number, ...message });
+    this.work(at);
+    return this.send({ to: "worker", number: this.underWay.number, ...message });
   }
 
   // Lines for the station: all of a group or none, or one after another until one is refused.
-  /** @param {Machine.Sent[]} lines */
-  apply(lines, isGroup = false) {
-    this.work({ stage: "lines" });
-    this.lines = { number: this.state.work.number, isGroup, lines };
+  /** @param {Machine.StageOf<K> & { stage: "lines", isGroup: boolean }} at @param {Machine.Sent[]} lines */
+  apply(at, lines) {
+    this.work(at);
+    this.lines = { number: this.underWay.number, isGroup: at.isGroup, lines };
   }
 
   // Puts gestures before all that wait, but behind a replay: before that the station has nothing of the script.
@@ -76,8 +94,8 @@ export class Turn {
   // The gesture that is under way is done.
   /** @param {Machine.Result | null} result */
   finish(result = null) {
-    const { gesture } = this.state.work;
+    const { gesture, number } = this.underWay;
     this.set({ work: null });
-    this.send({ to: "page", kind: "finished", gesture: gesture.id, result });
+    this.send({ to: "page", kind: "finished", gesture: gesture.id ?? number, result });
   }
 }

@@ -2,7 +2,7 @@
 // worker, to what keeps and to the page. It is for tsc alone (.ci/javascript).
 
 declare namespace Machine {
-  type Turn = import("./turn.js").Turn;
+  type Turn<K extends Gesture["kind"] = never> = import("./turn.js").Turn<K>;
   type Steps = import("./steps.js").Steps;
   /** The part of the board that a page showed when it was left. */
   interface Seen extends Board.Turned { left: number; top: number; pitch: number; fitted?: Board.Box | null }
@@ -16,11 +16,11 @@ declare namespace Machine {
   // ---- The state of the machine (state.js) ----
 
   /** What follows from what a layer shows: `value` is what its file function says, null where the file alone tells it. */
-  interface Following { label: string; colour: string; height: number; shows?: string; value: string | null }
+  interface Following { label: string; colour: string; height: number; shows?: string | undefined; value: string | null }
   /** How a layer looks; `origin` is its path in an archive, `toldBy` what told what it shows. */
   interface Look {
-    label: string; colour: string; height: number; opacity: number; isShown: boolean; file?: string; origin?: string; shows?: string;
-    toldBy?: string;
+    label: string; colour: string; height: number; opacity: number; isShown: boolean; file?: string | undefined; origin?: string | undefined;
+    shows?: string | undefined; toldBy?: string | undefined;
   }
   interface Layer extends Look { name: string; kind: Board.LayerKind; items: number; entries: number; by?: Following; base?: Following }
   /** A line of the script with its reply; of a load with the path, the number of its file and the layer's look. */
@@ -32,8 +32,8 @@ declare namespace Machine {
   }
   /** A file that is loaded as a layer, and under which name where that is free. */
   interface Recognised {
-    kind: Board.LayerKind; wanted?: string; label?: string; colour?: string; height?: number; isShown?: boolean; fileName?: string;
-    origin?: string; toldBy?: string;
+    kind: Board.LayerKind; wanted: string; label: string; colour: string; height: number; isShown: boolean; fileName: string;
+    origin: string; toldBy?: string | undefined;
   }
   /** What a number of a refusal means, and what to do about it. */
   interface Explained { name: string; text: string }
@@ -41,7 +41,7 @@ declare namespace Machine {
   interface Offer { isAble: boolean; why: string; asks: string[] }
   /** A file that was refused: `isPending` where it is still to be asked about. */
   interface Refused {
-    id: number; file: string; layer: Recognised; reply: string; opening: number; isTried: boolean; offer: Offer | null; note: string;
+    id: number; file: string; layer: Recognised; reply: string; opening: number | undefined; isTried: boolean; offer: Offer | null; note: string;
     isPending?: boolean;
   }
   /** What becomes of files that were opened together: `trying` counts the refused ones that are still tried. */
@@ -56,11 +56,17 @@ declare namespace Machine {
   /** A layer or picture that is compared. */
   interface Compared { name: string; label: string; isOpened: boolean }
   /** What is compared: the board with what it was `back` steps before, or the `pair`; `whole` is the window around both of that. */
-  interface Comparison {
-    kind: "before" | "two"; title: string; said: string; differing: { name: string; box: Board.Box | null }[]; box: Board.Box | null;
-    counts: { colour: string; words: string }[]; pixels: string; window: string | null; back?: number; pair?: Compared[]; whole?: string;
-    view?: string; sheets?: Sheet[] | null; place?: { left: number; top: number; pitch: number } | null;
-    layers?: readonly (Shown & { isShown: boolean })[];
+  type Comparison = ComparisonBefore | ComparisonOfTwo;
+  interface AnyComparison {
+    title: string; said: string; differing: { name: string; box: Board.Box | null }[]; box: Board.Box | null;
+    counts: { colour: string; words: string }[]; pixels: string; window: string | null; sheets?: Sheet[] | null;
+    place?: { left: number; top: number; pitch: number } | null;
+  }
+  interface ComparisonBefore extends AnyComparison {
+    kind: "before"; back: number; view?: string; pair?: undefined; whole?: undefined; layers?: undefined;
+  }
+  interface ComparisonOfTwo extends AnyComparison {
+    kind: "two"; pair: [Compared, Compared]; whole: string; view?: string; layers: readonly (Shown & { isShown: boolean })[]; back?: undefined;
   }
   /** What a table tells of a layer: how many items each number has, by their kinds. */
   interface Tally { counts: Record<string, Record<string, number>>; entries: Board.Entry[] }
@@ -127,8 +133,11 @@ declare namespace Machine {
   /** A tool that draws: so many points, or null for as many as a person wants, `least` at least; the words of the item of them. */
   interface DrawingTool {
     label: string; kind: Board.LayerKind; count: number | null; least?: number; hasArcs?: boolean; hint?: string;
-    words(points: Drawn["points"], settings: Settings): string;
+    /** Null where the points are too few. */
+    words(points: Drawn["points"], settings: Settings): string | null;
   }
+  /** Whether the station is open; `why` it stopped, where it did. */
+  type Station = { isOpen: true; why: null } | { isOpen: false; why: string | null };
   /** All that the page knows. */
   interface State {
     layers: Layer[]; told: Told[]; steps: Steps; saved: Record<string, Way>; unsaved: number; hasWindow: boolean;
@@ -140,7 +149,7 @@ declare namespace Machine {
     inWords: { id: number; told: Told[]; unit: string; words: Words | null; why: string | null } | null; lit: Found | null; job: { name: string; bytes: Uint8Array } | null;
     made: Made; isOutlined: boolean; comparison: Comparison | null; files: Record<string, File>; paths: Record<string, string>; opened: Picture[]; windows: string[];
     refused: Refused[]; openings: Record<number, Opening>; dropped: Record<string, string[]>; questions: Question[];
-    queue: Gesture[]; work: Work | null; station: { isOpen: boolean; why: string | null };
+    queue: Gesture[]; work: Work | null; station: Station;
     kept: Keeping; spoiled: { line: string; reply: string }[]; faults: string[];
     shownBefore: Set<string> | null; isLeaving: boolean; nets: Nets; checks: Checks; said: { text: string; isFault: boolean }; next: number;
   }
@@ -152,6 +161,8 @@ declare namespace Machine {
   interface Said { before: Said | null; layer: string; fields: string | null }
   /** A step that can be undone or redone: its lines, and the way before and behind it. */
   interface Step { lines: string[]; words: string; from: Way; at: Way }
+  /** The open group: its lines, the way before it, and the step that it becomes. */
+  interface Group { lines: string[]; from: Way; step: object }
 
   // ---- What is kept of how the page looks (looks.js) ----
 
@@ -181,15 +192,17 @@ declare namespace Machine {
     light: { of: Shared | null; isLed?: boolean; isAgain?: boolean };
     lines: { lines: string[]; window?: string; isAllowed?: boolean };
     list: { from?: number; isOpen?: boolean; by?: number };
-    load: { layer: Recognised; given?: { name: string; path: string }; refused?: number };
-    opened: {};
+    /** A file that was recognised, or what a refused one was converted to; or one that came with its name and path. */
+    load: { file: string } & ({ layer: Recognised; refused?: number }
+      | { layer: { kind: Board.LayerKind }; given: { name: string; path: string }; refused?: undefined });
+    opened: { opening: number };
     pickAt: Board.Point & { reach: number; pile: string[]; isAdded: boolean };
     pickIn: { box: Board.Box; pile: string[]; isAdded: boolean; isTouched?: boolean };
     pickLike: { by: string; of?: Alike[] | null };
     pickListed: { menu: Menu; item: Place; isAdded: boolean };
     pickShared: { of: Shared };
-    picks: { places?: Place[]; all?: string; isAdded?: boolean; isShown?: boolean; isLed?: boolean };
-    picture: { label: string; of: string | null; window: string | null; isShown?: boolean; opacity?: number; colour?: string; isInside?: boolean };
+    picks: { isAdded?: boolean; isShown?: boolean; isLed?: boolean } & ({ places: Place[]; all?: undefined } | { all: string | null; places?: undefined });
+    picture: { label: string; file: string; of: string | null; window: string | null; isShown?: boolean; opacity?: number; colour?: string; isInside?: boolean };
     pile: Board.Point & { pile: string[] };
     plot: { names: string[]; pitch: number; form: string };
     replay: { isFitted?: boolean; isAgain?: boolean };
@@ -207,12 +220,12 @@ declare namespace Machine {
     aperture: { number: number };
     tool: { number: number };
     diameter: { name: string; number: number; nm: number };
-    reorder: { to?: number; by?: number };
-    insert: { words: string; active: string; again?: Again };
+    reorder: { to: number; by?: undefined } | { by: number; to?: undefined };
+    insert: { words: string; active: string | null; again?: Again };
     paste: { dx: number; dy: number };
     turn: { turn: string };
     array: { columns: number; rows: number; dx: number; dy: number };
-    align: { to: string };
+    align: { to: Alignment };
     reshape: { was: string; words: string | null };
     setattr: { name: string; key: string; fields?: string };
     dropattr: { name: string; key: string };
@@ -220,48 +233,24 @@ declare namespace Machine {
     undo: {};
     redo: {};
   }
+  /** What picked items are aligned by: a side of their boxes, or their middles. */
+  type Alignment = "left" | "right" | "top" | "bottom" | "upright" | "level";
   /** What items are alike by: the number of an aperture or tool, or a kind. */
   interface Alike { name: string; key: string }
   /** What new items are drawn with. */
   interface Settings { entry: number; polarity: string; turn: string; direction: string; grid: number }
   /** How an item was drawn, so that it can be drawn with the apertures of another layer. */
-  interface Again { tool: string; settings: Settings; making: Drawn | null; last: (Tapped & { isCentre?: boolean }) | null }
+  interface Again { tool: string; settings: Settings; making: Drawn | null; last: Tapped | null }
   /** A point that a tool takes; one that snapped to an item goes to no grid. */
-  interface Tapped extends Board.Point { isSnapped?: boolean }
+  interface Tapped extends Board.Point { isSnapped?: boolean | undefined; isCentre?: boolean | undefined }
   /** What any gesture may have: who waits for it, the files that it needs, their opening, and whether it came with the page. */
-  interface Common { id?: number | string; opening?: number; file?: string; files?: string[]; isGiven?: boolean }
+  interface Common { id?: number | string; opening?: number | undefined; file?: string; files?: string[]; isGiven?: boolean }
   type EditOf<V extends keyof Verbs> = Common & { kind: "edit"; verb: V; of?: number[] } & Verbs[V];
   type Edit = { [V in keyof Verbs]: EditOf<V> }[keyof Verbs];
   type Gesture = { [K in keyof Gestures]: Common & { kind: K } & Gestures[K] }[keyof Gestures] | Edit;
   type GestureOf<K> = Extract<Gesture, { kind: K }>;
-  /** What a gesture of a kind does: it begins, hears answers, and ends when its lines are settled, or "more" is to come. */
-  interface Kind<K extends Gesture["kind"]> {
-    begin(turn: Turn, gesture: GestureOf<K>): unknown;
-    answer?(turn: Turn, gesture: GestureOf<K>, answer: K extends keyof Heard ? Heard[K] : never): unknown;
-    replied?(turn: Turn, gesture: GestureOf<K>, reply: Replied): unknown;
-    end?(turn: Turn, gesture: GestureOf<K>): unknown;
-    finished?(turn: Turn, gesture: GestureOf<K>): unknown;
-  }
-  type Kinds = { [K in Gesture["kind"]]: Kind<K> };
-  /** The same of a gesture of any kind. */
-  interface AnyKind {
-    begin(turn: Turn, gesture: Gesture): unknown;
-    answer?(turn: Turn, gesture: Gesture, answer: Heard[keyof Heard]): unknown;
-    replied?(turn: Turn, gesture: Gesture, reply: Replied): unknown;
-    end?(turn: Turn, gesture: Gesture): unknown;
-    finished?(turn: Turn, gesture: Gesture): unknown;
-  }
   /** What an edit makes: lines, what is picked behind them, and what else changes; or why there are none. */
-  interface Outcome { lines?: string[]; places?: Place[]; changes?: Partial<State>; why?: string | null }
-  /** The gesture that is under way: at which stage, and what is known of it so far. */
-  interface Work {
-    number: number; gesture: Gesture; stage: string; result?: Result | null; isGroup?: boolean; isWell?: boolean; isBlind?: string | boolean;
-    isLed?: boolean; line?: string; lines?: string[]; name?: string; names?: string[]; path?: string; file?: string; words?: string;
-    look?: Partial<Look>; changes?: Partial<State>; places?: Place[]; found?: Place | null; item?: Place; count?: number; pair?: Compared[];
-    picture?: import("../bytes/index.js").Picture; window?: string; area?: Area; files?: (File & { layer?: string })[]; plotted?: string[];
-    entries?: Told[]; after?: Partial<State>; picks?: Picked[]; isKept?: boolean; isSeen?: boolean;
-    whole?: Whole; rest?: Told[]; made?: Told[]; spoiled?: State["spoiled"]; isSent?: boolean[]; steps?: Real;
-  }
+  type Outcome = { lines: string[]; places?: Place[]; changes?: Partial<State> } | { why: string };
   /** All items of a layer in their words, its box, and that of all layers. */
   interface Whole { items: string[]; box: Board.Box; all: Board.Box }
   /** A turn about the middle of the layer, of all layers, or about the zero point; and then a move in nm. */
@@ -293,7 +282,7 @@ declare namespace Machine {
     withAttributes: { depth: number; entries: Sent[]; layers: { name: string; canonical: Uint8Array }[] };
     compare: { steps: number; colours: string[] };
     compareView: { steps: number; colours: string[] };
-    compareTwo: { pair: Compared[]; names: string[] };
+    compareTwo: { pair: [Compared, Compared]; names: string[] };
     compareTwoView: { names: string[]; colours: string[] };
     pictures: { names: string[]; line: string };
     whole: { name: string; names: string[] };
@@ -302,7 +291,7 @@ declare namespace Machine {
   }
   type ToWorker = { [K in keyof Asked]: { number?: number; kind: K } & Asked[K] }[keyof Asked];
   /** A line for the station, with the bytes of its file where it is a load. */
-  interface Sent { line: string; bytes?: Uint8Array }
+  interface Sent { line: string; bytes?: Uint8Array | undefined }
   /** Lines of a gesture: all of a group or none. */
   interface Batch { number: number; isGroup: boolean; lines: Sent[] }
   /** What a line came to: its reply, and the bytes of a plot or a text. */
@@ -317,22 +306,20 @@ declare namespace Machine {
     attributes: { name: string; lines: string[] } | null; list: { name: string; from: number; words: string[] } | null;
   }
   /** The pixels of the view that are in both, in the first alone and in the second alone. */
-  interface Sheets { sheets: Sheet[] | null; window?: string; samples?: number; isWhole: boolean }
-  interface Differing extends Sheets { differing: Comparison["differing"] | null; count?: number; box?: Board.Box | null }
-  interface Counts { counts: number[] | null; box?: Board.Box | null; window?: string; isWhole?: boolean; isSameText?: boolean | null }
+  interface Sighted { sheets: Sheet[]; window: string; samples: number }
+  /** The same, or that there is no view. */
+  type Seeable = Sighted | { sheets: null };
+  /** `isWhole` where what was undone for it was made again. */
+  type Sheets = { isWhole: boolean } & Seeable;
+  /** What the layers differ in from some steps before: of so many in all. */
+  type Different = { differing: AnyComparison["differing"]; count: number; box: Board.Box | null } & Seeable;
+  /** Null where so many steps cannot be undone. */
+  type Differing = { isWhole: false } | { isWhole: boolean; differing: null } | { isWhole: boolean } & Different;
+  /** How many pixels two have in both and alone; null where these cannot be compared. */
+  interface Counted { counts: number[]; box: Board.Box | null; window: string; isWhole: boolean; isSameText: boolean | null }
+  type Counts = Counted | { counts: null };
   /** The page has handed something out, or why it could not. */
   interface Handed { why: string | null }
-  /** What each gesture hears; of several answers in turn, all that they have. */
-  interface Heard {
-    compare: Differing; compareTwo: Counts; compareView: Sheets; edit: Lines; fit: Boxes; lines: Lines; load: Lines; opened: Boxes;
-    pickAt: { found: Place | null }; pickIn: Places; pickLike: Places; picture: Boxes; pile: { items: Listed[]; isMore: boolean };
-    replay: Lines; seek: Boxes; script: Handed; gap: { gap: Board.Gap | null }; dropped: { files: { id: string; words: string[] }[] };
-    give: Boxes & Handed & { pictures: Uint8Array[] | null }; plot: Boxes & Lines & Handed;
-    save: Lines & Handed & { files: { name: string; bytes: Uint8Array | null; why?: string }[] };
-    tally: { layers: Record<string, { counts: Tally["counts"]; entries: string[] }>; lit: Listed[] | null };
-    light: Answer<{ items: Listed[]; count: number; entries: Record<string, string[]> }>; pickShared: Answer<Places & { count: number }>;
-    whole: Lines & { items: string[]; own: string; boxes: string[] };
-  }
 
   // ---- Questions to the person, and the answers (questions.js of the page) ----
 
@@ -351,7 +338,7 @@ declare namespace Machine {
     whole: { label: string; isDrill: boolean; count: number; repeats: number; box: Board.Box; all: Board.Box };
   }
   /** `gesture` is the one that waits for the answer, `opening` the one that the question belongs to. */
-  type Question = { [K in keyof Questions]: { kind: K; id?: number; gesture?: number | string; opening?: number } & Questions[K] }[keyof Questions];
+  type Question = { [K in keyof Questions]: { kind: K; id?: number; gesture?: number | string | undefined; opening?: number | undefined } & Questions[K] }[keyof Questions];
   type QuestionOf<K> = Extract<Question, { kind: K }>;
   /** An answer: `value` is what was chosen, and of "yes" what stands in the dialogue, or why that cannot be used. */
   interface Replied {
@@ -380,7 +367,7 @@ declare namespace Machine {
     offerAll: { refused: number[] };
     only: { name: string };
     picture: { name: string; changes: Partial<Picture> };
-    point: Tapped & { isCentre?: boolean };
+    point: Tapped;
     raise: { name: string; by: number };
     restarted: {};
     say: { text: string; isFault?: boolean };
@@ -397,7 +384,7 @@ declare namespace Machine {
     begin: { kept: Journal; contents: Contents | null };
     gesture: { gesture: Gesture };
     open: { files: File[]; areNamed?: boolean; faults?: string[]; token: string };
-    answer: { number: number; answer: Heard[keyof Heard] | Looked };
+    answer: { number: number; answer: Heard | Looked };
     kept: { number: number } & Written;
     replied: Replied;
     stopped: { why: string | null };
@@ -406,7 +393,7 @@ declare namespace Machine {
   }
   type Event = { [K in keyof Events]: { kind: K } & Events[K] }[keyof Events];
   type Handlers<E> = { [K in keyof E]: (turn: Turn, event: E[K]) => unknown };
-  /** Whether the journal has what it was handed. */
+  /** Whether the journal has what it was handed, or why not. */
   interface Written { isKept: boolean; isLost?: boolean; why?: string }
   /** What the browser had kept, or why it has nothing (kept.js of the page). */
   interface Journal {

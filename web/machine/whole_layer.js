@@ -3,6 +3,7 @@
 import { boxOf, joined, middleFor, plural, shifted, turned } from "../board/index.js";
 import { applied } from "./grouped.js";
 import { layerOf } from "./state.js";
+import { settle } from "./settling.js";
 import { tooLong } from "./arranging.js";
 
 // So many items of a layer are changed at once: each is a line of the script, and two where the layer is turned.
@@ -40,39 +41,35 @@ function turnedLines(name, whole, change) {
 export const whole = {
   begin(turn, { name }) {
     const layer = layerOf(turn.state, name), why = whyNot(turn.state, layer);
-    if (why || !layer) {
-      turn.say(why ?? "", true);
+    if (why) {
+      turn.say(why, true);
       return turn.finish();
     }
-    return turn.ask("items", { kind: "whole", name, names: turn.state.layers.map((other) => other.name) });
+    return turn.ask({ stage: "items" }, { kind: "whole", name, names: turn.state.layers.map((other) => other.name) });
   },
-  answer(turn, gesture, answer) {
-    if (turn.state.work.stage === "lines") return applied(turn, answer);
-    const { items, own, boxes } = answer, box = boxOf(own), layer = layerOf(turn.state, gesture.name);
-    if (!box || !layer) {
-      turn.say(`${layer?.label ?? gesture.name} paints nothing, so nothing of it moves.`, true);
-      return turn.finish();
-    }
-    const all = joined(boxes.map(boxOf)) ?? box;
-    turn.work({ stage: "asking", whole: { items, box, all } });
-    const repeats = items.filter((words) => words.startsWith("repeat")).length;
-    return turn.question({ kind: "whole", gesture: turn.state.work.gesture.id, label: layer.label, isDrill: layer.kind === "drill", count: items.length, repeats,
-      box, all });
-  },
-  replied(turn, { name }, { value, why, change }) {
-    if (value !== "yes" || why || !change) {
-      turn.say(value === "yes" ? why ?? "" : "", value === "yes");
-      return turn.finish();
-    }
-    const { whole: found } = turn.state.work;
-    const lines = change.turn === "r0" ? movedLines(name, found.items, change) : turnedLines(name, found, change);
-    const long = tooLong(lines);
-    if (long || !lines.length) {
-      turn.say(long?.why ?? "", Boolean(long));
-      return turn.finish();
-    }
-    const isGroup = lines.length > 1;
-    turn.work({ lines, isGroup });
-    return turn.apply(lines.map((line) => ({ line })), isGroup);
+  heard: {
+    items(turn, { name, id }, { items, own, boxes }) {
+      const box = boxOf(own), layer = layerOf(turn.state, name);
+      if (!box || !layer) {
+        turn.say(`${layer?.label ?? name} paints nothing, so nothing of it moves.`, true);
+        return turn.finish();
+      }
+      const all = joined(boxes.map(boxOf)) ?? box, repeats = items.filter((words) => words.startsWith("repeat")).length;
+      turn.work({ stage: "asking", whole: { items, box, all } });
+      return turn.question({ kind: "whole", gesture: id, label: layer.label, isDrill: layer.kind === "drill", count: items.length, repeats, box, all });
+    },
+    asking(turn, { name }, { value, why, change }, { whole: found }) {
+      if (value !== "yes" || why || !change) {
+        turn.say(value === "yes" ? why ?? "" : "", value === "yes");
+        return turn.finish();
+      }
+      const lines = change.turn === "r0" ? movedLines(name, found.items, change) : turnedLines(name, found, change), long = tooLong(lines);
+      if (long || !lines.length) {
+        turn.say(long?.why ?? "", Boolean(long));
+        return turn.finish();
+      }
+      return turn.apply({ stage: "lines", isGroup: lines.length > 1, lines, places: null, changes: null }, lines.map((line) => ({ line })));
+    },
+    lines: (turn, gesture, answer, at) => applied(turn, answer, at, (entries, then) => settle(turn, entries, { ...then, left: null })),
   },
 };

@@ -46,9 +46,9 @@ function notices({ kept, spoiled, station, faults, isLeaving }, machine, saveScr
 // What is under way, where it takes long: a group can be stopped.
 /** @param {Machine.State} state */
 function showBusy({ work }) {
-  const lines = work?.isGroup === true && work.stage === "lines" ? work.lines : undefined;
-  byId("busy").hidden = !lines;
-  if (lines) byId("busy-words").textContent = `${plural(lines.length, "edit")} under way, Escape stops ..`;
+  const isGroup = work?.stage === "lines" && work.isGroup;
+  byId("busy").hidden = !isGroup;
+  if (isGroup) byId("busy-words").textContent = `${plural(work.lines.length, "edit")} under way, Escape stops ..`;
 }
 
 /** @param {Page.Runner} machine @param {() => void} saveScript */
@@ -60,6 +60,6 @@ export function listenToKept(machine, saveScript) {
     redraw(byId("kept"), ...notices(state, machine, saveScript).map(([words, buttons]) =>
       element("p", {}, element("span", {}, words), ...buttons.map(([label, run]) => button(label, run)))));
   });
-  machine.panel(({ work }) => [work?.isGroup === true && work.stage === "lines"], showBusy);
+  machine.panel(({ work }) => [work?.stage === "lines" && work.isGroup], showBusy);
   byId("stop").onclick = () => machine.send({ kind: "stop" });
 }

@@ -26,7 +26,7 @@ function placesOf({ told, queue, work, refused, opened }) {
   };
   add(told.filter(isLoaded).map(({ file }) => file), "loaded");
   add(queue.filter(({ kind }) => OPENING.includes(kind)).map(({ file }) => file), "waiting");
-  const isAnswered = work && ["settling", "kept"].includes(work.stage), isTaken = isAnswered && (work.isSeen || !work.isWell);
+  const isAnswered = work && ["settling", "kept"].includes(work.stage), isTaken = isAnswered && (work.isSeen || !work.left?.isWell);
   if (work && OPENING.includes(work.gesture.kind) && !isTaken) add([work.gesture.file], "waiting");
   add(refused.map(({ file }) => file), "refused");
   add(opened.map(({ file }) => file), "shown");

@@ -126,3 +126,18 @@ suite("a page that was left while refused files were tried", () => {
     assert.deepEqual(told(state), [["convert", 10]]);
   });
 });
+
+suite("a file of the board that the page holds", () => {
+  const kept = { records: [], files: [], looks: null, waiting: null, why: null, isOpen: false };
+  const contents = { files: [], lines: [{ line: "load holes drill made/board.drl", bytes: REFUSED }], pictures: [] };
+
+  test("that is refused keeps its name and its path in what it is converted to", () => {
+    let { state } = step(step(firstState(), { kind: "begin", kept, contents }).state, { kind: "started" });
+    state = step(state, { kind: "answer", number: state.work.number, answer: { answers: [{ code: 26, reply: "refused 26" }] } }).state;
+    const [{ id, layer }] = state.refused;
+    assert.deepEqual([layer.kind, layer.wanted, layer.label, layer.fileName], ["drill", "holes", "holes", "board.drl"]);
+    state = step(state, { kind: "tried", refused: id, isAble: true }).state;
+    const { lines } = step(state, { kind: "replied", question: state.questions[0].id, value: "yes", bytes: gerber(1) });
+    assert.deepEqual(lines.lines.map(({ line }) => line), ["load holes drill files/board.drl"]);
+  });
+});
