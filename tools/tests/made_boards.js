@@ -121,7 +121,10 @@ export class MadeBoard {
     return `${name}.${this.number}`;
   }
 
-  /** Where copies of a panel lie, the one where faults are planted last. @returns {Place[]} */
+  /**
+   * Where copies of a panel lie, the one where faults are planted last.
+   * @returns {Place[]}
+   */
   get copies() {
     const { count, step } = this.repeat ?? { count: 1, step: 0 };
     return Array.from({ length: count * count }, (_, at) => /** @type {Place} */ ([at % count * step, Math.floor(at / count) * step]));

@@ -54,7 +54,11 @@ function randomHoles(chance, copper, items) {
   return holes;
 }
 
-/** Which items hang together: the number of each one's net. @param {Item[]} items @param {Hole[]} holes */
+/**
+ * Which items hang together: the number of each one's net.
+ * @param {Item[]} items
+ * @param {Hole[]} holes
+ */
 function netsOf(items, holes) {
   const nets = items.map((_, at) => at);
   const join = (/** @type {number} */ one, /** @type {number} */ other) => {
@@ -97,7 +101,10 @@ export function randomBoard(chance) {
   return { copper, items, holes, nets, points: randomPoints(chance, items, nets) };
 }
 
-/** Its files: copper with attributes, holes by what they pass, and a netlist. @param {ReturnType<typeof randomBoard>} board */
+/**
+ * Its files: copper with attributes, holes by what they pass, and a netlist.
+ * @param {ReturnType<typeof randomBoard>} board
+ */
 export function filesOf({ copper, items, holes, points }) {
   const nameOf = (/** @type {number} */ layer) => (layer === 0 ? "Top" : layer === copper - 1 ? "Bot" : "Inr");
   const pointOf = new Map(points.map((point) => [point.item, point]));
@@ -122,7 +129,10 @@ export function filesOf({ copper, items, holes, points }) {
   return Object.fromEntries([...texts, ...drills, ["nets.d356", netlist(records)]]);
 }
 
-/** The points by what they share: [[name, name ..] ..], each sorted. @param {{key: *, name: string}[]} list */
+/**
+ * The points by what they share: [[name, name ..] ..], each sorted.
+ * @param {{key: *, name: string}[]} list
+ */
 function grouped(list) {
   const groups = new Map();
   for (const { key, name } of list) groups.set(key, [...groups.get(key) ?? [], name].sort());
@@ -143,12 +153,20 @@ export function differencesOf({ nets, points }) {
   return { opens, shorts: shared.filter((own) => own.length > 1).map((own) => own.join(" ")).sort() };
 }
 
-/** The least distance of each pair by its key. @param {Map<string, number>} found @param {string} key @param {number} value */
+/**
+ * The least distance of each pair by its key.
+ * @param {Map<string, number>} found
+ * @param {string} key
+ * @param {number} value
+ */
 function keepLeast(found, key, value) {
   found.set(key, Math.min(found.get(key) ?? Infinity, value));
 }
 
-/** Copper to copper of two nets on a layer, by `layer net net`. @param {ReturnType<typeof randomBoard>} board */
+/**
+ * Copper to copper of two nets on a layer, by `layer net net`.
+ * @param {ReturnType<typeof randomBoard>} board
+ */
 export function gapsOf({ items, nets }) {
   const found = new Map();
   items.forEach((item, at) => items.slice(0, at).forEach((other, before) => {
@@ -159,14 +177,20 @@ export function gapsOf({ items, nets }) {
   return found;
 }
 
-/** Hole to hole, by the numbers of both. @param {ReturnType<typeof randomBoard>} board */
+/**
+ * Hole to hole, by the numbers of both.
+ * @param {ReturnType<typeof randomBoard>} board
+ */
 export function holeGapsOf({ holes }) {
   const found = new Map();
   holes.forEach((hole, at) => holes.slice(0, at).forEach((other, before) => found.set(`${before} ${at}`, ofHoles(hole, other))));
   return found;
 }
 
-/** A hole to copper of another net on a layer, by `layer hole`. @param {ReturnType<typeof randomBoard>} board */
+/**
+ * A hole to copper of another net on a layer, by `layer hole`.
+ * @param {ReturnType<typeof randomBoard>} board
+ */
 export function holesToCopper({ items, holes, nets }) {
   const found = new Map();
   holes.forEach((hole, number) => {
