@@ -16,16 +16,17 @@ const OUTLINE = "outline";
 const HEADER = 1 << 20;
 
 // What the first bytes of each layer's file say, read once; again where it shows something else.
-/** @type {WeakMap<Uint8Array, Map<string, { said: string | null, bare: number[] }>>} */
+/** @typedef {{ said: string | null, bare: number[] }} Said */
+/** @type {WeakMap<Uint8Array, Map<string, Said>>} */
 const known = new WeakMap();
 
-/** @param {Machine.Layer} layer @param {Machine.State} state @param {Uint8Array} bytes */
+/** @param {Machine.Layer} layer @param {Machine.State} state @param {Uint8Array} bytes @returns {Said} */
 function saidOf(layer, { layers }, bytes) {
   const key = `${layer.shows} ${layer.by?.value}`, found = known.get(bytes) ?? new Map();
   known.set(bytes, found);
   if (!found.has(key)) {
     found.set(key, { said: fileFunction(asShown(layer, layers, bytes.subarray(0, HEAD))),
-      bare: HOLES.includes(layer.shows) && layer.kind === "drill" ? [...toolsWithoutPlating(latin1(bytes.subarray(0, HEADER)))] : [] });
+      bare: HOLES.includes(layer.shows ?? "") && layer.kind === "drill" ? [...toolsWithoutPlating(latin1(bytes.subarray(0, HEADER)))] : [] });
   }
   return found.get(key);
 }
@@ -37,15 +38,17 @@ function saidOf(layer, { layers }, bytes) {
  * @returns {Page.Side}
  */
 export function sideWanted(state, isBelow) {
-  const { made: { mask, finish }, told, files } = state, bytesOf = new Map();
+  const { made: { mask, finish }, told, files } = state, bytesOf = /** @type {Map<string, Uint8Array | undefined>} */ (new Map());
   for (const { line, reply, file } of told) {
-    const [command, name] = wordsOf(line);
-    if (command === "load" && reply.startsWith("ok")) bytesOf.set(name, files[file]?.bytes);
+    const [command, name = ""] = wordsOf(line);
+    if (command === "load" && reply.startsWith("ok")) bytesOf.set(name, files[file ?? ""]?.bytes);
   }
-  const layers = state.layers.filter(({ shows }) => shows && (isMade(shows) || shows === OUTLINE)).map((layer) => {
+  const layers = state.layers.flatMap((layer) => {
     const { name, shows } = layer, bytes = bytesOf.get(name);
-    return { name, shows, ...bytes ? saidOf(layer, state, bytes) : { said: null, bare: [] } };
+    if (!shows || !isMade(shows) && shows !== OUTLINE) return [];
+    return [{ name, shows, ...bytes ? saidOf(layer, state, bytes) : { said: null, bare: [] } }];
   });
+  /** @param {{ shows: string, said: string | null }} layer */
   const isFirst = ({ shows, said }) => shows === OUTLINE && said !== null;
   return { side: isBelow ? "bottom" : "top", mask: chosen(MASK_NAMES, mask), finish: chosen(FINISH_NAMES, finish),
     layers: [...layers.filter(isFirst), ...layers.filter((layer) => !isFirst(layer))] };
@@ -53,7 +56,7 @@ export function sideWanted(state, isBelow) {
 
 // (what a browser kept may be of a page that had other colours)
 /** @param {string[]} names @param {string} name */
-const chosen = (names, name) => names.includes(name) ? name : names[0];
+const chosen = (names, name) => names.includes(name) ? name : names[0] ?? name;
 
 /** @param {Page.Runner} machine @param {Partial<Machine.Made>} changes */
 const change = (machine, changes) => machine.send({ kind: "setting", changes: { made: { ...machine.state.made, ...changes } } });

@@ -6,8 +6,16 @@
 const AT_ONCE = 2e6;
 const LEAST_ROWS = 16;
 
-/** @param {Page.Composing | null} sheet */
-const close = (sheet) => sheet?.bands.forEach(({ bitmap }) => bitmap.close());
+// Closes the bitmaps of one that is gone, but for those that another one has too.
+/** @param {Page.Composing | null} sheet @param {Page.Composing | null} other */
+function close(sheet, other) {
+  const kept = new Set(other?.bands.map(({ bitmap }) => bitmap));
+  for (const { bitmap } of sheet?.bands ?? []) if (!kept.has(bitmap)) bitmap.close();
+}
+
+/** @param {Page.Frame} one @param {Page.Frame} other */
+const isSame = (one, other) => one.left === other.left && one.top === other.top && one.pitch === other.pitch && one.width === other.width
+  && one.height === other.height;
 
 export class Composed {
   constructor() {
@@ -25,13 +33,30 @@ export class Composed {
     this.took = 0;
   }
 
-  // Begins another one: `paint` paints a part of it, { left, top, pitch, width, height }, of so many pictures.
-  /** @param {number} version @param {Page.Frame} frame @param {number} count @param {Page.Painter} paint */
-  begin(version, frame, count, paint) {
-    close(this.making);
-    const rows = Math.floor(AT_ONCE / (frame.width * Math.max(1, count)));
-    this.making = { ...frame, rows: Math.min(frame.height, Math.max(LEAST_ROWS, rows)), bands: [], paint, start: performance.now() };
+  // Begins another one: `paint` paints a part of it, { left, top, pitch, width, height }, of so many pictures. Of the same frame the
+  // bands are kept that are not touched.
+  /**
+   * @param {number} version
+   * @param {Page.Frame} frame
+   * @param {number} count
+   * @param {Page.Painter} paint
+   * @param {readonly Page.Touched[] | null} touched
+   */
+  begin(version, frame, count, paint, touched = null) {
+    close(this.making, this.shown);
+    const rows = Math.floor(AT_ONCE / (frame.width * Math.max(1, count))), same = this.shown && isSame(this.shown, frame) ? this.shown : null;
+    this.making = { ...frame, rows: same && touched ? same.rows : Math.min(frame.height, Math.max(LEAST_ROWS, rows)), bands: [], paint,
+      start: performance.now(), touched: same && touched };
     this.version = version;
+  }
+
+  // The band of the one that is shown which is the next one of that in the making too; undefined where it is made anew.
+  /** @param {Page.Composing} making @param {number} height */
+  keptBand({ touched, bands, rows, top, pitch }, height) {
+    const above = top - bands.length * rows * pitch, low = above - height * pitch;
+    // (the edges of what is painted are seen a pixel away from it)
+    const isTouched = touched === null || touched.some((box) => box.top + pitch > low && box.low - pitch < above);
+    return isTouched ? undefined : this.shown?.bands[bands.length];
   }
 
   // Makes on for so many ms.
@@ -44,24 +69,34 @@ export class Composed {
   }
 
   makeBand() {
-    this.context ??= new OffscreenCanvas(1, 1).getContext("2d", { alpha: false });
-    const { making, context } = this, { canvas } = context, { left, top, pitch, width, rows } = making;
-    const from = making.bands.length * rows, height = Math.min(rows, making.height - from);
-    if (canvas.width !== width || canvas.height !== height) Object.assign(canvas, { width, height });
-    making.paint(context, { left, top: top - from * pitch, pitch, width, height });
-    making.bands.push({ bitmap: canvas.transferToImageBitmap(), from });
+    const { making } = this;
+    if (!making) return;
+    const from = making.bands.length * making.rows, height = Math.min(making.rows, making.height - from);
+    making.bands.push(this.keptBand(making, height) ?? { bitmap: this.bandOf(making, from, height), from });
     if (from + height < making.height) return;
-    close(this.shown);
+    close(this.shown, making);
     this.shown = making;
     this.making = null;
     this.ended = performance.now();
     this.took = this.ended - making.start;
   }
 
+  /** @param {Page.Composing} making @param {number} from @param {number} height */
+  bandOf({ left, top, pitch, width, paint }, from, height) {
+    this.context ??= new OffscreenCanvas(1, 1).getContext("2d", { alpha: false });
+    if (!this.context) throw new Error("the browser has no canvas to compose on");
+    const { canvas } = this.context;
+    if (canvas.width !== width || canvas.height !== height) Object.assign(canvas, { width, height });
+    paint(this.context, { left, top: top - from * pitch, pitch, width, height });
+    return canvas.transferToImageBitmap();
+  }
+
   // Where it lies in a view, in pixels: the first column or row, and the one behind the last.
-  /** @param {{ left: number, top: number, pitch: number }} view */
-  sides({ left, top, pitch }) {
-    const { shown } = this, column = (at) => Math.round((shown.left + at * shown.pitch - left) / pitch);
+  /** @param {Page.Frame} shown @param {{ left: number, top: number, pitch: number }} view */
+  sides(shown, { left, top, pitch }) {
+    /** @param {number} at */
+    const column = (at) => Math.round((shown.left + at * shown.pitch - left) / pitch);
+    /** @param {number} at */
     const row = (at) => Math.round((top - shown.top + at * shown.pitch) / pitch);
     return { column, row, x: column(0), right: column(shown.width), y: row(0), low: row(shown.height) };
   }
@@ -71,7 +106,9 @@ export class Composed {
   beside(view) {
     const { width, height } = view;
     if (!this.shown) return [[0, 0, width, height]];
-    const { x, right, y, low } = this.sides(view), within = (at, most) => Math.min(most, Math.max(0, at));
+    const { x, right, y, low } = this.sides(this.shown, view);
+    /** @param {number} at @param {number} most */
+    const within = (at, most) => Math.min(most, Math.max(0, at));
     const [from, to, above, below] = [within(x, width), within(right, width), within(y, height), within(low, height)];
     /** @type {[x: number, y: number, width: number, height: number][]} */
     const boxes = [[0, 0, width, above], [0, below, width, height - below], [0, above, from, below - above],
@@ -83,7 +120,7 @@ export class Composed {
   draw(context, view) {
     const { shown } = this, { width, height } = view;
     if (!shown) return;
-    const { column, row } = this.sides(view), x = column(0), across = column(shown.width) - x;
+    const { column, row } = this.sides(shown, view), x = column(0), across = column(shown.width) - x;
     context.imageSmoothingEnabled = shown.pitch < view.pitch;
     for (const { bitmap, from } of shown.bands) {
       const y = row(from), next = row(from + bitmap.height);

@@ -25,8 +25,9 @@ export class Grip {
     /** @type {Page.Snap | null} */
     this.snap = null;
     this.keys = new Set(picked.map(keyOf));
-    this.point = this.isHandle ? handlesOf(this.item.words)[handle] : this.gripped(picked.slice(0, MOST), entries);
-    this.words = this.item.words;
+    /** @type {Board.Pair | null} */
+    this.point = handle === null ? this.gripped(picked.slice(0, MOST), entries) : handlesOf(this.item?.words ?? "")[handle] ?? null;
+    this.words = this.item?.words ?? null;
   }
 
   get isHandle() {
@@ -55,25 +56,25 @@ export class Grip {
     const at = this.lookAt(pointer), { grid, from, point } = this;
     // What is dragged snaps to nothing of itself.
     this.snap = point ? this.snaps.at(at, (item) => this.keys.has(keyOf(item))) : null;
-    if (this.isHandle) {
+    if (this.handle !== null) {
       this.to = this.snap ?? { x: snapped(at.x, grid), y: snapped(at.y, grid) };
-      this.words = reshaped(this.item.words, this.handle, [this.to.x, this.to.y]);
+      this.words = this.item ? reshaped(this.item.words, this.handle, [this.to.x, this.to.y]) : null;
     } else {
-      this.shift = this.snap ? { x: Math.round(this.snap.x - point[0]), y: Math.round(this.snap.y - point[1]) }
+      this.shift = this.snap && point ? { x: Math.round(this.snap.x - point[0]), y: Math.round(this.snap.y - point[1]) }
         : { x: snapped(pointer.x - from.x, grid), y: snapped(pointer.y - from.y, grid) };
     }
   }
 
   // The item as it becomes, to be shown; null where there is none.
   get preview() {
-    return this.words && { words: this.words, name: this.item.name };
+    return this.words && this.item ? { words: this.words, name: this.item.name } : null;
   }
 
   // What is done when it is let go.
   /** @returns {Machine.Gesture} */
   gesture() {
     const { of, shift, words, item } = this;
-    return this.isHandle ? { kind: "edit", verb: "reshape", was: item.words, words, of }
+    return this.isHandle && item ? { kind: "edit", verb: "reshape", was: item.words, words, of }
       : { kind: "edit", verb: "move", dx: shift.x, dy: shift.y, of };
   }
 }

@@ -29,7 +29,7 @@ import { Pointer, pileOf } from "./pointer.js";
 import { Runner } from "./runner.js";
 import { StartPanel } from "./start_panel.js";
 import { TablesPanel } from "./tables_panel.js";
-import { View } from "./view.js";
+import { View, looksOf } from "./view.js";
 import { byId, tell, textOf } from "./dom.js";
 import { listenToFiles, unpackedApart } from "./files.js";
 import { listenToGroups } from "./refused_groups.js";
@@ -222,7 +222,7 @@ function listen() {
   byId("drawing-stop").onclick = () => machine.link?.send({ number: 0, kind: "halt" });
   listenToLeaving(machine, boards);
   machine.panel(({ said }) => [said], ({ said: { text, isFault } }) => tell(text, isFault));
-  machine.panel((state) => [state.layers, state.opened, state.comparison, state.station, isOpening(state)], () => view.change());
+  machine.panel((state) => [looksOf(state.layers), state.opened, state.comparison, state.station, isOpening(state)], () => view.change());
   machine.draw();
 }
 

@@ -4,11 +4,12 @@
 import { LINE, Outlines, shapeOf, stroke } from "./outlines.js";
 import { Signs } from "./signs.js";
 import { lengthText } from "../board/index.js";
-import { rulers } from "./rulers.js";
+import { RulerStrips, rulers } from "./rulers.js";
 
 /** @param {Board.Point} from @param {Board.Point} to @param {string} unit */
 export function distanceWords(from, to, unit = "mm") {
   const dx = to.x - from.x, dy = to.y - from.y;
+  /** @param {number} value */
   const sign = (value) => (value < 0 ? "" : "+") + lengthText(value, unit);
   // Counterclockwise from the right.
   const angle = dx || dy ? `  angle ${(Math.atan2(dy, dx) * 180 / Math.PI).toFixed(3)}°` : "";
@@ -26,6 +27,9 @@ export class Marks {
     this.context = view.context;
     this.outlines = new Outlines(view, machine);
     this.signs = new Signs(view, machine);
+    this.strips = new RulerStrips(view);
+    view.gliding.onFollow = () => this.strips.show(machine.state, this.pointer, this.colour);
+    view.gliding.onRest = () => this.strips.hide();
     // The pointer in device pixels; what is dragged over: [from, to] in nm; how far what is picked is dragged; what is
     // measured; the words of an item that is being drawn.
     /** @type {Board.Point | null} */
@@ -66,6 +70,14 @@ export class Marks {
     this.measures = [];
     if (isAny) this.draw();
     return isAny;
+  }
+
+  // The pointer is elsewhere. While the view moves on, its marks on the rulers follow it, and all else stays as it is painted.
+  /** @param {Board.Point} at @param {boolean} isAlone whether nothing but these marks goes with it */
+  follow(at, isAlone) {
+    this.pointer = at;
+    if (isAlone && this.view.isMoving && this.view.gliding.hasMoved) this.view.wake();
+    else this.view.paint();
   }
 
   paint() {

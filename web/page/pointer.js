@@ -297,12 +297,12 @@ export class Pointer {
     };
     canvas.onpointermove = (event) => {
       const at = this.onCanvas(event);
-      this.last = this.marks.pointer = at;
+      this.last = at;
       if (!this.fingers.move(event.pointerId, at) && this.drag) this.dragOn(at);
       if (this.drag?.hasMoved) this.fingers.rest();
       this.lookAt(at);
       this.showPlace(at);
-      this.view.paint();
+      this.marks.follow(at, this.drag ? this.drag.kind === "pan" || this.drag.kind === "tap" : !takesPoints(this.machine.state.tool));
     };
     canvas.onpointerup = (event) => {
       this.last = this.onCanvas(event);

@@ -1,23 +1,25 @@
 // Rulers along the upper and the left edge of the board, with the unit in their corner. They count from the origin of lengths.
 
-import { UNITS } from "../board/index.js";
+import { NM_PER_MM, UNITS } from "../board/index.js";
+import { element } from "./dom.js";
 
-// How wide a ruler is, in pixels of the page: a line of its letters, and the marks.
-const EDGE = 20;
 // Pixels of the page between two marks, at least: as many as the longest words beside one take.
 const APART = 70;
+
+/** @type {readonly Page.Ruler[]} */
+const RULERS = ["across", "down"];
 
 // The least of 1, 2, 5, 10, .. that is at least so great.
 /** @param {number} least */
 export function roundStep(least) {
   const power = 10 ** Math.floor(Math.log10(least));
-  return [1, 2, 5, 10].map((digit) => digit * power).find((step) => step >= least * 0.999999);
+  return [1, 2, 5].map((digit) => digit * power).find((step) => step >= least * 0.999999) ?? 10 * power;
 }
 
 // The marks between two places in nm: where they are, and their words in the unit.
 /** @param {number} from @param {number} to @param {number} least @param {string} unit */
 export function ticks(from, to, least, unit) {
-  const { nm } = UNITS[unit] ?? UNITS.mm, step = roundStep(least / nm);
+  const { nm } = UNITS[unit] ?? { nm: NM_PER_MM }, step = roundStep(least / nm);
   const decimals = Math.max(0, -Math.floor(Math.log10(step) + 1e-9)), found = [];
   for (let count = Math.ceil(from / nm / step); count * step * nm <= to; count++) {
     found.push({ at: count * step * nm, words: (count * step).toFixed(decimals) });
@@ -25,44 +27,54 @@ export function ticks(from, to, least, unit) {
   return found;
 }
 
-// The marks of an edge of the canvas, from its ends as points of the board: { place, words }, in pixels along it.
-/**
- * @param {Page.View} view
- * @param {Board.Point} from
- * @param {Board.Point} to
- * @param {"x" | "y"} axis
- * @param {number} least
- * @param {string} unit
- * @param {Board.Point | null} origin
- */
-function marksOf(view, from, to, axis, least, unit, origin) {
-  const zero = origin?.[axis] ?? 0, [low, high] = [from[axis], to[axis]].sort((one, other) => one - other);
-  return ticks(low - zero, high - zero, least, unit).map(({ at, words }) => ({ at: view.placeOf(...pointOn(axis, at + zero)), words }));
+// The marks of an edge of the canvas, from its upper left corner to another one: where they are, in pixels, and their words.
+/** @param {Page.View} view @param {Board.Point} end @param {"x" | "y"} axis @param {Machine.State} state */
+function marksOf(view, end, axis, { unit, origin }) {
+  const zero = origin?.[axis] ?? 0, from = view.pointAt(0, 0)[axis], to = view.pointAt(end.x, end.y)[axis];
+  return ticks(Math.min(from, to) - zero, Math.max(from, to) - zero, APART * view.density * view.pitch, unit)
+    .map(({ at, words }) => ({ at: view.placeOf(...pointOn(axis, at + zero)), words }));
 }
 
 /** @param {"x" | "y"} axis @param {number} value @returns {Board.Pair} */
 const pointOn = (axis, value) => axis === "x" ? [value, 0] : [0, value];
 
-/** @param {Page.View} view @param {Machine.State} state @param {Board.Point | null} pointer @param {Page.Ink} colour */
-export function rulers(view, { unit, origin }, pointer, colour) {
-  const { context, canvas, density, pitch } = view;
-  const edge = EDGE * density, least = APART * density * pitch, [across, down] = /** @type {("x" | "y")[]} */ (view.isTurned ? ["y", "x"] : ["x", "y"]);
-  context.fillStyle = colour("--panel");
-  context.fillRect(0, 0, canvas.width, edge);
-  context.fillRect(0, 0, edge, canvas.height);
-  context.fillStyle = context.strokeStyle = colour("--faint");
+// Paints the rulers, or one of them alone.
+/**
+ * @param {Page.View} view
+ * @param {Machine.State} state
+ * @param {Board.Point | null} pointer
+ * @param {Page.Ink} colour
+ * @param {Board.Context} context
+ * @param {readonly Page.Ruler[]} sides
+ */
+export function rulers(view, state, pointer, colour, context = view.context, sides = RULERS) {
+  const { density, edge } = view;
   context.font = `${10 * density}px ui-monospace, "DejaVu Sans Mono", monospace`;
   context.lineWidth = density;
-  context.beginPath();
-  const first = view.pointAt(0, 0);
-  for (const { at, words } of marksOf(view, first, view.pointAt(canvas.width, 0), across, least, unit, origin)) {
+  for (const side of sides) (side === "across" ? across : down)(view, state, context, colour);
+  corner(view, state.unit, context, colour);
+  if (pointer) pointerMarks(context, pointer, edge, colour);
+}
+
+/** @param {Page.View} view @param {Machine.State} state @param {Board.Context} context @param {Page.Ink} colour */
+function across(view, state, context, colour) {
+  const { canvas, edge, density } = view;
+  begin(context, canvas.width, edge, colour);
+  for (const { at, words } of marksOf(view, { x: canvas.width, y: 0 }, view.isTurned ? "y" : "x", state)) {
     const x = Math.round(at.x) + 0.5;
     if (x < edge) continue;
     context.moveTo(x, edge * 0.5);
     context.lineTo(x, edge);
     context.fillText(words, x + 3 * density, edge * 0.55);
   }
-  for (const { at, words } of marksOf(view, first, view.pointAt(0, canvas.height), down, least, unit, origin)) {
+  context.stroke();
+}
+
+/** @param {Page.View} view @param {Machine.State} state @param {Board.Context} context @param {Page.Ink} colour */
+function down(view, state, context, colour) {
+  const { canvas, edge, density } = view;
+  begin(context, edge, canvas.height, colour);
+  for (const { at, words } of marksOf(view, { x: 0, y: canvas.height }, view.isTurned ? "x" : "y", state)) {
     const y = Math.round(at.y) + 0.5;
     if (y < edge) continue;
     context.moveTo(edge * 0.5, y);
@@ -70,8 +82,15 @@ export function rulers(view, { unit, origin }, pointer, colour) {
     upwards(context, words, edge * 0.55, y - 3 * density);
   }
   context.stroke();
-  corner(view, unit, edge, colour);
-  if (pointer) pointerMarks(view, pointer, edge, colour);
+}
+
+// An empty ruler, and the ink of its marks.
+/** @param {Board.Context} context @param {number} width @param {number} height @param {Page.Ink} colour */
+function begin(context, width, height, colour) {
+  context.fillStyle = colour("--panel");
+  context.fillRect(0, 0, width, height);
+  context.fillStyle = context.strokeStyle = colour("--faint");
+  context.beginPath();
 }
 
 /** @param {Board.Context} context @param {string} words @param {number} x @param {number} y */
@@ -83,16 +102,16 @@ function upwards(context, words, x, y) {
   context.restore();
 }
 
-/** @param {Page.View} view @param {string} unit @param {number} edge @param {Page.Ink} colour */
-function corner({ context, density }, unit, edge, colour) {
+/** @param {Page.View} view @param {string} unit @param {Board.Context} context @param {Page.Ink} colour */
+function corner({ density, edge }, unit, context, colour) {
   context.fillStyle = colour("--panel");
   context.fillRect(0, 0, edge, edge);
   context.fillStyle = colour("--faint");
   context.fillText(unit, 1 * density, edge * 0.65);
 }
 
-/** @param {Page.View} view @param {Board.Point} pointer @param {number} edge @param {Page.Ink} colour */
-function pointerMarks({ context }, { x, y }, edge, colour) {
+/** @param {Board.Context} context @param {Board.Point} pointer @param {number} edge @param {Page.Ink} colour */
+function pointerMarks(context, { x, y }, edge, colour) {
   context.strokeStyle = colour("--ink-picked");
   context.beginPath();
   context.moveTo(x, 0);
@@ -100,4 +119,46 @@ function pointerMarks({ context }, { x, y }, edge, colour) {
   context.moveTo(0, y);
   context.lineTo(edge, y);
   context.stroke();
+}
+
+// The rulers while what is painted goes with the view: each on a canvas of its own, which stays at its edge.
+export class RulerStrips {
+  /** @param {Page.View} view */
+  constructor(view) {
+    this.view = view;
+    this.strips = RULERS.map((side) => ({ side, canvas: element("canvas", { className: "ruler", hidden: true }) }));
+    // What is painted on them.
+    this.key = "";
+    view.canvas.after(...this.strips.map(({ canvas }) => canvas));
+  }
+
+  // Paints them where anything of them is another one now.
+  /** @param {Machine.State} state @param {Board.Point | null} pointer @param {Page.Ink} colour */
+  show(state, pointer, colour) {
+    const { view } = this, { left, top, pitch } = view, { unit, origin } = state;
+    const key = [left, top, pitch, unit, origin?.x, origin?.y, pointer?.x, pointer?.y].join();
+    if (key === this.key) return;
+    this.key = key;
+    for (const { side, canvas } of this.strips) {
+      const context = this.emptied(canvas, side);
+      if (context) rulers(view, state, pointer, colour, context, [side]);
+    }
+  }
+
+  /** @param {HTMLCanvasElement} canvas @param {Page.Ruler} side */
+  emptied(canvas, side) {
+    const { view: { canvas: board, edge, density } } = this, thick = Math.ceil(edge);
+    const sides = side === "across" ? { width: board.width, height: thick } : { width: thick, height: board.height };
+    if (canvas.width !== sides.width || canvas.height !== sides.height) {
+      Object.assign(canvas, sides);
+      Object.assign(canvas.style, { width: `${sides.width / density}px`, height: `${sides.height / density}px` });
+    }
+    canvas.hidden = false;
+    return canvas.getContext("2d");
+  }
+
+  hide() {
+    this.key = "";
+    for (const { canvas } of this.strips) canvas.hidden = true;
+  }
 }

@@ -15,7 +15,7 @@ const ROOM = 0.05;
 // The rulers are about so many pixels of the page wide.
 const EDGE = 20;
 // The view moves for so long after it was moved.
-const STILL_MS = 150;
+export const STILL_MS = 150;
 
 export class SeenPart {
   /** @param {HTMLCanvasElement} canvas */
@@ -38,8 +38,10 @@ export class SeenPart {
     this.onMirror = () => {};
   }
 
-  // What shows it: asks for what is seen now, or again for what may look otherwise, or paints alone.
+  // What shows it: asks for what is seen now, also where it moves on, or again for what may look otherwise, or paints alone.
   renew() {}
+
+  goOn() {}
 
   change() {}
 
@@ -53,6 +55,11 @@ export class SeenPart {
     this.canvas.height = height;
     if (this.fitted) this.fit(this.fitted);
     else this.renew();
+  }
+
+  // How wide a ruler is, in pixels of the canvas.
+  get edge() {
+    return EDGE * this.density;
   }
 
   // Whether left and right of the board are up and down on the canvas.
@@ -90,14 +97,18 @@ export class SeenPart {
   // Where a place of the canvas is in the picture from above and upright.
   /** @param {number} x @param {number} y */
   uprightOf(x, y) {
-    const [across, row] = [[x, y], [this.width - y, x], [this.width - x, this.height - y], [y, this.height - x]][this.quarters];
+    /** @type {Board.Pair[]} */
+    const places = [[x, y], [this.width - y, x], [this.width - x, this.height - y], [y, this.height - x]];
+    const [across, row] = places[this.quarters] ?? [x, y];
     return { x: this.isMirrored ? this.width - across : across, y: row };
   }
 
   // A way over the canvas, to the right and down, as one over the board, to the right and up.
   /** @param {number} right @param {number} down */
   wayOf(right, down) {
-    const [across, low] = [[right, down], [-down, right], [-right, -down], [down, -right]][this.quarters];
+    /** @type {Board.Pair[]} */
+    const ways = [[right, down], [-down, right], [-right, -down], [down, -right]];
+    const [across, low] = ways[this.quarters] ?? [right, down];
     return { x: this.isMirrored ? -across : across, y: -low };
   }
 
@@ -124,9 +135,9 @@ export class SeenPart {
   // Shows a box as large as it fits, with some room around it; a whole board next to the rulers, until a person moves it.
   /** @param {Board.Box} box @param {number} room */
   fit(box, room = ROOM) {
-    const isWhole = room === ROOM, edge = isWhole ? EDGE * this.density : 0, { width, height } = this.canvas;
-    const sides = [Math.max(1000, box.right - box.left), Math.max(1000, box.high - box.low)];
-    const [across, down] = this.isTurned ? sides.reverse() : sides;
+    const isWhole = room === ROOM, edge = isWhole ? this.edge : 0, { width, height } = this.canvas;
+    const [wide, tall] = [Math.max(1000, box.right - box.left), Math.max(1000, box.high - box.low)];
+    const [across, down] = this.isTurned ? [tall, wide] : [wide, tall];
     const pitch = Math.max(across / Math.max(1, width - edge), down / Math.max(1, height - edge)) / (1 - 2 * room);
     this.hold({ x: (box.left + box.right) / 2, y: (box.low + box.high) / 2 }, (width + edge) / 2, (height + edge) / 2, pitch, Math.ceil);
     this.fitted = isWhole ? box : null;
@@ -135,7 +146,7 @@ export class SeenPart {
   // Whether a part of one of these boxes is in the view, and not under its rulers or at its edge.
   /** @param {Board.Box[]} boxes */
   sees(boxes) {
-    const { width, height } = this.canvas, edge = EDGE * this.density * this.pitch;
+    const { width, height } = this.canvas, edge = this.edge * this.pitch;
     const left = this.left + edge, right = this.left + width * this.pitch - edge;
     const top = this.top - edge, below = this.top - height * this.pitch + edge;
     return boxes.some((box) => box.left <= right && box.right >= left && box.low <= top && box.high >= below);
@@ -195,9 +206,11 @@ export class SeenPart {
 
   // Another part of the board is seen.
   move() {
+    const { isMoving } = this;
     this.fitted = null;
     this.moved = performance.now();
-    this.renew();
+    if (isMoving) this.goOn();
+    else this.renew();
   }
 
   get isMoving() {
@@ -206,6 +219,7 @@ export class SeenPart {
 
   // The window of the station for this view, as a line of a script; what lies off the board is left out.
   window() {
+    /** @param {number} start @param {number} pixels @returns {[first: number, pixels: number]} */
     const along = (start, pixels) => {
       const first = Math.max(start - MARGIN * this.pitch, -BOARD + this.pitch);
       const last = Math.min(start + (pixels + MARGIN) * this.pitch, BOARD - this.pitch);

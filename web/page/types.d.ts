@@ -54,12 +54,17 @@ declare namespace Page {
   /** A custom property of the style, as a colour. */
   type Ink = (name: string) => string;
   interface Colours { board: string; undrawn: string }
+  type Ruler = "across" | "down";
   /** A picture of the station on the board; without a bitmap it is empty. */
   interface Layered { bitmap: ImageBitmap | null; left: number; top: number; pitch: number; opacity?: number }
+  /** Rows of a picture: the first one, and the one behind the last. */
+  interface Rows { from: number; to: number }
+  /** What was changed by an edit, across all of the board, in nm. */
+  interface Touched { top: number; low: number }
   /** Paints what lies in a frame, whose sides are those of the context. */
   type Painter = (context: Board.Context, frame: Frame) => void;
   /** The composed picture, in bands of so many rows. */
-  interface Composing extends Frame { rows: number; bands: { bitmap: ImageBitmap; from: number }[]; paint: Painter; start: number }
+  interface Composing extends Frame { rows: number; bands: { bitmap: ImageBitmap; from: number }[]; paint: Painter; start: number; touched: readonly Touched[] | null }
   /** The picture of long outlines: of which view, what and in which ink. */
   interface OutlineSheet { canvas: OffscreenCanvas; left: number; top: number; pitch: number; ink: string; items: Board.Outline[]; view: number[] }
   /** An item that is shown before it is there. */

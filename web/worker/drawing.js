@@ -3,6 +3,7 @@
 
 import { inkOf, paint, pictureOf, putTile } from "./pictures.js";
 import { BoardSide } from "./board_side.js";
+import { rowsOf, touchedRows } from "./touched_rows.js";
 import { windowOf } from "./opened.js";
 
 // A layer that took longer, or has more items before it was drawn once, is drawn in parts of so many tiles, so that what the page
@@ -59,6 +60,9 @@ export class Drawing {
     // Of the window as it is: which layers the page has, by their names, and how they looked.
     /** @type {Map<string, string>} */
     this.sent = new Map();
+    // The pictures that it has, and how they looked: an edit touches some rows of one.
+    /** @type {Map<string, { looks: string, whole: Picture }>} */
+    this.known = new Map();
     // How long each layer took, and what is still to be drawn.
     /** @type {Map<string, number>} */
     this.took = new Map();
@@ -98,6 +102,8 @@ export class Drawing {
   show(view) {
     this.view = view;
     this.current = view.window === this.current ? this.current : "";
+    // (the page may have let go of pictures meanwhile)
+    for (const { name, isThere } of view.layers) if (!isThere) this.known.delete(name);
     this.refresh();
   }
 
@@ -133,7 +139,7 @@ export class Drawing {
     const isNew = this.current !== view.window;
     this.use(view.window);
     if (this.current !== view.window) return this.stop("The view cannot be set.");
-    if (isNew) this.sent.clear();
+    if (isNew) this.forget();
     const layer = this.part?.layer ?? first;
     if (layer.isOpened) this.drawOpened(view, layer);
     else if (this.part || this.isHeavy(layer)) this.drawPart(view, layer);
@@ -157,6 +163,12 @@ export class Drawing {
     this.isOwed = false;
     this.post({ kind: "undrawn", why });
     return false;
+  }
+
+  // The page has no picture any more that some rows could be put into.
+  forget() {
+    this.sent.clear();
+    this.known.clear();
   }
 
   /** @param {Layer} layer */
@@ -187,6 +199,8 @@ export class Drawing {
     part.spent += performance.now() - start;
     const drawn = code ? 0 : Number(words.decode(this.station.reply).split(" ")[1]);
     part.tiles += drawn;
+    // (some may be tiles of layers that were loaded before it, whose own plots find nothing to draw then)
+    if (drawn > 0) for (const name of [...this.layers.keys()].slice(0, number)) this.sent.delete(name);
     const isClean = drawn < PART || this.station.tile(number, tilesIn(view) - 1) !== null;
     if (!isClean) {
       if (performance.now() - part.sent < PART_MS) return;
@@ -232,9 +246,19 @@ export class Drawing {
       this.sent.set(name, looks);
       return;
     }
-    const bitmap = this.bitmapOf(view, picture(), colour);
-    if (!isPart) this.sent.set(name, looks);
-    this.post({ kind: "picture", number, window, samples, name, bitmap, isPart }, bitmap ? [bitmap] : []);
+    const whole = picture(), before = this.known.get(name);
+    const rows = before?.looks === looks && !isPart ? touchedRows(before.whole, whole, samples) : undefined;
+    if (isPart) {
+      this.known.delete(name);
+    } else {
+      this.sent.set(name, looks);
+      this.known.set(name, { looks, whole });
+    }
+    if (rows === null) return;
+    // All of it, or the rows that were touched.
+    const bitmap = this.bitmapOf(view, rows ? rowsOf(whole, rows) : whole, colour);
+    const part = rows && { rows: { from: rows.from / samples, to: Math.ceil(rows.to / samples) } };
+    this.post({ kind: "picture", number, window, samples, name, bitmap, isPart, ...part }, bitmap ? [bitmap] : []);
   }
 
   /** @param {Wanted} view @param {Picture} picture @param {string} colour */

@@ -17,7 +17,10 @@ declare namespace Worker {
   type Numbered = { number: number } | { call: number };
   /** The view that is drawn: a line of a script, and its layers, the topmost first. */
   interface Wanted { number: number; window: string; samples: number; layers: WantedLayer[]; made: MadeSide | null }
-  interface WantedLayer { name: string; colour: string; isOpened?: boolean | undefined }
+  /** `isThere` where the page has a picture of it, into which rows can be put. */
+  interface WantedLayer { name: string; colour: string; isOpened?: boolean | undefined; isThere?: boolean | undefined }
+  /** Rows of a picture: the first one, and the one behind the last. */
+  interface Rows { from: number; to: number }
   /** A side of the board as it will be made, of layers with what they show, what their files say of that, and which tools these call not plated. */
   interface MadeSide { side: "top" | "bottom"; mask: string; finish: string; layers: MadeLayer[] }
   interface MadeLayer { name: string; shows: string; said: string | null; bare: number[] }
@@ -64,6 +67,7 @@ declare namespace Worker {
   interface Came {
     number: number; name: string; bitmap: ImageBitmap | null; window?: string; samples?: number; isPart?: boolean;
     place?: { left: number; top: number; pitch: number }; side?: "top" | "bottom"; lacks?: string[];
+    rows?: Rows;
   }
   /** How far a drawing is: so many layers, and a part of the next one. */
   interface Progress { drawn: number; count: number; part: number }
