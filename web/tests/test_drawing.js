@@ -66,8 +66,8 @@ suite("20 layers", () => {
     const browser = await withLayers({ width: 1280, height: 800, scale: 2 });
     // How many pixels the page's thread draws in a frame, while pictures of another part of the board come, of those of one
     // picture; and how long it needs, which other work on the machine makes longer.
-    const { frames, pictures, longest, spent } = await browser.ask(`(async () => {
-      const { view } = camplot, { context } = view, paint = view.paintNow.bind(view), spent = [];
+    const { shown, frames, pictures, longest, spent } = await browser.ask(`(async () => {
+      const { view } = camplot, { context, frames } = view, paint = view.paintNow.bind(view), spent = [];
       let pixels = 0;
       context.drawImage = (...words) => {
         pixels += words[0].width * words[0].height;
@@ -83,11 +83,11 @@ suite("20 layers", () => {
       delete context.drawImage;
       const { width, height } = view.composed.shown;
       spent.sort((one, other) => one - other);
-      return { frames: spent.length, pictures: pixels / spent.length / width / height, longest: spent.at(-1),
+      return { shown: view.frames - frames, frames: spent.length, pictures: pixels / spent.length / width / height, longest: spent.at(-1),
         spent: spent[Math.floor(spent.length / 2)] };
     })()`);
-    console.log(`page: 20 layers at twice the pixels: ${Math.round(frames / 2)} frames a second in a pan, ${spent.toFixed(1)} ms each, ${
-      longest.toFixed(1)} ms the longest`);
+    console.log(`page: 20 layers at twice the pixels: ${Math.round(shown / 2)} frames a second in a pan, ${frames} of ${shown} painted, ${
+      spent.toFixed(1)} ms each, ${longest.toFixed(1)} ms the longest`);
     assert.ok(frames > 0 && pictures > 0.5 && pictures < 1.5, `${pictures} pictures in each of ${frames} frames`);
     await settle(browser);
     assert.equal((await browser.ask(COMPARED)).greatest, 0);
@@ -171,8 +171,8 @@ suite("a region of 100,000 sides", () => {
     assert.match(await text(browser, "picked"), /^region with 100,001 corners, .*top 0, as the station has itregion dark 0 0 l .* \.\. \([\d,]+ letters\)/);
     await settle(browser);
     // How often the long path itself is stroked.
-    const { frames, strokes, spent } = await browser.ask(`(async () => {
-      const { view } = camplot, paint = view.paintNow.bind(view), spent = [];
+    const { shown, frames, strokes, spent } = await browser.ask(`(async () => {
+      const { view } = camplot, before = view.frames, paint = view.paintNow.bind(view), spent = [];
       let strokes = 0;
       const kinds = [CanvasRenderingContext2D, OffscreenCanvasRenderingContext2D].map(({ prototype }) => prototype);
       const wholes = kinds.map((kind) => kind.stroke);
@@ -190,9 +190,10 @@ suite("a region of 100,000 sides", () => {
       delete view.paintNow;
       kinds.forEach((kind, at) => { kind.stroke = wholes[at]; });
       spent.sort((one, other) => one - other);
-      return { frames: spent.length, strokes, spent: spent[Math.floor(spent.length / 2)] };
+      return { shown: view.frames - before, frames: spent.length, strokes, spent: spent[Math.floor(spent.length / 2)] };
     })()`);
-    console.log(`page: a picked region of 100,000 sides: ${Math.round(frames / 2)} frames a second in a pan, ${spent.toFixed(1)} ms each`);
+    console.log(`page: a picked region of 100,000 sides: ${Math.round(shown / 2)} frames a second in a pan, ${frames} of ${
+      shown} painted, ${spent.toFixed(1)} ms each`);
     assert.ok(frames > 2 && strokes <= frames / 2, `${strokes} strokes of the path in ${frames} frames`);
     // At rest it is drawn anew where it is.
     await browser.wait("camplot.marks.outlines.sheet.view[0] === camplot.view.left", 60);
