@@ -1,7 +1,7 @@
 // What a board is called.
 
 // What the names of a board's files have in common, or else the name of its first file.
-/** @param {{ layers: { file?: string, label?: string }[] }} state */
+/** @param {{ layers: { file?: string | undefined, label?: string | undefined }[] }} state */
 export function titleOf({ layers }) {
   const names = layers.flatMap(({ file, label }) => file ?? label ?? []);
   const [first] = names;

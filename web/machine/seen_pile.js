@@ -4,12 +4,12 @@
 const SIDED = /^(?:top|bottom)(?:-|$)|^in\d+$/;
 
 // Whether a layer lies on a side or between the two.
-/** @param {{ name: string, shows?: string | null }} layer */
+/** @param {{ name: string, shows?: string | null | undefined }} layer */
 const isSided = ({ shows }) => SIDED.test(shows ?? "");
 
 /**
  * Layers from the farthest to the nearest.
- * @template {{ name: string, shows?: string | null }} T
+ * @template {{ name: string, shows?: string | null | undefined }} T
  * @param {readonly T[]} layers from the bottom up
  * @param {boolean} isBelow
  * @returns {readonly T[]}

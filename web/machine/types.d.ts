@@ -22,7 +22,7 @@ declare namespace Machine {
     label: string; colour: string; height: number; opacity: number; isShown: boolean; file?: string | undefined; origin?: string | undefined;
     shows?: string | undefined; toldBy?: string | undefined;
   }
-  interface Layer extends Look { name: string; kind: Board.LayerKind; items: number; entries: number; by?: Following; base?: Following }
+  interface Layer extends Look { name: string; kind: Board.LayerKind; items: number; entries: number; by?: Following | undefined; base?: Following }
   /** A line of the script with its reply; of a load with the path, the number of its file and the layer's look. */
   interface Told { line: string; reply: string; path?: string; file?: string; layer?: Partial<Look>; isSave?: boolean }
   /** A picture beside the layers: `of` names the layer that it is of, `window` is a line of a script. */

@@ -221,7 +221,7 @@ export class Boards {
   /** @param {Page.Board} board @param {string | undefined} why */
   unkept(board, why) {
     /** @type {Machine.Event} */
-    const event = { kind: "kept", number: 0, isKept: false, why };
+    const event = { kind: "kept", number: 0, isKept: false, ...why === undefined ? {} : { why } };
     if (board === this.shown) this.machine.send(event);
     else this.happened((other) => other === board, event);
     this.say(`What was opened in ${nameOf(board)} is not kept. ${why ?? ""}`, true);

@@ -38,8 +38,8 @@ function boxAfter({ box, all }, { turn, about, dx, dy }) {
 /** @param {Machine.QuestionOf<"whole">} question */
 function limitWords({ count, repeats, isDrill }) {
   const loses = isDrill ? "" : " A turn deletes each item and inserts it again, so what the file says of items, as their nets, goes with it; a move keeps it.";
-  return [`${plural(count, "item")}: one group of lines, and one step to undo.${loses}`,
-    repeats ? `${plural(repeats, "repeat")}, which no line inserts: the layer can be moved, and not turned.` : ""];
+  const said = `${plural(count, "item")}: one group of lines, and one step to undo.${loses}`;
+  return repeats ? [said, `${plural(repeats, "repeat")}, which no line inserts: the layer can be moved, and not turned.`] : [said];
 }
 
 /** @param {Machine.State} state @param {Machine.QuestionOf<"whole">} question @param {Page.Allow} allow @returns {Page.Dialogue} */
@@ -61,10 +61,9 @@ export function wholeQuestion({ unit }, question, allow) {
   };
   for (const input of [turn, about, dx, dy]) input.oninput = show;
   queueMicrotask(show);
-  const [said, ...more] = limitWords(question).filter((words) => words);
   return {
     title: `Move, turn or mirror ${question.label}`,
-    parts: [element("p", {}, said), ...more.map((words) => element("p", {}, words)), field("turned", turn), field("about", about),
+    parts: [...limitWords(question).map((words) => element("p", {}, words)), field("turned", turn), field("about", about),
       field(`then to the right, ${unit}`, dx), field(`and up, ${unit}`, dy), lies],
     choices: [["Change the layer", "yes"], ["Cancel", "no"]],
     answer: () => {

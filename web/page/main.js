@@ -66,7 +66,7 @@ const asked = {
   "copy link": () => going.copyLink(),
   "give view": ({ number }) => handed(number, () => giveView(view)),
   "give svg": ({ number, ...given }) => handed(number, () => giveSvg(view, given)),
-  "give board": ({ number, ...given }) => handed(number, () => giveBoard(view, machine.link, given)),
+  "give board": ({ number, ...given }) => handed(number, () => machine.link ? giveBoard(view, machine.link, given) : Promise.reject(new Error("the station stopped."))),
   "give print": ({ number, ...given }) => handed(number, () => printSheet(view, given)),
   view: ({ view: was }) => view.show(was),
   look: ({ look }) => setLook(look, view),
