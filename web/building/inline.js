@@ -15,9 +15,11 @@ const LIST = /^export \{([^}]*)\};$/gm;
 // Comments, for who reads the modules, and those that give types, for tsc: both are left out. (A text over several lines may
 // have no line that begins as a comment does.)
 const LINE_COMMENTS = /^ *\/\/.*\n/gm;
-// What lines are indented by: the blanks of a text over several lines too, so no such text may need them.
-const INDENTS = /^ +/gm;
+// What lines are indented by, and lines with nothing: those of a text over several lines too, so no such text may need them.
+const INDENTS = /^ +/gm, EMPTY = /\n{2,}/g;
 const TYPES = /^ *\/\*\*(?:[^*]|\*(?!\/))*\*\/\n/gm;
+// Those within a line, as of a cast.
+const INLINE_TYPES = /\/\*\* @\w+ \{[^*\n]*\} ?\*\/ ?/g;
 
 /**
  * 'a, b as c' as [[a, a], [b, c]].
@@ -52,7 +54,7 @@ class Inliner {
   index(path) {
     const known = this.indexes.get(path);
     if (known !== undefined) return known;
-    const text = /** @type {string} */ (readFileSync(path, "utf8")).replace(TYPES, "").replace(LINE_COMMENTS, "");
+    const text = /** @type {string} */ (readFileSync(path, "utf8")).replace(TYPES, "").replace(INLINE_TYPES, "").replace(LINE_COMMENTS, "");
     const handed = [...text.matchAll(REEXPORT)].flatMap(([, list = "", source = ""]) =>
       pairs(list).map(([from, to]) => /** @type {[string, Origin]} */ ([to, [resolve(dirname(path), source), from]])));
     const found = handed.length && !text.replace(REEXPORT, "").trim() ? new Map(handed) : null;
@@ -100,7 +102,8 @@ class Inliner {
     this.open.push(path);
     /** @type {string[]} */
     const exported = [];
-    let text = /** @type {string} */ (readFileSync(path, "utf8")).replace(TYPES, "").replace(LINE_COMMENTS, "").replace(IMPORT, (_, whole, list, source) => {
+    const bare = /** @type {string} */ (readFileSync(path, "utf8")).replace(TYPES, "").replace(INLINE_TYPES, "").replace(LINE_COMMENTS, "");
+    let text = bare.replace(IMPORT, (_, whole, list, source) => {
       if (whole) return `const ${whole.slice(5)} = ${this.add(resolve(dirname(path), source))};`;
       return this.taken(path, source, pairs(list)).map(([name, names]) =>
         `const { ${names.map(([from, to]) => from === to ? from : `${from}: ${to}`).join(", ")} } = ${name};`).join("\n");
@@ -122,7 +125,7 @@ class Inliner {
     this.names.set(path, name);
     this.open.pop();
     this.exports.set(name, new Set(exported.map((word) => word.replace(/:.*/, ""))));
-    this.texts.push(`const ${name} = (() => {\n${text.replace(INDENTS, "")}\nreturn { ${exported.join(", ")} };\n})();\n`);
+    this.texts.push(`const ${name} = (() => {\n${text.replace(INDENTS, "").replace(EMPTY, "\n")}\nreturn { ${exported.join(", ")} };\n})();\n`);
     return name;
   }
 }
