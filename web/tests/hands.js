@@ -65,6 +65,9 @@ export async function press(tab, selector, at = 0) {
   await tab.click(...middle);
 }
 
+// Saves all layers as the station writes them, without what their files say of items.
+export const saveBare = (tab) => tab.ask("document.querySelector('[data-act=save-bare]').click()");
+
 // Types a line of the script, and Enter.
 export async function typeLine(tab, line) {
   await press(tab, "#line");

@@ -6,7 +6,7 @@ import { readdirSync, statSync } from "node:fs";
 import { join } from "node:path";
 import { CTRL, EXAMPLES, REPOSITORY } from "./support.js";
 import { WRITES, armWrite, canBeEnded } from "./faults.js";
-import { answer, drop, openFiles, press, toBoard, typeLine } from "./hands.js";
+import { answer, drop, openFiles, press, saveBare, toBoard, typeLine } from "./hands.js";
 import { layerTexts, ran, saving, unzipped } from "./saving.js";
 import { linesNow, rest, restAgain, scriptNow, seen } from "./seen.js";
 import { suite, test } from "../../tools/tests/harness.js";
@@ -84,11 +84,8 @@ async function savedBy(tab) {
   });
   await rest(tab);
   const texts = await saving(tab, async () => {
-    await tab.key("s", CTRL);
+    await saveBare(tab);
     await rest(tab);
-    const { question } = await seen(tab);
-    // Where attributes would be dropped, the canonical texts are chosen.
-    if (question) await answer(tab, /without|plain|^Save/i);
   });
   await rest(tab);
   const script = await saving(tab, () => tab.key("e", CTRL));

@@ -9,7 +9,7 @@ import { CTRL, EXAMPLES, MODULE, PAD, SHIFT, clickAt, filesOf, gerber, last, onP
   from "./support.js";
 import { Firefox } from "./firefox.js";
 import { WebKit } from "./webkit.js";
-import { answer, onDisk, press, toBoard, typeLine } from "./hands.js";
+import { answer, onDisk, press, saveBare, toBoard, typeLine } from "./hands.js";
 import { blackBoxCases, differences, pageOfModules, randomScripts } from "./cases.js";
 import { afterwards, skip, suite, test } from "../../tools/tests/harness.js";
 import { layerTexts, ran, unzipped } from "./saving.js";
@@ -113,7 +113,7 @@ function rowsOf(png) {
 async function compareSaved(browser) {
   const shown = (await seen(browser)).layers.filter(({ isShown, items }) => isShown && items);
   const pictures = unzipped((await plots(browser, "pbm")).bytes), packed = unzipped((await plots(browser, "png")).bytes);
-  const texts = await layerTexts(browser, (await browser.saving(() => browser.key("s", CTRL))).bytes);
+  const texts = await layerTexts(browser, (await browser.saving(() => saveBare(browser))).bytes);
   await rest(browser);
   const files = unzipped((await browser.saving(() => browser.key("e", CTRL))).bytes);
   const script = files.get("script").toString("latin1"), replies = (await told(browser)).filter(({ reply }) => !/^refused/.test(reply));

@@ -4,7 +4,7 @@
 
 import assert from "node:assert/strict";
 import { CTRL, SHIFT, clickAt, kicad, onPage, picked } from "./support.js";
-import { answer, drop, middleOf, onDisk, press, toBoard } from "./hands.js";
+import { answer, drop, middleOf, onDisk, press, saveBare, toBoard } from "./hands.js";
 import { archive } from "./archives.js";
 import { layerTexts, ran, saving, unzipped } from "./saving.js";
 import { linesNow, rest, seen } from "./seen.js";
@@ -106,7 +106,7 @@ suite("a day's work", () => {
     assert.equal(await tab.ask("camplot.state.comparison"), null);
 
     // Saved: the names that came, with what the program makes of the script.
-    const saved = await saving(tab, () => key(tab, "s", CTRL)), texts = await layerTexts(tab, saved.bytes);
+    const saved = await saving(tab, () => saveBare(tab)), texts = await layerTexts(tab, saved.bytes);
     assert.deepEqual([...unzipped(saved.bytes).keys()].sort(), came.filter(({ name }) => !name.endsWith(".d356") && !name.endsWith(".md"))
       .map(({ name }) => `gerbers/${name}`).sort());
     const files = unzipped((await saving(tab, () => key(tab, "e", CTRL))).bytes), script = files.get("script").toString("latin1");

@@ -9,6 +9,7 @@ import { CTRL, PAD, SHIFT, builtPage, clickAt, gerber, give, kicad, lines, openP
 import { Browser } from "./browser.js";
 import { withContents } from "../building/contents.js";
 import { afterwards, suite, test } from "../../tools/tests/harness.js";
+import { saveBare } from "./hands.js";
 
 suite("history", () => {
   test("the board is compared with an earlier step", async () => {
@@ -82,7 +83,7 @@ suite("saving", () => {
     await run(browser, "move top 0 1 1", "move top 1 1 1");
     await browser.ask("camplot.plot(camplot.state.layers.filter(({ name }) => ['top', 'plated'].includes(name)), 25400, 'pbm')");
     const plots = await savedFile(browser);
-    await browser.key("s", CTRL);
+    await saveBare(browser);
     const texts = await savedFile(browser);
     assert.equal(await browser.ask("camplot.state.unsaved"), 0);
     await browser.key("e", CTRL);

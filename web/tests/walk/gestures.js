@@ -12,7 +12,7 @@ import { basename, join } from "node:path";
 import { BY_HAND } from "./by_hand.js";
 import { CTRL, SHIFT, onPage } from "../support.js";
 import { archive } from "../archives.js";
-import { drop, hold, openFiles, press, toBoard, typeLine } from "../hands.js";
+import { drop, hold, openFiles, press, saveBare, toBoard, typeLine } from "../hands.js";
 import { saving } from "../saving.js";
 
 const count = (walk, least, most) => least + Math.floor(walk.chance() ** 2 * (most - least + 1));
@@ -176,10 +176,10 @@ function packed(walk, paths) {
 }
 
 const saved = (walk) => {
-  const [name, key, modifiers] = of(walk, [["all", "s", CTRL], ["script", "e", CTRL]]);
+  const [name, act] = of(walk, [["all", () => saveBare(walk.tab)], ["script", () => walk.tab.key("e", CTRL)]]);
   return { kind: "save", saves: name, words: `save ${name}`, act: async (gesture) => {
     if (!walk.seen.layers.length && name === "all") return;
-    gesture.file = await saving(walk.tab, () => walk.tab.key(key, modifiers), walk.room);
+    gesture.file = await saving(walk.tab, act, walk.room);
   } };
 };
 
