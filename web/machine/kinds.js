@@ -4,7 +4,6 @@
 import { dropped, readLater } from "./attributes.js";
 import { firstWord, isEdit, wordsOf } from "./steps.js";
 import { keep, keepAnew } from "./keeping.js";
-import { pairs } from "./pairs.js";
 import { bytesOf, layerOf } from "./state.js";
 import { close, closeAll } from "./closing.js";
 import { applied, entriesOf, grouped } from "./grouped.js";
