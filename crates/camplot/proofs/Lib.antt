@@ -1,4 +1,5 @@
 pub mod Faults
 pub mod PlainCalls
 pub mod Replacing
+pub mod Straight
 pub mod Values

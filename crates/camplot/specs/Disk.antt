@@ -1,20 +1,31 @@
 -- What is read from a file and written to one, as far as a clause can speak of it.
-use Rattle.std.specs.Prelude.{◌≡◌, ◌≢◌, ℕ, ◌≤◌, ◌<◌, ◌++◌, List, length, Option, None, Some, IfSome, Result, Ok, Err, ⊤, codes}
+use Rattle.std.specs.Prelude.{◌≡◌, ◌≢◌, ◌⊎◌, ℕ, ◌≤◌, ◌<◌, ◌++◌, Bool, true, false, List, length, Option, None, Some, IfSome}
+use Rattle.std.specs.Prelude.{Result, Ok, Err, ⊤, codes}
 use Rattle.std.specs.Io.KnownBytes.{Consumes}
 use Rattle.std.specs.IoError.{error_kind}
 use Rattle.std.specs.declared.io.Error.{Error}
 use Rattle.std.specs.declared.io.ErrorKind.{ErrorKind}
-use Rattle.std.specs.declared.io.ErrorKind.TheVariants.{OutOfMemory}
+use Rattle.std.specs.declared.io.ErrorKind.TheVariants.{CrossesDevices, InvalidFilename, OutOfMemory, PermissionDenied}
+use Rattle.std.specs.declared.io.ErrorKind.TheVariants.{ReadOnlyFilesystem, ResourceBusy}
 use Rattle.cam_station.specs.Files.{AtPath, FileOf, HasRisenBy, ToldFiles}
 use Rattle.cam_station.specs.declared.files.FileFault.{FileFault}
 use Rattle.cam_station.specs.declared.files.FileFault.TheVariants as files
+use Rattle.camplot.specs.declared.calls.Found.{Found}
+use Rattle.camplot.specs.declared.calls.Found.TheVariants.{Nothing, Other, Plain}
 use Rattle.camplot.specs.declared.reading.IoFault.{IoFault}
 use Rattle.camplot.specs.declared.reading.IoFault.TheVariants.{Failed, TooLong, Memory}
+
+-- a file that failed did so by an error of this kind
+abbrev pub IsOfKind : ErrorKind → IoFault → Type 0
+IsOfKind is (Failed kind) = is ≡ kind
+IsOfKind is TooLong = ⊤
+IsOfKind is Memory = ⊤
 
 -- the fault tells whether an error was want of memory, or of which kind the file's own was
 pub record IsFaultOf (error : Error) (fault : IoFault) : Type 0 where
   pub memory : error_kind error ≡ OutOfMemory → fault ≡ Memory
   pub failed : error_kind error ≢ OutOfMemory → fault ≡ Failed (error_kind error)
+  pub kind : IsOfKind (error_kind error) fault
 
 -- what a line of a script is told of a fault
 abbrev pub fault_heard : IoFault → FileFault
@@ -91,3 +102,51 @@ abbrev pub IsReplaced : ToldFiles → ToldFiles → List ℕ → List ℕ → Li
 IsReplaced None new own path bytes = ⊤
 IsReplaced (Some old) None own path bytes = ⊥
 IsReplaced (Some old) (Some new) own path bytes = (new path ≡ Some (FileOf bytes)) × KeepsAllBut old new own path
+
+-- what is known of a path that is to be written: what stands at it, and by an error of which kind no file took it
+pub record Known : Type 0 where
+  pub found : Option Found
+  pub unmade : Option ErrorKind
+
+abbrev pub found_of : Known → Option Found
+found_of known = known.found
+
+-- what was looked for was found, or an error came
+abbrev pub found_by : Result Found Error → Known
+found_by (Ok found) = record { found = Some found; unmade = None }
+found_by (Err error) = record { found = None; unmade = None }
+
+-- a file was made there or took the path, or an error came
+abbrev pub made_by : {T : Type 0} → Known → Result T Error → Known
+made_by known result = record { found = known.found; unmade = error_of result }
+
+-- the fault is of the kind of the error by which no file took the path
+abbrev pub IsUnmadeBy : Known → IoFault → Type 0
+IsUnmadeBy known (Failed kind) = known.unmade ≡ Some kind
+IsUnmadeBy known TooLong = ⊤
+IsUnmadeBy known Memory = ⊤
+
+-- a plain file stands there
+abbrev pub IsPlain : Option Found → Type 0
+IsPlain (Some (Plain about)) = ⊤
+IsPlain (Some Nothing) = ⊥
+IsPlain (Some Other) = ⊥
+IsPlain None = ⊥
+
+-- errors of these kinds say that no file can be made next to one that may well be written
+abbrev pub makes_none : ErrorKind → Bool
+makes_none PermissionDenied = true
+makes_none ReadOnlyFilesystem = true
+makes_none ResourceBusy = true
+makes_none CrossesDevices = true
+makes_none InvalidFilename = true
+makes_none kind = false
+
+-- and such an error came
+abbrev pub MakesNone : Option ErrorKind → Type 0
+MakesNone (Some kind) = makes_none kind ≡ true
+MakesNone None = ⊥
+
+-- The bytes may go straight to the path: what stands there is no plain file, or it is one and no file can be made next to it.
+abbrev pub MayBeStraight : Known → Type 0
+MayBeStraight known = (known.found ≡ Some Other) ⊎ (IsPlain known.found × MakesNone known.unmade)

@@ -5,7 +5,7 @@
 
 ghost use Rattle.std.specs.Prelude.{◌≡◌, IfErr, IfOk, OnErr, OnOk, string_bytes};
 ghost use Rattle.cam_station.specs.Files.{MayHaveStored};
-ghost use Rattle.camplot.specs.Disk.{HasMoved, IsReplaced, TellsOf, own_path};
+ghost use Rattle.camplot.specs.Disk.{HasMoved, IsReplaced, IsUnmadeBy, TellsOf, found_of, own_path};
 
 use crate::calls::{About, Calls, Made, Node};
 use crate::reading::{IoFault, fault_of};
@@ -31,6 +31,8 @@ fn replace<C: Calls>(calls: &mut C, own: &str, made: Made, path: &str) -> Result
     ensures err { OnErr result
         (MayHaveStored (C.contents calls.old) (C.contents calls.new) own.now) }
     ensures fault { IfErr result (λ fault. TellsOf (C.error calls.new) fault) }
+    ensures found { found_of (C.known calls.new) ≡ found_of (C.known calls.old) }
+    ensures unmade { IfErr result (λ fault. IsUnmadeBy (C.known calls.new) fault) }
 {
     match calls.rename(own, made, path) {
         Ok(()) => Ok(made.node),
@@ -56,6 +58,8 @@ pub fn save<C: Calls>(
     ensures err { OnErr result
         (MayHaveStored (C.contents calls.old) (C.contents calls.new) own.now) }
     ensures fault { IfErr result (λ fault. TellsOf (C.error calls.new) fault) }
+    ensures found { found_of (C.known calls.new) ≡ found_of (C.known calls.old) }
+    ensures unmade { IfErr result (λ fault. IsUnmadeBy (C.known calls.new) fault) }
 {
     match calls.make(own, like, bytes) {
         Ok(made) => replace(calls, own, made, path),

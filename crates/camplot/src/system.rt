@@ -3,6 +3,9 @@
 //! No clause can say what the system's files hold, so its files tell nothing of it; what is read from a reader and said
 //! to a writer is told as far as these tell it. What is asked of the system is told in the words of [`Calls`].
 
+ghost use Rattle.std.specs.Prelude.{◌≡◌, is_some};
+ghost use Rattle.camplot.specs.Disk.{makes_none};
+
 use crate::calls::{About, Calls, Found};
 use crate::originals::Originals;
 use crate::reading::{IoFault, Why, fault_of, write_whole};
@@ -21,7 +24,9 @@ const KEPT: &str =
     "only the text of its own layer replaces a file that was loaded: name another file";
 
 /// Why no file can be made next to one that is there, in words, where that one may well be written.
-fn why_none_is_made(kind: ErrorKind) -> Option<&'static str> {
+fn why_none_is_made(kind: ErrorKind) -> Option<&'static str>
+    ensures { is_some result ≡ makes_none kind }
+{
     match kind {
         ErrorKind::PermissionDenied => Some("permission is denied"),
         ErrorKind::ReadOnlyFilesystem => Some("its file system is read-only"),
@@ -106,9 +111,18 @@ impl<C> Disk<'_, C> {
 }
 
 impl<C: Calls> Disk<'_, C> {
-    ghost use Rattle.std.specs.Prelude.{◌≡◌, IfErr, OnErr, OnOk, None, true, false};
+    ghost use Rattle.std.specs.Prelude.{◌≡◌, IfErr, OnErr, OnOk, None, is_some, true, false};
     ghost use Rattle.cam_station.specs.Files.{HasRisenBy, MayHaveStored, Stored, failures_of};
-    ghost use Rattle.camplot.specs.Disk.{IsHeardOf, IsReplaced, TellsOf, own_path};
+    ghost use Rattle.camplot.specs.Disk.{
+      IsHeardOf,
+      IsPlain,
+      IsReplaced,
+      IsUnmadeBy,
+      MayBeStraight,
+      TellsOf,
+      found_of,
+      own_path,
+    };
 
     /// Keeps the file of a load, so that no picture replaces it.
     fn keep(&mut self, path: &str) -> Result<(), AllocError>
@@ -136,6 +150,7 @@ impl<C: Calls> Disk<'_, C> {
         ensures stored { OnOk result
             (Stored (C.contents self.old.calls) (C.contents self.new.calls) path.now bytes.now) }
         ensures straight { self.new.is_straight ≡ true }
+        ensures known { C.known self.new.calls ≡ C.known self.old.calls }
         ensures counted { HasRisenBy (failures_of result) self.old.failures self.new.failures }
         ensures fault { IfErr result (λ told. IsHeardOf (C.error self.new.calls) told) }
     {
@@ -163,6 +178,10 @@ impl<C: Calls> Disk<'_, C> {
         ensures stored { OnOk result
             (Stored (C.contents self.old.calls) (C.contents self.new.calls) path.now bytes.now) }
         ensures kept { self.new.is_straight ≡ false → C.contents self.new.calls ≡ C.contents self.old.calls }
+        ensures straight { self.old.is_straight ≡ false
+            → (is_there ≡ true → IsPlain (found_of (C.known self.old.calls)))
+            → IsUnmadeBy (C.known self.old.calls) fault
+            → self.new.is_straight ≡ true → MayBeStraight (C.known self.new.calls) }
         ensures counted { HasRisenBy (failures_of result) self.old.failures self.new.failures }
         ensures fault { TellsOf (C.error self.old.calls) fault
             → IfErr result (λ told. IsHeardOf (C.error self.new.calls) told) }
@@ -183,6 +202,9 @@ impl<C: Calls> Disk<'_, C> {
             (own_path path.now) path.now bytes.now) }
         ensures whole { self.new.is_straight ≡ false → OnErr result
             (MayHaveStored (C.contents self.old.calls) (C.contents self.new.calls) (own_path path.now)) }
+        ensures straight { self.old.is_straight ≡ false
+            → (is_some like ≡ true → IsPlain (found_of (C.known self.old.calls)))
+            → self.new.is_straight ≡ true → MayBeStraight (C.known self.new.calls) }
         ensures counted { HasRisenBy (failures_of result) self.old.failures self.new.failures }
         ensures fault { C.error self.old.calls ≡ None
             → IfErr result (λ told. IsHeardOf (C.error self.new.calls) told) }
@@ -202,12 +224,14 @@ impl<C: Calls> Disk<'_, C> {
     }
 
     /// Writes over a plain file, unless it is one that was loaded.
-    #[tactic(auto, using(crate::proofs::Faults::heard_none, crate::proofs::Faults::tells_of, crate::proofs::Faults::heard_of, crate::proofs::Replacing::kept_is_lost, crate::proofs::Replacing::kept_and_replaced, crate::proofs::Replacing::kept_and_lost, crate::proofs::Replacing::named_is_replaced, crate::proofs::Replacing::named_is_lost,))]
+    #[tactic(auto, using(crate::proofs::Faults::heard_none, crate::proofs::Faults::tells_of, crate::proofs::Faults::heard_of, crate::proofs::Replacing::kept_is_lost, crate::proofs::Replacing::kept_and_replaced, crate::proofs::Replacing::kept_and_lost, crate::proofs::Replacing::named_is_replaced, crate::proofs::Replacing::named_is_lost, crate::proofs::Straight::still_plain,))]
     fn put_over(&mut self, about: About, path: &str, bytes: &[u8]) -> Result<(), FileFault>
         ensures replaced { OnOk result (IsReplaced (C.contents self.old.calls) (C.contents self.new.calls)
             (own_path path.now) path.now bytes.now) }
         ensures whole { self.new.is_straight ≡ false → OnErr result
             (MayHaveStored (C.contents self.old.calls) (C.contents self.new.calls) (own_path path.now)) }
+        ensures straight { self.old.is_straight ≡ false → IsPlain (found_of (C.known self.old.calls))
+            → self.new.is_straight ≡ true → MayBeStraight (C.known self.new.calls) }
         ensures counted { HasRisenBy (failures_of result) self.old.failures self.new.failures }
         ensures fault { C.error self.old.calls ≡ None
             → IfErr result (λ told. IsHeardOf (C.error self.new.calls) told) }
@@ -226,7 +250,7 @@ impl<C: Calls> Disk<'_, C> {
 }
 
 impl<'a, C: Calls> Files for Disk<'a, C> {
-    ghost use Rattle.std.specs.Prelude.{◌≡◌, ◌≤◌, IfErr, IfOk, OnErr, OnOk, None, false, length};
+    ghost use Rattle.std.specs.Prelude.{◌≡◌, ◌≤◌, IfErr, IfOk, OnErr, OnOk, None, length};
     ghost use Rattle.cam_station.specs.Files.{
       FailsIfAbsent,
       HasRisenBy,
@@ -236,7 +260,7 @@ impl<'a, C: Calls> Files for Disk<'a, C> {
       failures_of,
     };
     ghost use Rattle.cam_refusals.specs.Limits.{file_limit};
-    ghost use Rattle.camplot.specs.Disk.{IsHeardOf, IsReplaced, own_path};
+    ghost use Rattle.camplot.specs.Disk.{IsHeardOf, IsReplaced, MayBeStraight, own_path};
 
     ghost contents = { λ _. None };
 
@@ -267,11 +291,11 @@ impl<'a, C: Calls> Files for Disk<'a, C> {
         ensures stored { OnOk result (Stored None None path.now bytes.now) }
         ensures lost { OnErr result (MayHaveStored None None path.now) }
         ensures counted { HasRisenBy (failures_of result) self.old.failures self.new.failures }
-        // The path has the bytes, or what it had before, unless they went straight to it. The program's own file next to it
-        // aside, no other path was written.
+        // The path has the bytes, or what it had before, unless it is no plain file or no file can be made next to it. The
+        // program's own file next to it aside, no other path was written.
         ensures replaced { OnOk result (IsReplaced (C.contents self.old.calls) (C.contents self.new.calls)
             (own_path path.now) path.now bytes.now) }
-        ensures whole { self.new.is_straight ≡ false → OnErr result
+        ensures whole { ¬ MayBeStraight (C.known self.new.calls) → OnErr result
             (MayHaveStored (C.contents self.old.calls) (C.contents self.new.calls) (own_path path.now)) }
         ensures fault { IfErr result (λ told. IsHeardOf (C.error self.new.calls) told) }
     {

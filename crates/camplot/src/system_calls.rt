@@ -188,11 +188,19 @@ pub struct SystemCalls<R> {
     rt: R,
     /// The kind of the error that the last call answered.
     error: Option<ErrorKind>,
+    /// What the last search found, and the kind of the error by which a file was not made or renamed since.
+    found: Option<Found>,
+    unmade: Option<ErrorKind>,
 }
 
 impl<R: SystemFiles + Copy> SystemCalls<R> {
     pub fn new(rt: R) -> SystemCalls<R> {
-        SystemCalls { rt, error: None }
+        SystemCalls {
+            rt,
+            error: None,
+            found: None,
+            unmade: None,
+        }
     }
 }
 
@@ -202,6 +210,8 @@ impl<R: SystemFiles + Copy> Calls for SystemCalls<R> {
     ghost contents = { λ _. None };
 
     ghost error = { λ calls. calls.error };
+
+    ghost known = { λ calls. record { found = calls.found; unmade = calls.unmade } };
 
     fn read(&mut self, alloc: Global, path: &str) -> Result<Vec<u8>, IoFault> {
         read_file(&self.rt, alloc, path, &mut self.error)
@@ -213,7 +223,13 @@ impl<R: SystemFiles + Copy> Calls for SystemCalls<R> {
     }
 
     fn find(&mut self, path: &str) -> io::Result<Found> {
-        noted(&mut self.error, found(&self.rt, path))
+        let answer = noted(&mut self.error, found(&self.rt, path));
+        self.found = match &answer {
+            Ok(found) => Some(*found),
+            Err(_) => None,
+        };
+        self.unmade = None;
+        answer
     }
 
     fn resolve(&mut self, alloc: Global, path: &str) -> io::Result<String> {
@@ -221,11 +237,15 @@ impl<R: SystemFiles + Copy> Calls for SystemCalls<R> {
     }
 
     fn make(&mut self, path: &str, like: Option<About>, bytes: &[u8]) -> io::Result<Made> {
-        noted(&mut self.error, made(&self.rt, path, like, bytes))
+        let answer = noted(&mut self.error, made(&self.rt, path, like, bytes));
+        self.unmade = self.error;
+        answer
     }
 
     fn rename(&mut self, from: &str, made: Made, to: &str) -> io::Result<()> {
-        noted(&mut self.error, renamed(&self.rt, from, made.node, to))
+        let answer = noted(&mut self.error, renamed(&self.rt, from, made.node, to));
+        self.unmade = self.error;
+        answer
     }
 
     fn remove(&mut self, path: &str) {
