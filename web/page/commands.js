@@ -97,7 +97,8 @@ function nameTools({ machine, view, pointer, marks, panels }) {
   act("end", "Tools", "End a region or a rout", ["Enter"], () => machine.send({ kind: "endMaking" }));
   act("escape", "Tools", "Let go", ["Escape"], () => {
     if (panels.close()) return;
-    if (marks.forget()) return;
+    // (the measures go first, and with them their tool where that is taken)
+    if (marks.forget() && machine.state.tool !== "measure") return;
     machine.send({ kind: "escape" });
   });
   act("pick-under", "Tools", "Pick under the pointer, again for the item below", [" "], () => {
