@@ -162,7 +162,8 @@ const NAMES = { C: "circle", R: "rectangle", O: "obround" };
 
 /** @param {Board.Entry} entry @param {string} line */
 function describe(entry, line) {
-  entry.definition += `\n${line.replace(/^(%ADD|T)\d+/, "$1")}`;
+  // (a macro's name has the number too)
+  entry.definition += `\n${line.replace(/^(%ADD|T)\d+/, "$1").replace(`M${entry.number}*`, "M*")}`;
   const [, name, width, second, third] = /^%ADD\d+([CRO]),([\d.]+)(?:X([\d.]+))?(?:X([\d.]+))?\*%$/.exec(line) ?? [];
   const [, tool] = /^T\d+C([\d.]+)$/.exec(line) ?? [], shape = name && NAMES[name];
   /** @param {string | undefined} length */

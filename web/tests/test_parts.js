@@ -93,10 +93,13 @@ suite("entries", () => {
       "%ADD13R,2.000000X1.000000X0.300000*%"];
     const none = { width: 0, height: 0, shape: null, hasHole: false };
     assert.deepEqual(entriesFrom(lines), [
-      { number: 10, words: "circle 0.5 mm", width: 500000, height: 500000, shape: "circle", hasHole: false },
-      { ...none, number: 11, words: "a shape of primitives" }, { ...none, number: 12, words: "block" },
-      { number: 13, words: "rectangle 2 by 1 mm", width: 2000000, height: 1000000, shape: "rectangle", hasHole: true }]);
-    assert.deepEqual(entriesFrom(["tool 1", "T1C0.800000"]), [{ ...none, number: 1, words: "0.8 mm", width: 800000, height: 800000 }]);
+      { number: 10, words: "circle 0.5 mm", width: 500000, height: 500000, shape: "circle", hasHole: false, definition: "aperture\n%ADDC,0.500000*%" },
+      { ...none, number: 11, words: "a shape of primitives", definition: "aperture\n%AMM*\n1,1,0.500000,0.000000,0.000000*\n%\n%ADDM*%" },
+      { ...none, number: 12, words: "block", definition: "block\n  flash 10 0 0 r0 dark\n  flash 11 1000000 0 r0 clear" },
+      { number: 13, words: "rectangle 2 by 1 mm", width: 2000000, height: 1000000, shape: "rectangle", hasHole: true,
+        definition: "aperture\n%ADDR,2.000000X1.000000X0.300000*%" }]);
+    assert.deepEqual(entriesFrom(["tool 1", "T1C0.800000"]),
+      [{ ...none, number: 1, words: "0.8 mm", width: 800000, height: 800000, definition: "tool\nTC0.800000" }]);
   });
 });
 
