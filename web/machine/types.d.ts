@@ -6,8 +6,6 @@ declare namespace Machine {
   type Steps = import("./steps.js").Steps;
   /** The part of the board that a page showed when it was left. */
   interface Seen extends Board.Turned { left: number; top: number; pitch: number; fitted?: Board.Box | null }
-  /** An item by its layer's name and its place in that layer's list. */
-  interface Place { name: string; place: number }
   /** A file that was opened; `path` has the folders of its archive. */
   type File = import("../zip/index.js").PackedFile;
   /** A picked item; `id` is the pick's own for as long as it lasts. */
@@ -51,10 +49,6 @@ declare namespace Machine {
   }
   /** What is drawn of a layer, or of a picture beside them. */
   interface Shown { name: string; label: string; colour: string; opacity: number; isOpened?: boolean }
-  /** A picture of a comparison in the colours of its parts. */
-  interface Sheet { bitmaps: ImageBitmap[]; count: number }
-  /** A layer or picture that is compared. */
-  interface Compared { name: string; label: string; isOpened: boolean }
   /** What is compared: the board with what it was `back` steps before, or the `pair`; `whole` is the window around both of that. */
   type Comparison = ComparisonBefore | ComparisonOfTwo;
   interface AnyComparison {
@@ -76,10 +70,6 @@ declare namespace Machine {
   interface Tables { isDrill: boolean; isApertures: boolean; told: Told[] | null; found: Record<string, Tally>; lit: Lit | null }
   /** What items share, as the board's index has it (web/telling/search_index.js). */
   type Shared = import("../telling/index.js").Alike;
-  /** What the worker is told of the layers, so that it can speak of them (telling.js). */
-  interface Telling {
-    unit: string; layers: { name: string; label: string; shows: string; kind: Board.LayerKind; fileName: string }[];
-  }
   /** An item in words, with what it shares with others. */
   interface Words extends Place { head: string; rows: [name: string, value: string][]; line: string; sentence: string; alike: Shared[]; box: string }
   /** All items that share something, so many as are lit, of the script as it was. */
@@ -94,8 +84,6 @@ declare namespace Machine {
     query: string; count: number; shown: number;
     groups: { kind: Shared["kind"] | "place"; count: number; results: FoundResult[] }[];
   }
-  /** An answer in words; or why the files can't be read for it. */
-  interface Answer<T> { found: T | null; why: string | null }
   /** What lies at a point, of the script as it was, `told`. */
   interface Menu extends Board.Point { items: (Place & { words: string; box: string })[]; isMore: boolean; told: Told[] }
   /** A copied item: its words, its layer's name, null in another board, and the definition of its aperture or tool, in short `entry`. */
@@ -235,8 +223,6 @@ declare namespace Machine {
   }
   /** What picked items are aligned by: a side of their boxes, or their middles. */
   type Alignment = "left" | "right" | "top" | "bottom" | "upright" | "level";
-  /** What items are alike by: the number of an aperture or tool, or a kind. */
-  interface Alike { name: string; key: string }
   /** What new items are drawn with. */
   interface Settings { entry: number; polarity: string; turn: string; direction: string; grid: number }
   /** How an item was drawn, so that it can be drawn with the apertures of another layer. */
@@ -264,60 +250,35 @@ declare namespace Machine {
   /** Of each step that was done or undone, and of the open group, whether the station has it (replay.js). */
   interface Real { done: boolean[]; undone: boolean[]; group: { isAny: boolean; isReal: boolean } | null }
 
-  // ---- What the worker is asked, and what it answers (web/worker/main.js) ----
+  // ---- What the worker is asked, and what it answers: by the types of the board (web/board/types.d.ts) ----
 
-  interface Asked {
-    boxes: { names: string[] };
-    look: { places: Place[]; entries: string[]; attributes: string | null; list: { name: string; from: number } | null };
-    under: Board.Point & { pile: string[]; below: Place | null };
-    pile: Board.Point & { pile: string[] };
-    inside: { names: string[]; box: Board.Box; most: number };
-    touched: { names: string[]; box: Board.Box; most: number };
-    like: { by: string; of: Alike[]; most: number };
-    gap: { pair: { name: string; words: string }[] };
-    tally: { names: string[]; lit: { name: string; number: number } | null };
-    lit: { of: Shared } & Telling;
-    shared: { of: Shared; most: number } & Telling;
-    dropped: { files: { id: string; bytes: Uint8Array }[] };
-    withAttributes: { depth: number; entries: Sent[]; layers: { name: string; canonical: Uint8Array }[] };
-    compare: { steps: number; colours: string[] };
-    compareView: { steps: number; colours: string[] };
-    compareTwo: { pair: [Compared, Compared]; names: string[] };
-    compareTwoView: { names: string[]; colours: string[] };
-    pictures: { names: string[]; line: string };
-    whole: { name: string; names: string[] };
-    picture: { name: string; picture: import("../bytes/index.js").Picture | null; line?: string };
-    stop: {};
-  }
+  type Place = Board.Place;
+  type Alike = Board.Alike;
+  type Compared = Board.Compared;
+  type Sheet = Board.Sheet;
+  type Telling = Board.Telling;
+  type Answer<T> = Board.Answer<T>;
+  type Asked = Board.Asked;
+  type Sent = Board.Sent;
+  type Applied = Board.Applied;
+  type Listed = Board.Listed;
+  type Lines = Board.Lines;
+  type Boxes = Board.Boxes;
+  type Places = Board.Places;
+  type Looked = Board.Looked;
+  type Sighted = Board.Sighted;
+  type Seeable = Board.Seeable;
+  type Sheets = Board.Sheets;
+  type Counted = Board.Counted;
+  type Counts = Board.Counts;
+
   type ToWorker = { [K in keyof Asked]: { number?: number; kind: K } & Asked[K] }[keyof Asked];
-  /** A line for the station, with the bytes of its file where it is a load. */
-  interface Sent { line: string; bytes?: Uint8Array | undefined }
   /** Lines of a gesture: all of a group or none. */
   interface Batch { number: number; isGroup: boolean; lines: Sent[] }
-  /** What a line came to: its reply, and the bytes of a plot or a text. */
-  interface Applied { code: number; reply: string; bytes?: Uint8Array | null }
-  /** An item as the worker lists it; its box is four numbers, or empty. */
-  interface Listed extends Place { words: string; box: string }
-  interface Lines { answers: Applied[]; isStopped: boolean }
-  interface Boxes { boxes: string[] }
-  interface Places { places: Place[] }
-  interface Looked {
-    layers: string[]; items: ({ words: string; box: string } | null)[]; entries: Record<string, string[]>;
-    attributes: { name: string; lines: string[] } | null; list: { name: string; from: number; words: string[] } | null;
-  }
-  /** The pixels of the view that are in both, in the first alone and in the second alone. */
-  interface Sighted { sheets: Sheet[]; window: string; samples: number }
-  /** The same, or that there is no view. */
-  type Seeable = Sighted | { sheets: null };
-  /** `isWhole` where what was undone for it was made again. */
-  type Sheets = { isWhole: boolean } & Seeable;
   /** What the layers differ in from some steps before: of so many in all. */
   type Different = { differing: AnyComparison["differing"]; count: number; box: Board.Box | null } & Seeable;
   /** Null where so many steps cannot be undone. */
   type Differing = { isWhole: false } | { isWhole: boolean; differing: null } | { isWhole: boolean } & Different;
-  /** How many pixels two have in both and alone; null where these cannot be compared. */
-  interface Counted { counts: number[]; box: Board.Box | null; window: string; isWhole: boolean; isSameText: boolean | null }
-  type Counts = Counted | { counts: null };
   /** The page has handed something out, or why it could not. */
   interface Handed { why: string | null }
 
