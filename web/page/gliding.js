@@ -8,6 +8,9 @@ import { element } from "./dom.js";
 // What was painted goes with the view as long as it is so near, as a part of the view's sides, and at most so many times as large
 // or as small as it was. Farther away its marks would lack in too much of the view, or be too coarse.
 const NEAR = 1 / 8, TIMES = 6;
+// Where no two of so many frames of a movement came sooner one after the other, the browser composes by its processor: then it is
+// painted for a minute, which is quicker there.
+const SLOW_FRAMES = 16, SLOW_MS = 45, SLOW_FOR_MS = 60000;
 
 // The view's sides and how it is turned: what was painted under another one cannot go with it.
 /** @param {Page.View} view */
@@ -77,6 +80,11 @@ export class Gliding {
     this.behind = null;
     this.painted = new Moved(view.canvas);
     this.timer = 0;
+    // Of this movement: how many frames went, when the last one did, and how soon at best one came after the other.
+    this.frames = 0;
+    this.last = 0;
+    this.soonest = Infinity;
+    this.slowUntil = 0;
     this.beside = { x: 0, y: 0 };
     // Paints what stays at its edge of the view.
     this.onFollow = () => {};
@@ -90,6 +98,7 @@ export class Gliding {
     this.corner = view.pointAt(0, 0);
     this.pitch = view.pitch;
     this.form = formOf(view);
+    if (!view.isMoving) Object.assign(this, { frames: 0, soonest: Infinity });
     if (!this.isAway) return;
     this.isAway = false;
     clearTimeout(this.timer);
@@ -121,7 +130,7 @@ export class Gliding {
   // Whether what was painted still shows enough of the view, and the view moves.
   get isNear() {
     const { view, form } = this, { x, y, scale } = this.place, { width, height } = view.canvas;
-    if (form !== formOf(view) || scale > TIMES || scale < 1 / TIMES || this.isAway && !view.isMoving) return false;
+    if (performance.now() < this.slowUntil || form !== formOf(view) || scale > TIMES || scale < 1 / TIMES || this.isAway && !view.isMoving) return false;
     /** @param {number} start @param {number} side */
     const isAlong = (start, side) => {
       const room = this.isDimmed ? MARGIN : side * NEAR, free = Math.max(0, 1 - scale) * side;
@@ -130,9 +139,22 @@ export class Gliding {
     return isAlong(x, width) && isAlong(y, height);
   }
 
+  // Another frame of a movement.
+  count() {
+    const now = performance.now();
+    if (this.frames > 0) this.soonest = Math.min(this.soonest, now - this.last);
+    this.frames++;
+    this.last = now;
+    if (this.frames <= SLOW_FRAMES) return;
+    if (this.soonest > SLOW_MS) this.slowUntil = now + SLOW_FOR_MS;
+    this.frames = 1;
+    this.soonest = Infinity;
+  }
+
   // What was painted goes to where it is in the view now.
   follow() {
     if (!this.isAway && !this.hasMoved) return;
+    this.count();
     const { view, place: { x, y, scale } } = this, { density, edge } = view, from = Math.ceil(edge);
     if (!this.isAway) this.leave(from);
     this.painted.place([scale, 0], [0, scale], this.onScreen({ x: x + from * scale, y: y + from * scale }), density, scale > 1);
