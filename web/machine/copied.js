@@ -1,6 +1,7 @@
 // What was copied, to be pasted into any layer of any board: an item's words with the definition of its aperture or tool, since the
 // same number may be another one there.
 
+import { filesOf } from "./attributes.js";
 import { itemOf, renumbered } from "../board/index.js";
 import { layerOf } from "./state.js";
 
@@ -10,12 +11,19 @@ const isRepeat = (item) => item.words.startsWith("repeat");
 /** @param {Board.Entry[] | undefined} entries @param {number | null | undefined} number */
 const entryOf = (entries, number) => entries?.find((entry) => entry.number === number) ?? null;
 
+// A layer by its name and its file: another file may be loaded under the name of a layer that was closed.
+/** @param {Map<string, string>} files @param {string} name */
+const originOf = (files, name) => `${name} ${files.get(name) ?? ""}`;
+
 // What is picked, but for repeats, which no line inserts.
 /** @param {Machine.State} state @returns {Machine.Copied[]} */
-export const copiedOf = ({ picked, entries }) => picked.filter((item) => !isRepeat(item)).map(({ name, words }) => {
-  const entry = entryOf(entries[name], itemOf(words)?.number);
-  return { words, from: name, definition: entry?.definition ?? null, entry: entry?.words ?? "" };
-});
+export function copiedOf(state) {
+  const { picked, entries } = state, files = filesOf(state);
+  return picked.filter((item) => !isRepeat(item)).map(({ name, words }) => {
+    const entry = entryOf(entries[name], itemOf(words)?.number);
+    return { words, from: originOf(files, name), definition: entry?.definition ?? null, entry: entry?.words ?? "" };
+  });
+}
 
 // What was copied in another board: none of its layers is one of this.
 /** @param {Machine.Copied[]} copied */
@@ -28,10 +36,10 @@ const numberOf = (entries, number, definition) => entryOf(entries, number)?.defi
 
 // The words of a copied item as a layer has them; null where it has no such aperture or tool. (What a block paints is defined by
 // numbers of its own layer.)
-/** @param {Machine.Copied} item @param {Machine.Layer} layer @param {Board.Entry[]} entries */
-function wordsIn({ words, from, definition, entry }, layer, entries) {
+/** @param {Machine.Copied} item @param {string} into the layer that it goes into @param {Board.Entry[]} entries */
+function wordsIn({ words, from, definition, entry }, into, entries) {
   const number = itemOf(words)?.number ?? null;
-  if (from === layer.name || number === null) return words;
+  if (from === into || number === null) return words;
   const found = definition === null || entry === "block" ? null : numberOf(entries, number, definition);
   return found === null ? null : renumbered(words, found);
 }
@@ -41,9 +49,9 @@ function wordsIn({ words, from, definition, entry }, layer, entries) {
 export function wordsInto(state, copied) {
   const layer = layerOf(state, state.active), words = [];
   if (!layer) return { why: "Choose a layer for the item first." };
-  const entries = state.entries[layer.name] ?? [];
+  const entries = state.entries[layer.name] ?? [], into = originOf(filesOf(state), layer.name);
   for (const item of copied) {
-    const own = wordsIn(item, layer, entries);
+    const own = wordsIn(item, into, entries);
     if (own === null) {
       return { why: `${layer.label} has no ${layer.kind === "drill" ? "tool" : "aperture"} like that of what was copied: ${
         item.entry || "one that is not known"}.` };

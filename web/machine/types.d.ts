@@ -86,7 +86,7 @@ declare namespace Machine {
   }
   /** What lies at a point, of the script as it was, `told`. */
   interface Menu extends Board.Point { items: (Place & { words: string; box: string })[]; isMore: boolean; told: Told[] }
-  /** A copied item: its words, its layer's name, null in another board, and the definition of its aperture or tool, in short `entry`. */
+  /** A copied item: its words, its layer with its file, null in another board, and the definition of its aperture or tool, in short `entry`. */
   interface Copied { words: string; from: string | null; definition: string | null; entry: string }
   /** The points of what is drawn, and the centre of the arc that the next one ends. */
   interface Drawn { points: (Board.Point & { centre?: Board.Point; direction?: string })[]; centre: Board.Point | null }
